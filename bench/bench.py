@@ -1,16 +1,18 @@
 #!/usr/bin/env python3
-"""Time and memory of two programs side by side, as bench/tables.md has them: bench.py PATH_OF_AEC [--quick]
+"""Compares time and memory of two programs, for bench/tables.md: bench.py PATH_OF_AEC [--quick]
 
-Runs the program at PATH_OF_AEC ('ours') and the command-line client of libaec ('theirs', named by the environment
-variable LIBAEC, else /usr/bin/aec) on generated samples; both decode the stream that theirs has coded. Prints tables in
-Markdown: seconds of processor time (user and system, the least of three runs in turn, starting included), peak memory (the
-maximum resident set, as /usr/bin/time tells it), the ratios, and how both grow from 1 to 16 MiB of samples. A further table
-has the speeds of each input both ways, theirs divided by ours in seconds; the next one their geometric means; then come the
-seconds of ours with even block sizes, which theirs doesn't code, and the memory of both for 16 and 64 MiB of samples, and for a
-short stream of very many. Nothing is judged.
+'Ours' is the program at PATH_OF_AEC, 'theirs' the command-line client of libaec (named by the environment variable LIBAEC, else
+/usr/bin/aec). Both code generated samples, and decode the stream that theirs has coded. Prints these tables in Markdown, and
+tests nothing:
+- Decoding, then coding: seconds of processor time (user and system, start-up included, the least of three runs in turn), peak
+  memory (the maximum resident set, from /usr/bin/time), ours divided by theirs, and the growth of both times and of our memory
+  from 1 to 16 MiB of samples.
+- For each input both ways, their seconds divided by ours. Then the geometric means of these ratios.
+- Our seconds with even block sizes. Theirs codes only 8, 16, 32 and 64.
+- The memory of both for 16 and 64 MiB of samples, and for decoding a short stream of very many samples.
 
-The inputs are one MiB of samples each, repeated for the greater sizes, so a coder that takes time in proportion to
-its input takes 16 times as long for 16 MiB. With --quick only 1 MiB is run, once.
+An input is one MiB of samples, repeated for the greater sizes. So a coder whose time is proportional to its input takes 16 times
+as long for 16 MiB. With --quick only 1 MiB is run, once.
 """
 
 import datetime
@@ -28,9 +30,9 @@ SIZES = [1, 16]
 RUNS = 3
 SETTINGS = [(8, 128), (16, 128), (64, 128), (8, 4096), (16, 4096), (64, 4096), (8, 2), (8, 1)]
 EVEN_BLOCKS = [8, 10, 12, 16, 30, 32]
-# Which of these are compared: a block size, and the next power of two below.
+# The pairs that are compared: a block size, and the next lower power of two.
 BESIDE = [(10, 8), (12, 8), (30, 16)]
-# Over which J and r the means are taken.
+# The J and r over which means are taken.
 GROUPS = [
     ("all", lambda block, interval: True),
     ("r 128 and 4096", lambda block, interval: interval >= 128),
@@ -42,21 +44,21 @@ GROUPS = [
 ]
 
 
-# Each input: the options of its samples, and a function that gives one MiB of stored samples, least byte first.
+# The functions that INPUTS names. Each returns one MiB of stored samples, least significant byte first.
 
 
 def ramp_with_noise(chance):
-    """8-bit samples: a slow ramp, and noise of three bits on it."""
+    """Returns 8-bit samples: a slow ramp, and noise of three bits on it."""
     return bytes((i // 64 + chance.randrange(8)) % 256 for i in range(MIB))
 
 
 def noise_12(chance):
-    """12-bit samples, all equally likely: no option is shorter than no compression."""
+    """Returns 12-bit samples, all equally likely: no compression is the shortest option."""
     return struct.pack(f"<{MIB // 2}H", *(chance.randrange(4096) for _ in range(MIB // 2)))
 
 
 def detector(chance, greatest=65535):
-    """16-bit samples like those of a detector: a level, noise around it, and seldom a peak that decays."""
+    """Returns 16-bit samples like those of a detector: a level, noise around it, and seldom a peak that decays."""
     samples, peak = [], 0
     for _ in range(MIB // 2):
         if chance.random() < 0.004:
@@ -67,12 +69,12 @@ def detector(chance, greatest=65535):
 
 
 def detector_12(chance):
-    """12-bit samples of such a detector, whose peaks are cut."""
+    """Returns the 12-bit samples of such a detector. Higher samples become the greatest."""
     return detector(chance, 4095)
 
 
 def walk(chance):
-    """32-bit signed samples: a walk by steps of up to 500."""
+    """Returns 32-bit signed samples: a walk by steps of up to 500."""
     samples, x = [], 0
     for _ in range(MIB // 4):
         x += chance.randrange(-500, 501)
@@ -81,7 +83,7 @@ def walk(chance):
 
 
 def waves(chance):
-    """16-bit signed samples: three waves of different lengths, and a little noise on them."""
+    """Returns 16-bit signed samples: three waves of different lengths, and a little noise on them."""
     samples = (
         9000 * math.sin(i / 700) + 2500 * math.sin(i / 57) + 300 * math.sin(i / 9) + chance.gauss(0, 4) for i in range(MIB // 2)
     )
@@ -89,12 +91,12 @@ def waves(chance):
 
 
 def noise_8(chance):
-    """8-bit samples, all equally likely."""
+    """Returns 8-bit samples, all equally likely."""
     return chance.randbytes(MIB)
 
 
 def sparse(chance):
-    """16-bit samples: zeros, and one in a thousand is another number."""
+    """Returns 16-bit samples: zeros, and one in a thousand is another number."""
     return struct.pack(
         f"<{MIB // 2}H",
         *(chance.randrange(1, 300) if chance.random() < 0.001 else 0 for _ in range(MIB // 2)),
@@ -115,7 +117,7 @@ INPUTS = [
 
 
 def run(command, folder):
-    """The processor time of a run in seconds, and its peak memory in MiB."""
+    """Returns the processor time of a run in seconds, and its peak memory in MiB."""
     told = os.path.join(folder, "told")
     timed = ["/usr/bin/time", "-f", "%M", "-o", told, *command]
     _, status, used = os.wait4(os.posix_spawn(timed[0], timed, os.environ), 0)
@@ -126,13 +128,13 @@ def run(command, folder):
 
 
 def least(told):
-    """The least seconds of some runs, and their greatest peak."""
+    """Returns the least seconds and the greatest peak memory of some runs."""
     return min(seconds for seconds, _ in told), max(mib for _, mib in told)
 
 
 def measure(job, ours, theirs, options, source, folder, runs):
-    """Seconds and MiB of ours, then of theirs, for one job on one file. The runs take turns, so that both meet a machine that is
-    now faster and now slower."""
+    """Returns seconds and MiB of ours, then of theirs, for one job on one file. The runs take turns, so that changes of the
+    machine's speed affect both."""
     words = ["-d", *options] if job == "decoding" else options
     dest = os.path.join(folder, "dest")
     told = [[run([path, *words, source, dest], folder) for path in (ours, theirs)] for _ in range(runs)]
@@ -140,7 +142,7 @@ def measure(job, ours, theirs, options, source, folder, runs):
 
 
 def row(name, block, interval, told):
-    """One line of a table: the greatest size, and the growth from the least size to it."""
+    """Returns one line of a table: the greatest size, and the growth from the least size to it."""
     (our_seconds, our_mib), (their_seconds, their_mib) = told[-1]
     growth = [told[-1][i][0] / told[0][i][0] for i in (0, 1)]
     memory_growth = told[-1][0][1] / told[0][0][1]
@@ -151,13 +153,13 @@ def row(name, block, interval, told):
 
 
 def speed(told):
-    """How many times as fast as theirs ours is, at the greatest size."""
+    """Returns their seconds divided by ours, at the greatest size."""
     (our_seconds, _), (their_seconds, _) = told[-1]
     return their_seconds / our_seconds
 
 
 def table(job, ours, theirs, pieces, folder, sizes, runs):
-    """Prints the table of a job over all inputs and settings. The speeds by input, J and r."""
+    """Prints the table of a job over all inputs and settings. Returns the speeds, by input, J and r."""
     speeds = {}
     print(f"## {job.capitalize()}, {sizes[-1]} MiB of samples\n")
     print("| Input | J | r | ours, s | theirs, s | ratio | ours, MiB | theirs, MiB | ratio | growth ours | theirs | memory |")
@@ -180,12 +182,12 @@ def table(job, ours, theirs, pieces, folder, sizes, runs):
 
 
 def geometric_mean(values):
-    """The geometric mean of positive numbers."""
+    """Returns the geometric mean of positive numbers."""
     return math.exp(sum(map(math.log, values)) / len(values))
 
 
 def summary(coding, decoding):
-    """Prints the speeds both ways."""
+    """Prints the speeds of coding and decoding."""
     print("## Times libaec's speed\n")
     print("| Input | J | r | coding | decoding |")
     print("|---|---|---|---|---|")
@@ -195,7 +197,7 @@ def summary(coding, decoding):
 
 
 def means(coding, decoding):
-    """Prints geometric means of the speeds both ways, each with the least and the greatest of its rows."""
+    """Prints geometric means of the speeds of coding and decoding, each with the least and the greatest of its rows."""
     print("\n## Means of these, with the least and the greatest\n")
     print("| Rows | coding | decoding |")
     print("|---|---|---|")
@@ -206,7 +208,7 @@ def means(coding, decoding):
 
 
 def even_row(name, job, runs, commands, folder):
-    """Prints the seconds of one job with each block size, from runs in turn, and what each takes beside a power of two."""
+    """Prints the seconds of one job with each block size, from runs in turn, and the ratios of the pairs in BESIDE."""
     told = [[run(command, folder) for command in commands] for _ in range(runs)]
     seconds = dict(zip(EVEN_BLOCKS, (least(one)[0] for one in zip(*told))))
     ratios = [f"{seconds[block] / seconds[power]:.2f}" for block, power in BESIDE]
@@ -214,7 +216,7 @@ def even_row(name, job, runs, commands, folder):
 
 
 def even_table(ours, pieces, folder, size, runs):
-    """Prints the seconds of ours with even block sizes, r 128. It decodes its own streams."""
+    """Prints our seconds with even block sizes and r 128. Ours decodes its own streams."""
     heads = [f"J {block}, s" for block in EVEN_BLOCKS] + [f"{block} / {power}" for block, power in BESIDE]
     print(f"\n## Even block sizes, {size} MiB of samples\n")
     print(f"| Input | Job | {' | '.join(heads)} |")
@@ -241,7 +243,7 @@ def memory_row(job, what, ours, theirs, words, source, folder):
 
 
 def memory(ours, theirs, piece, folder, sizes, zeros):
-    """Prints the memory for the detector's samples, and for a stream of runs of zero blocks."""
+    """Prints the memory for the detector's samples, and for decoding a stream of runs of zero blocks."""
     print("\n## Memory, in MiB\n")
     print("| Job | Samples, J, r | bytes of SOURCE | ours | theirs |")
     print("|---|---|---|---|---|")

@@ -1,10 +1,11 @@
 #!/usr/bin/env python3
-"""Sizes and times beside other compressors, as SPEED.md has them: compare.py PATH_OF_AEC
+"""Compares sizes and times with other compressors, for docs/SPEED.md: compare.py PATH_OF_AEC
 
-Compresses four kinds of generated samples, 8 MiB each, with the program at PATH_OF_AEC, with libaec's client (the variable LIBAEC, else
-/usr/bin/aec), flac, zstd, xz and gzip, and decompresses them again. Prints a table in Markdown: the bytes in percent of the samples'
-bytes, and the processor seconds of both ways, the least of three runs. A compressor that isn't installed, or can't take samples of
-this width, has a dash. Nothing is judged.
+Compresses four kinds of generated samples, 8 MiB each, and decompresses them again, with the program at PATH_OF_AEC, libaec's
+client (named by the environment variable LIBAEC, else /usr/bin/aec), flac, zstd, xz and gzip. Prints a table in Markdown: the
+compressed bytes in percent of the samples' bytes, and the processor seconds of both ways, the least of three runs. A compressor
+that isn't installed, or can't take samples of this width, has a dash. Fails if a command fails, or if decompressing yields other
+samples.
 """
 
 import os
@@ -16,7 +17,7 @@ import tempfile
 from bench import MIB, detector, detector_12, run, walk, waves
 
 SIZE = 8
-# Each kind of samples: its name, a function that gives a MiB of them for a chance, bits and sign.
+# Each kind of samples: its name, a function that returns one MiB of them for a random.Random, bits, and whether they are signed.
 KINDS = [
     ("12-bit detector", detector_12, 12, False),
     ("16-bit detector", detector, 16, False),
@@ -26,12 +27,13 @@ KINDS = [
 
 
 def sample_coder(path):
-    """The commands of a coder of samples, for a number of bits and a sign."""
+    """Returns a function of bits and sign, which returns the start of a command of aec or libaec's client."""
     return lambda bits, signed: [path, "-n", str(bits), *(["-s"] if signed else []), "-j", "16", "-r", "128"]
 
 
 def flac(bits, signed):
-    """flac of raw samples, which are of 16 bits; the others it can't take from two or four bytes."""
+    """Returns the start of a flac command for raw samples of 16 bits; samples of 12 bits in two bytes count as such. None above
+    16 bits: flac can't take those samples from four bytes."""
     if bits > 16:
         return None
     sign = "signed" if signed else "unsigned"
@@ -40,7 +42,7 @@ def flac(bits, signed):
 
 
 def commands(name, bits, signed, paths):
-    """How a compressor codes RAW to CODED and decodes that to BACK: two commands, or None."""
+    """Returns the two commands of a compressor that code RAW to CODED and decode CODED to BACK, or None."""
     if name in ("aec", "libaec"):
         words = sample_coder(paths[name])(bits, signed)
         return [*words, "RAW", "CODED"], [*words, "-d", "CODED", "BACK"]
@@ -52,7 +54,7 @@ def commands(name, bits, signed, paths):
 
 
 def measured(pair, raw, folder):
-    """Percent of the bytes, and the seconds of coding and of decoding."""
+    """Returns the coded bytes in percent, and the seconds of coding and of decoding."""
     paths = {word: os.path.join(folder, word.lower()) for word in ("RAW", "CODED", "BACK")}
     with open(paths["RAW"], "wb") as file:
         file.write(raw)

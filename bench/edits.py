@@ -1,17 +1,21 @@
 #!/usr/bin/env python3
-"""What edits of a long coded stream cost: edits.py PATH_OF_AEC
+"""Measures what edits of a long coded stream cost: edits.py PATH_OF_AEC
 
-Codes 64 MiB of 16-bit samples (those of a detector in bench.py, but for the last 2,048) at J 8 r 2, J 16 r 128 and J
-64 r 4096, so in 2,097,024, 16,383 and 128 intervals, of which the last of the 128 lacks 2,048 samples. At each
-setting the program at PATH_OF_AEC decodes the stream, cuts ranges out of it (none of its samples, which judges it,
-and the last 1,000), and edits it by scripts: of no line, of 100 lines that each overwrite one sample in the middle,
-of 10,000 that overwrite scattered samples in ascending order, of 1,000 that do so in any order, and of 1,000 that
-append one value each. At J 16 r 128 it inserts a sample and takes out 1,000 too. The edits themselves cost what a run
-takes longer than the one of no line, which decodes the stream and codes it anew. Beside it the command-line client of
-libaec (named by the environment variable LIBAEC, else /usr/bin/aec) decodes the stream and codes it again. Prints a
-table in Markdown for each setting: seconds of processor time, the least of three runs (of one, where a script has
-more than 1,000 lines), and peak memory. Each stream that a script leaves is compared with that of the changed
-samples.
+The samples are 64 MiB of the 16-bit detector of bench.py, without the last 2,048 samples. They are coded with J 8 r 2, J 16 r 128
+and J 64 r 4096: in 2,097,024, 16,383 and 128 intervals, and the last of the 128 lacks 2,048 samples. With each setting the
+program at PATH_OF_AEC
+- codes the samples, and decodes the stream;
+- cuts out two ranges: one of no samples, which checks the stream, and the last 1,000 samples;
+- edits the stream by scripts: one without lines, 100 lines that overwrite one sample each in the middle, 10,000 lines that
+  overwrite scattered samples in ascending order, 1,000 lines that do so in any order, and 1,000 lines that append one value each;
+- with J 16 r 128 also inserts a sample and removes 1,000 samples.
+
+The command-line client of libaec (named by the environment variable LIBAEC, else /usr/bin/aec) decodes the stream and codes it
+again.
+
+Prints a table in Markdown for each setting: seconds of processor time, the least of three runs (one run, if a script has more
+than 1,000 lines), peak memory, and milliseconds for each edit. The edits cost the time beyond a run without lines, which decodes
+the stream and codes it anew. Fails if an edited stream isn't that of the changed samples, or if a range has other samples.
 """
 
 import os
@@ -35,7 +39,7 @@ SCRIPTS = [
     ("1,000 samples appended one by one", [f"append {i}" for i in range(1000)]),
 ]
 RANGES = [("none of its samples", 0, 0), ("the last 1,000 samples", SAMPLES - 1000, 1000)]
-# Those that move samples are run at one setting.
+# Scripts that move samples are run with one setting.
 MOVED_AT = (16, 128)
 MOVES = [
     ("a sample inserted at the front", ["insert 0 7"]),
@@ -53,18 +57,19 @@ def write(path, data):
 
 
 def read(path):
-    """The bytes of a file."""
+    """Returns the bytes of a file."""
     with open(path, "rb") as file:
         return file.read()
 
 
 def timed(command, folder, runs=3):
-    """The least seconds of some runs, and their greatest peak in MiB."""
+    """Returns the least seconds and the greatest peak memory, in MiB, of some runs."""
     return least([run(command, folder) for _ in range(runs)])
 
 
 def changed(raw, script):
-    """The samples after the edits of a script: `append V`, or two numbers, a place, and a value or how many samples."""
+    """Returns the samples after a script. Its lines are `append V`, or a name, a place, and a value (for `remove` a number of
+    samples)."""
     samples = bytearray(raw)
     for kind, *numbers in map(str.split, script):
         *first, number = map(int, numbers)
@@ -75,7 +80,7 @@ def changed(raw, script):
 
 
 def edited(ours, options, folder, raw, script):
-    """Seconds and MiB of a run that edits; fails where its stream is not that of the changed samples."""
+    """Returns seconds and MiB of a run that edits. Fails if its stream isn't that of the changed samples."""
     path = {name: os.path.join(folder, name) for name in ("coded", "script", "dest", "changed", "expected")}
     write(path["script"], "".join(line + "\n" for line in script).encode())
     command = [ours, *options, "--count", str(SAMPLES), "--edit", path["script"], path["coded"], path["dest"]]
@@ -88,7 +93,7 @@ def edited(ours, options, folder, raw, script):
 
 
 def cut(ours, options, folder, raw, first, length):
-    """Seconds and MiB of a run that cuts out a range; fails where it has not these samples."""
+    """Returns seconds and MiB of a run that cuts out a range. Fails if the range has other samples."""
     coded, dest = os.path.join(folder, "coded"), os.path.join(folder, "dest")
     told = timed([ours, *options, "--range", f"{first}:{length}", "--count", str(SAMPLES), coded, dest], folder)
     if read(dest) != raw[2 * first : 2 * (first + length)]:
@@ -97,12 +102,12 @@ def cut(ours, options, folder, raw, first, length):
 
 
 def line(name, told, more=""):
-    """One line of a table."""
+    """Prints one line of a table."""
     print(f"| {name} | {told[0]:.2f} | {told[1]:.0f} | {more} |", flush=True)
 
 
 def table(ours, theirs, setting, raw, folder):
-    """Runs all at a setting, and prints its table."""
+    """Runs all jobs with a setting, and prints its table."""
     options = ["-n", "16", "-j", str(setting[0]), "-r", str(setting[1])]
     source, coded, dest = (os.path.join(folder, name) for name in ("raw", "coded", "dest"))
     write(source, raw)
@@ -123,7 +128,7 @@ def table(ours, theirs, setting, raw, folder):
 
 
 def main():
-    """Runs all, and prints the tables."""
+    """Runs all jobs with each setting, and prints the tables."""
     ours, theirs = os.path.abspath(sys.argv[1]), os.environ.get("LIBAEC", "/usr/bin/aec")
     raw = (detector(random.Random(16)) * SIZE)[: 2 * SAMPLES]
     with tempfile.TemporaryDirectory() as folder:

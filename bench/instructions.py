@@ -1,11 +1,13 @@
 #!/usr/bin/env python3
-"""Instructions of two programs side by side: instructions.py PATH_OF_AEC [--even]
+"""Compares the instructions of two programs: instructions.py PATH_OF_AEC [--even]
 
-Counts with `valgrind --tool=callgrind` how many instructions the program at PATH_OF_AEC ('ours') and the command-line client
-of libaec ('theirs', named by the environment variable LIBAEC, else /usr/bin/aec) take for each sample, on one MiB of the samples
-of bench.py, starting included; both decode the stream that theirs has coded. A count isn't a time, but it doesn't differ from run to run,
-however busy the machine is. Behind these rows stand the geometric means of theirs divided by ours over the inputs of MEAN. Then those
-of ours with even block sizes; with --even these alone. Prints tables in Markdown. Nothing is judged.
+Counts with `valgrind --tool=callgrind` how many instructions each program takes for a sample, start-up included, on one MiB of
+the samples of bench.py. 'Ours' is the program at PATH_OF_AEC, 'theirs' the command-line client of libaec (named by the
+environment variable LIBAEC, else /usr/bin/aec). Both decode the stream that theirs has coded. A count isn't a time, but it
+doesn't differ from run to run, however busy the machine is.
+
+Prints tables in Markdown: the counts of both and theirs divided by ours; the geometric means of these ratios over the inputs of
+MEAN; our counts with even block sizes, of which theirs codes only 8, 16, 32 and 64. With --even only the last table. Tests nothing.
 """
 
 import math
@@ -23,19 +25,19 @@ MEAN = ["8-bit ramp with noise", "12-bit detector", "16-bit detector", "16-bit w
 EVEN_BLOCKS = [8, 10, 12, 16, 24, 30, 32, 34, 48, 62, 64]
 EVEN_INPUTS = ["8-bit ramp with noise", "16-bit detector", "16-bit sparse zeros"]
 INTERVAL = 128
-# The bytes of a sample, by its greatest width.
+# The bytes of a stored sample, by its bits.
 STORAGE = {8: 1, 12: 2, 16: 2, 32: 4}
 
 
 def counted(command):
-    """The instructions of a run."""
+    """Returns the instructions of a run."""
     words = ["valgrind", "--tool=callgrind", "--callgrind-out-file=/dev/null", *command]
     ran = subprocess.run(words, stdout=subprocess.DEVNULL, stderr=subprocess.PIPE, text=True, check=True)
     return int(re.search(r"Collected : (\d+)", ran.stderr)[1])
 
 
 def told(ours, theirs, options, folder):
-    """Instructions of coding by ours and theirs, and of decoding."""
+    """Returns the instructions of coding by ours and theirs, then those of decoding."""
     raw, coded, dest = (os.path.join(folder, name) for name in ("raw", "coded", "dest"))
     subprocess.run([theirs, *options, raw, coded], check=True)
     jobs = [[*options, raw, dest], ["-d", *options, coded, dest]]
@@ -43,7 +45,7 @@ def told(ours, theirs, options, folder):
 
 
 def beside_theirs(ours, theirs, folder):
-    """Prints both programs' instructions for a sample, and how many times ours theirs are."""
+    """Prints both programs' instructions for a sample, and theirs divided by ours. Then prints the means of these ratios."""
     print("| Input | J, r | coding, ours | theirs | times | decoding, ours | theirs | times |")
     print("|---|---|---|---|---|---|---|---|")
     times = {setting: ([], []) for setting in SETTINGS}
@@ -65,7 +67,7 @@ def beside_theirs(ours, theirs, folder):
 
 
 def even_blocks(ours, folder):
-    """Prints ours for a sample with even block sizes, which theirs doesn't code; ours decodes its own streams."""
+    """Prints our instructions for a sample with even block sizes. Ours decodes its own streams."""
     print(f"\n| Input | Job | {' | '.join(f'J {block}' for block in EVEN_BLOCKS)} |")
     print(f"|---|---|{'---|' * len(EVEN_BLOCKS)}")
     raw, coded, dest = (os.path.join(folder, name) for name in ("raw", "coded", "dest"))

@@ -1,9 +1,10 @@
 #!/usr/bin/env python3
-"""Instructions of two libraries side by side: library.py FOLDER
+"""Compares the instructions of two libraries: library.py FOLDER
 
-Counts with `valgrind --tool=callgrind` how many instructions libaecp.a of FOLDER ('ours') and libaec ('theirs') take for each sample in one
-call, from buffer to buffer, on one MiB of the samples of bench.py; both decode the stream that theirs has coded. Prints a
-table in Markdown. Nothing is judged. Needs libaec's header and library.
+Counts with `valgrind --tool=callgrind` how many instructions libaecp.a of FOLDER ('ours') and libaec ('theirs') take for a sample
+in one call, from buffer to buffer, on one MiB of the samples of bench.py. Both decode the stream that libaec's client has coded.
+Prints a table in Markdown, and tests nothing. Needs libaec's header, library and client (named by the environment variable
+LIBAEC, else /usr/bin/aec).
 """
 
 import os
@@ -17,7 +18,7 @@ from bench import INPUTS, MIB
 
 BLOCKS = [8, 16, 64]
 INTERVAL = 128
-# The bytes of a sample, by its greatest width.
+# The bytes of a stored sample, by its bits.
 STORAGE = {8: 1, 12: 2, 16: 2, 32: 4}
 
 HERE = os.path.dirname(os.path.abspath(__file__))
@@ -31,14 +32,14 @@ def built(folder, library):
 
 
 def counted(command):
-    """The instructions of the call, and the length of its answer."""
+    """Returns the instructions of the call, and the length of its result."""
     tool = ["valgrind", "--tool=callgrind", "--callgrind-out-file=/dev/null", "--toggle-collect=measured"]
     ran = subprocess.run([*tool, *command], capture_output=True, text=True, check=True)
     return int(re.search(r"Collected : (\d+)", ran.stderr)[1]), int(ran.stdout)
 
 
 def stream_of_theirs(options, raw, words):
-    """The stream of libaec's client, in a file beside the samples."""
+    """Codes a file of samples with libaec's client. Returns the path of the stream, a file beside the samples."""
     subprocess.run([os.environ.get("LIBAEC", "/usr/bin/aec"), *options, *words, raw, raw + ".aec"], check=True)
     return raw + ".aec"
 

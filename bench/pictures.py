@@ -1,10 +1,14 @@
 #!/usr/bin/env python3
 """Draws the pictures of docs/pictures/ as SVG: pictures.py [--check]
 
-What README shows, 48 samples and their code; times libaec's speed for each input and J, both ways, and what one edit costs by its place,
-from tables in bench/tables.md; how the instructions for a sample fell, from the table in bench/steps.md; and the two pictures of
-docs/FORMAT.md, a coded data set bit by bit and the parts of an interval. Each has colours for a dark page too. With --check nothing is
-written, and a picture that isn't the one that would be drawn fails.
+- stream: 48 samples and their code, for README;
+- speed: our speed divided by libaec's for each input and J, coding and decoding, from bench/tables.md;
+- edits: what one edit costs by its place, from bench/tables.md;
+- instructions: how the instructions for a sample fell, from bench/steps.md;
+- coded_data_set and interval, for docs/FORMAT.md: a coded data set bit by bit, and the parts of an interval.
+
+Each picture has colours for a dark page too. With --check nothing is written, and the script fails if a picture differs from what
+it would draw.
 """
 
 import os
@@ -15,7 +19,7 @@ from html import escape
 TOP = os.path.join(os.path.dirname(os.path.abspath(__file__)), "..")
 OUT = os.path.join(TOP, "docs", "pictures")
 WIDTH = 900
-# What each colour is called, on a light page and on a dark one.
+# The name of each colour, and its value on a light page and on a dark one.
 COLOURS = {
     "paper": ("#fff", "#0d1117"),
     "ink": ("#222", "#e6edf3"),
@@ -35,7 +39,7 @@ SAID = ("coding", "decoding")
 
 
 def rules(which):
-    """The colours of a light page, or of a dark one, as rules of a style sheet."""
+    """Returns the colours of a light page (0) or of a dark one (1), as rules of a style sheet."""
     return "".join(f".{it}{{fill:{both[which]}}}.{it}-line{{stroke:{both[which]}}}" for it, both in COLOURS.items())
 
 
@@ -43,7 +47,7 @@ STYLE = f"<style>{rules(0)}@media (prefers-color-scheme:dark){{{rules(1)}}}</sty
 
 
 def rows_below(file, heading):
-    """The rows of the first table below a heading of a page, its head first, each as its cells."""
+    """Returns the rows of the first table below a heading of a page, each as its cells. The first row is the head."""
     with open(os.path.join(TOP, file), encoding="utf-8") as page:
         text = page.read().split(f"\n## {heading}\n", 1)[1].split("\n## ")[0]
     table = re.search(r"(?m)(^\|.*\n)+", text).group().splitlines()
@@ -52,7 +56,7 @@ def rows_below(file, heading):
 
 
 def text(x, y, said, anchor="start", size=14, colour="ink", more=""):
-    """A text in a colour."""
+    """Returns a text in a colour."""
     return f'<text class="{colour}" x="{x:g}" y="{y:g}" text-anchor="{anchor}" font-size="{size}"{more}>{escape(said)}</text>'
 
 
@@ -65,14 +69,14 @@ def line(x1, y1, x2, y2, colour="edge"):
 
 
 def path(points, colour):
-    """A line through points, with a dot on each."""
+    """Returns a line through points, with a dot on each."""
     through = " ".join(f"{x:g},{y:g}" for x, y in points)
     drawn = f'<polyline class="none {colour}-line" points="{through}" stroke-width="2"/>'
     return [drawn] + [f'<circle class="{colour}" cx="{x:g}" cy="{y:g}" r="3.5"/>' for x, y in points]
 
 
 def picture(height, what, parts):
-    """A picture, with what it shows as its title."""
+    """Returns a picture whose title says what it shows."""
     head = f'<svg xmlns="http://www.w3.org/2000/svg" width="{WIDTH}" height="{height}" viewBox="0 0 {WIDTH} {height}" '
     head += 'font-family="sans-serif" role="img">'
     lines = [head, f"<title>{escape(what)}</title>", STYLE, box(0, 0, WIDTH, height, "paper"), *parts, "</svg>"]
@@ -85,7 +89,8 @@ def legend(y, said=SAID):
 
 
 def stream():
-    """The samples of FORMAT.md's section 11, their intervals and blocks, and their code in widths of bits."""
+    """Draws the samples of FORMAT.md's section 11, their blocks and intervals, and their code, where each bit has the same
+    width."""
     left, bit, height = 130, 13, 34
     parts = [text(20, 30, "What is stored where: 48 samples, and the bytes 00 04 40 30 C2 00 08", size=18)]
     parts += [text(20, y, name) for y, name in ((72, "samples"), (114, "blocks"), (156, "intervals"), (226, "code"))]
@@ -120,7 +125,7 @@ def stream():
 
 
 def speed():
-    """Bars: times libaec's speed, for r 128."""
+    """Draws bars: our speed divided by libaec's, for r 128."""
     rows = [row for row in rows_below("bench/tables.md", "Times libaec's speed") if row[2] == "128"]
     left, scale, y = 230, 165, 70
     parts = [text(20, 30, "Times libaec's speed, r 128 (longer is faster)", size=18), *legend(30)]
@@ -144,7 +149,7 @@ def speed():
 
 
 def axes(left, right, top, bottom, most, steps):
-    """Lines for so many steps up to the most, each with its number."""
+    """Returns lines for `steps` steps up to the greatest number, each with its number."""
     parts = []
     for number in range(steps + 1):
         y = bottom - number * (bottom - top) / steps
@@ -153,7 +158,7 @@ def axes(left, right, top, bottom, most, steps):
 
 
 def edits():
-    """Lines: what one edit costs by its place, the cheap ones and the others on scales of their own."""
+    """Draws lines: what one edit costs by its place. Cheap edits and the others have scales of their own."""
     head, *rows = rows_below("bench/tables.md", "One edit, by its place")
     top, bottom, width = 84, 300, 330
     parts = [text(20, 30, "Milliseconds of one edit, by its place in 64 MiB of samples", size=18)]
@@ -173,7 +178,7 @@ def edits():
 
 
 def instructions():
-    """Steps: instructions for each sample, state after state."""
+    """Draws lines: instructions for each sample, for one state of the program after the other."""
     rows = rows_below("bench/steps.md", "The steps")[1:]
     states, other = rows[:-1], rows[-1]
     left, top, bottom, most = 60, 60, 340, 400
@@ -192,7 +197,7 @@ def instructions():
 
 
 def coded_data_set():
-    """The bits of one coded data set by sample splitting with k = 1."""
+    """Draws the bits of one coded data set by sample splitting with k = 1."""
     strip = [("010", "identifier: sample splitting with k = 1", "blue"), ("00000000", "reference sample 0, in n = 8 bits", "sand")]
     strip.append(("1010101010101", "fs(v / 2) of each of seven values: fs(0), then six times fs(1)", "green"))
     strip += [("1000000", "the low bit of each of the values 1 2 2 2 2 2 2", "violet"), ("0", "fills the last byte", "grey")]
@@ -211,13 +216,13 @@ def coded_data_set():
 
 
 def cells(begin, end, words, fill):
-    """Boxes of one width from one place to another, a word in each; a reference block has a colour of its own."""
+    """Returns boxes of equal width from one place to another, with a word in each. A reference block (the word 0) is green."""
     width = (end - begin) / len(words)
     return [(begin + i * width, width, word, "green" if word == "0" else fill) for i, word in enumerate(words)]
 
 
 def interval():
-    """An interval of 130 blocks, its segments and blocks."""
+    """Draws an interval of 130 blocks, its segments and blocks."""
     borders = (120, 370, 620, 700, 880)
     parts = [text(20, 30, "An interval of 130 blocks, in segments of at most 64", size=18)]
     intervals = cells(120, 700, ["interval of 130 blocks: S = 130 J samples"], "blue") + cells(700, 880, ["next interval .."], "grey")

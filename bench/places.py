@@ -1,11 +1,12 @@
 #!/usr/bin/env python3
-"""What one edit costs by its place: places.py PATH_OF_AEC
+"""Measures what one edit costs by its place: places.py PATH_OF_AEC
 
-Codes 64 MiB of 16-bit samples (the detector's of bench.py) at J 16, r 128, to 28 MiB, and edits them by scripts. The first line of each
-script, `truncate` to the number of samples, changes nothing: but all samples are loaded before it, so the lines behind it cost what they
-cost on a loaded workspace. Prints a table in Markdown, from which pictures.py draws: for places from the first sample to the last the
-milliseconds of one edit, as the difference to the script of that first line alone, divided by the number of edits. Seconds of processor
-time, the least of some runs, those of both scripts in turn. Nothing is judged.
+Codes 64 MiB of 16-bit samples (the detector of bench.py) with J 16, r 128, to 28 MiB, and edits them by scripts. The first line
+of each script, `truncate` to the number of samples, changes nothing, but all samples are loaded before it. So the later lines
+cost what they cost on a loaded workspace. Prints a table in Markdown, for bench/tables.md, from which pictures.py draws: the
+milliseconds of one edit, for places from the first sample to the last. They are the time of the script minus that of its first
+line alone, divided by the number of edits. Times are processor time, the least of three runs, in which both scripts take turns.
+Tests nothing.
 """
 
 import os
@@ -24,12 +25,13 @@ PARTS = (0, 25, 50, 75, 100)
 
 
 def place_of(part, step=1):
-    """The place that has so many percent of the samples before it, at a multiple of a step."""
+    """Returns the place at `part` percent of the way from the first sample to the last `step` samples, rounded down to a multiple
+    of `step`."""
     return (SAMPLES - step) * part // 100 // step * step
 
 
-# Each kind of edit: its name, how many are made, and the lines of its script at a place. The values differ so much that the length of the
-# code changes each time.
+# Each kind of edit: its name, the number of edits, and the lines of its script for a place. The values differ so much that each edit
+# changes the length of the code.
 KINDS = [
     ("one sample overwritten", 1000, lambda part: [f"overwrite {place_of(part)} {i * 977 % 4001}" for i in range(1000)]),
     ("an interval inserted", 200, lambda part: [f"insert {place_of(part, INTERVAL)}" + " 7" * INTERVAL] * 200),
@@ -39,7 +41,7 @@ KINDS = [
 
 
 def milliseconds(program, options, folder, lines):
-    """What the lines cost behind the first one, each."""
+    """Returns what all these lines cost after the first line of the script."""
     times = {}
     for _ in range(RUNS):
         for name, script in (("none", []), ("all", lines)):

@@ -1,10 +1,10 @@
 #!/usr/bin/env python3
-"""Instructions of small calls of two libraries in one process: small_calls.py FOLDER [SIZES]
+"""Compares the instructions of small calls of two libraries: small_calls.py FOLDER [SIZES]
 
-Counts with callgrind the instructions of one call of libaecp.a of FOLDER and of libaec's library, from buffer to buffer, after two calls
-of the same: coding and decoding of 64 bytes to 4 KiB of a walk, or of the first SIZES of seven sizes up to 64 MiB. Prints libaec's
-instructions over ours, a table for each direction and a column for each block and interval, and how many cells are below 1.5. Nothing is
-judged. Needs valgrind and its headers, and libaec's header and library.
+Counts with callgrind the instructions of one call of libaecp.a of FOLDER and of libaec's library, from buffer to buffer in one
+process, after two calls of the same. The calls code and decode 64 bytes to 4 KiB of a walk, or the first SIZES of seven sizes up
+to 64 MiB. Prints libaec's instructions divided by ours, in a table of coding and one of decoding with a column for each block and
+interval, and how many cells are below 1.5. Tests nothing. Needs valgrind and its headers, and libaec's header and library.
 """
 
 import glob
@@ -21,7 +21,7 @@ COLUMNS = [(block, interval) for block in (8, 16, 32) for interval in (1, 2, 128
 
 
 def counts(library, sizes):
-    """The instructions of each measured call, by what the name of its dump says."""
+    """Returns the instructions of each measured call, by the numbers in the name of its dump."""
     found = {}
     with tempfile.TemporaryDirectory() as folder:
         program, out = os.path.join(folder, "small_calls"), os.path.join(folder, "out")

@@ -1,5 +1,5 @@
-"""What the scripts of this folder share: runs of aec, files that are written whole, and refusals
-of one line."""
+"""The code that the scripts of this folder share: runs of aec, files that are written whole, and
+refusals of one line."""
 
 import functools
 import inspect
@@ -10,29 +10,31 @@ import tempfile
 
 
 class Refused(Exception):
-    """What a script doesn't take or can't do. Its text is the line that the user reads."""
+    """A script refuses what it was given, or can't do it. The text is the line that the user
+    reads."""
 
 
 class WrongWords(Exception):
-    """Words that a script doesn't take, whatever its files hold. Its text is the line that the user
+    """The user's words are wrong, whatever the files contain. The text is the line that the user
     reads."""
 
 
 def read_file(path):
-    """The bytes of a file."""
+    """Returns the bytes of a file."""
     with open(path, "rb") as file:
         return file.read()
 
 
 def write_file(path, data):
-    """Writes the bytes of a file that need not outlive a failure."""
+    """Writes the bytes of a file. A failure may leave a part of it."""
     with open(path, "wb") as file:
         file.write(data)
 
 
 def write_whole(path, data, *inputs):
-    """Writes a file under another name beside it, and renames that: a failure leaves what stood
-    there. Refuses to write over one of the inputs."""
+    """Writes a file under another name beside it, and then renames it. So after a failure an
+    existing file is unchanged. A pipe or a device is written directly. Refuses to write over one of
+    the inputs."""
     asked, path = path, os.path.realpath(path)
     for name in inputs:
         if os.path.exists(path) and os.path.exists(name) and os.path.samefile(path, name):
@@ -56,7 +58,7 @@ def write_whole(path, data, *inputs):
 
 
 def said_by(words):
-    """The status of a program, and what it printed on both streams."""
+    """Runs a program. Returns its status, and what it printed on both streams."""
     try:
         ended = subprocess.run(words, capture_output=True, stdin=subprocess.DEVNULL, check=False)
     except OSError as fault:
@@ -66,15 +68,15 @@ def said_by(words):
 
 @functools.cache
 def require_aec(aec):
-    """Refuses a program that isn't this project's: libaec's client has the same name."""
+    """Refuses a program that isn't this project's aec: libaec's client has the same name."""
     status, text = said_by([aec, "--version"])
     if status != 0 or len(text.splitlines()) != 1:
         raise Refused(f"{aec} isn't this project's aec: its --version prints something else")
 
 
 def run_aec(aec, words, source, script=None):
-    """The bytes of DEST of a run with these words on the bytes of SOURCE; with a script, of a run
-    with --edit. What aec refuses is refused with its text."""
+    """Runs aec with these words on the bytes of SOURCE, and with --edit if there is a script.
+    Returns the bytes of DEST. If aec refuses, raises Refused with aec's message."""
     require_aec(aec)
     with tempfile.TemporaryDirectory() as folder:
         given, made, lines = (os.path.join(folder, name) for name in ("source", "dest", "script"))
@@ -89,7 +91,7 @@ def run_aec(aec, words, source, script=None):
 
 
 def bytes_of_sample(words):
-    """The bytes of a stored sample, by the words for aec."""
+    """Returns the number of bytes of a stored sample, by the words for aec."""
     bits = int(words[words.index("-n") + 1]) if "-n" in words else 8
     if bits <= 8:
         return 1
@@ -99,7 +101,8 @@ def bytes_of_sample(words):
 
 
 def judge_options(aec, options):
-    """Refuses options of the user that aec doesn't take, before a file is touched."""
+    """Raises WrongWords if aec doesn't take these options of the user. Touches none of the user's
+    files."""
     status, text = said_by([aec, "-d", *options, os.devnull, os.devnull])
     if status == 2:
         said = text.strip().split("\n")[0]
@@ -107,17 +110,17 @@ def judge_options(aec, options):
 
 
 def samples_of(data, words):
-    """The samples of bytes that aec has decoded by these words."""
+    """Returns the samples in bytes that aec has decoded with these words."""
     size, order = bytes_of_sample(words), "big" if "-m" in words else "little"
     parts = (data[first : first + size] for first in range(0, len(data), size))
     return [int.from_bytes(part, order, signed="-s" in words) for part in parts]
 
 
 def perform(doc, **actions):
-    """Calls the function that the first word names with the words after it, and ends with its
-    status. `--NAME VALUE` is the value of a parameter that has to be named. What the function
-    refuses, and files that fail, are one line on standard error and status 1; words that it doesn't
-    take are status 2."""
+    """Calls the function that the first word names, with the words after it, and ends with its
+    status. `--NAME VALUE` is the value of a keyword parameter. If the function refuses or a file
+    fails, prints one line on standard error and ends with status 1. After wrong words it is status
+    2."""
     first = sys.argv[1] if len(sys.argv) > 1 else ""
     if first not in actions and first not in ("-h", "--help"):
         names = ", ".join(actions)
@@ -126,7 +129,8 @@ def perform(doc, **actions):
 
 
 def parameters_of(action):
-    """The names of the parameters by place, as the user is told them, and of those to be named."""
+    """Returns the names of a function's positional parameters, as the user reads them, and of its
+    keyword parameters."""
     taken = inspect.signature(action).parameters.values()
     named = [it.name for it in taken if it.kind is it.KEYWORD_ONLY]
     places = [it for it in taken if it.kind is not it.KEYWORD_ONLY]
@@ -134,7 +138,8 @@ def parameters_of(action):
 
 
 def parted(words, names):
-    """The words without those that name a parameter, and the values of these."""
+    """Returns the words without those for keyword parameters, and the values of these
+    parameters."""
     places, named, rest = [], {}, iter(words)
     for word in rest:
         name, sign, value = word.removeprefix("--").partition("=")
@@ -150,7 +155,7 @@ def parted(words, names):
 
 
 def call(doc, action, name, words):
-    """Does what `perform` says, for one function."""
+    """Does for one function what `perform` describes."""
     if name in ("-h", "--help") or words[:1] in (["-h"], ["--help"]):
         print(doc.strip())
         sys.exit(0)
@@ -165,7 +170,7 @@ def call(doc, action, name, words):
 
 
 def called_with(action, name, words):
-    """What a function returns for words of the user."""
+    """Calls a function with the user's words. Returns what the function returns."""
     wanted, names = parameters_of(action)
     places, named = parted(words, names)
     try:
@@ -177,13 +182,14 @@ def called_with(action, name, words):
 
 
 def whole_number(text, what, least=0):
-    """The number that digits say."""
+    """Returns the number in a text of digits. Raises WrongWords for another text, or if the number
+    is below `least`."""
     if not (text.isascii() and text.isdecimal() and int(text) >= least):
         raise WrongWords(f"{text} is no {what}")
     return int(text)
 
 
 def complain(text, status):
-    """Prints a line of a script on standard error. Its status."""
+    """Prints a line of a script on standard error. Returns the status."""
     print(f"{os.path.basename(sys.argv[0])}: {text}", file=sys.stderr)
     return status

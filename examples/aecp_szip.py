@@ -1,8 +1,9 @@
 #!/usr/bin/env python3
-"""An HDF5 data set with the szip filter as a numpy array, by the module aecp, where HDF5 has no
-szip: aecp_szip.py FILE DATASET
+"""Prints an HDF5 data set with the szip filter as a numpy array, even where HDF5 has no szip:
+aecp_szip.py FILE DATASET
 
-Prints the array. Needs h5py. Where a chunk isn't in the file, its elements are the fill value.
+Decodes with the module aecp. Needs h5py. If a chunk isn't in the file, its elements are the fill
+value.
 """
 
 import os
@@ -20,7 +21,7 @@ except ImportError as fault:
 
 
 def options_of(layout):
-    """The options of the streams of a data set."""
+    """Returns the options of the streams of a data set."""
     return aecp.Options(
         bits=8 if layout.is_planes() else layout.bits,
         block_size=layout.block_size,
@@ -32,7 +33,7 @@ def options_of(layout):
 
 
 def elements_of(data_set, layout, corner):
-    """The elements of a chunk, in its shape."""
+    """Returns the elements of a chunk, as an array of the chunk's shape."""
     chunk, raw_bytes = chunk_at(data_set, corner), chunk_bytes(data_set)
     check_len(chunk, raw_bytes)
     raw = chunk.data
@@ -43,13 +44,13 @@ def elements_of(data_set, layout, corner):
 
 
 def array_of(data_set):
-    """All elements of a data set."""
+    """Returns all elements of a data set."""
     layout = layout_of(data_set)
     elements = numpy.empty(data_set.shape, data_set.dtype)
     for corner in corners(data_set):
         places = zip(corner, data_set.chunks)
         part = elements[tuple(slice(first, first + step) for first, step in places)]
-        # Chunks at an edge pass the shape.
+        # Chunks at an edge reach beyond the data set's shape.
         part[...] = elements_of(data_set, layout, corner)[tuple(map(slice, part.shape))]
     return elements
 

@@ -2,8 +2,8 @@
 """Measures how long this machine takes to add up a list of 400 numbers, 4,096 times in a row:
 durations.py FILE
 
-Writes each time in units of 16 ns as an unsigned sample of 16 bits, least significant byte first; a
-longer time than such a sample can hold is written as the greatest.
+Writes each time in units of 16 ns as an unsigned sample of 16 bits, least significant byte first. A
+time that is too long for such a sample is written as the greatest sample.
 """
 
 import os
@@ -15,7 +15,7 @@ from aec_runs import call, write_whole
 
 
 def measure(file):
-    """Writes the times to a file."""
+    """Measures the times, and writes them to a file."""
     numbers = list(range(400))
     times = []
     for _ in range(4096):

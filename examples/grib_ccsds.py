@@ -1,5 +1,5 @@
 #!/usr/bin/env python3
-"""The coded stream of a GRIB2 message (data representation template 5.42):
+"""The coded stream of a GRIB2 message (data representation template 5.42), read and edited:
 
     grib_ccsds.py options FILE                  prints the options for aec, with --count
     grib_ccsds.py values AEC FILE FIRST:LEN     prints LEN values from place FIRST on, a line each
@@ -11,9 +11,9 @@
     grib_ccsds.py edit AEC SCRIPT FILE OUT      writes the file with its stream edited by a script
                                                 that keeps the count
 
-`--message N` takes message N of FILE, counted from 1, in place of the first; the others are kept as
-they are. Places are counted from 0, without the points that a bitmap leaves out. The standard
-library is enough.
+`--message N` takes message N of FILE, counted from 1, instead of the first. The other messages stay
+as they are. Places count from 0, without the points that a bitmap leaves out. The script needs only
+the standard library.
 """
 
 import struct
@@ -43,25 +43,25 @@ TEMPLATE_END = 25  # bytes of section 5 with template 5.42
 
 
 class Message(NamedTuple):
-    """The bytes of a file, and where a message and its sections lie in it."""
+    """The bytes of a file, and the places of a message and of its sections in them."""
 
     data: bytes
     first: int
     end: int
-    sections: dict[int, tuple[int, int]]  # from its number: its first byte, and its end
+    sections: dict[int, tuple[int, int]]  # by number: its first byte, its end
 
     def section(self, number):
-        """The bytes of a section."""
+        """Returns the bytes of a section."""
         first, end = self.sections[number]
         return self.data[first:end]
 
     def stream(self):
-        """The coded stream."""
+        """Returns the coded stream."""
         return self.section(7)[SECTION_HEAD:]
 
 
 class Coding(NamedTuple):
-    """What section 5 says of the stream."""
+    """What section 5 says about the stream."""
 
     count: int
     bits: int
@@ -70,7 +70,7 @@ class Coding(NamedTuple):
     interval: int
 
     def words(self):
-        """The words for aec, without the count."""
+        """Returns the words for aec, without the count."""
         words = ["-n", str(self.bits), "-j", str(self.block_size), "-r", str(self.interval)]
         is_standard = self.block_size in STANDARD_BLOCK_SIZES
         switches = {
@@ -84,12 +84,12 @@ class Coding(NamedTuple):
         return words + [word for word, is_set in switches.items() if is_set]
 
     def counted_words(self):
-        """The words for aec where it reads the stream."""
+        """Returns the words for aec with the count, as reading the stream needs them."""
         return ["--count", str(self.count), *self.words()]
 
 
 class Packing(NamedTuple):
-    """How samples of so many bits stand for values: X for (R + X 2^E) / 10^D."""
+    """How samples of so many bits represent values: the number X represents (R + X 2^E) / 10^D."""
 
     reference: Fraction
     binary: int
@@ -98,11 +98,12 @@ class Packing(NamedTuple):
     is_signed: bool
 
     def value(self, x):
-        """The value of a number without sign, as the nearest float."""
+        """Returns the value of an unsigned number X, as the nearest float."""
         return float((self.reference + x * Fraction(2) ** self.binary) / Fraction(10) ** self.decimal)
 
     def nearest(self, value):
-        """The number whose value is nearest. Refuses a value that no number of so many bits has."""
+        """Returns the unsigned number with the nearest value. Refuses a value outside the range of
+        the packing."""
         scaled = Fraction(value) * Fraction(10) ** self.decimal - self.reference
         x, most = round(scaled / Fraction(2) ** self.binary), (1 << self.bits) - 1
         if not 0 <= x <= most:
@@ -111,21 +112,21 @@ class Packing(NamedTuple):
         return x
 
     def number(self, sample):
-        """The number without sign of a sample."""
+        """Returns the unsigned number of a sample."""
         return sample % (1 << self.bits)
 
     def sample(self, x):
-        """The sample of a number without sign."""
+        """Returns the sample of an unsigned number."""
         return x - (1 << self.bits) if self.is_signed and x >> self.bits - 1 else x
 
 
 def number(data, first, length):
-    """The number without sign in these bytes, the most significant one first."""
+    """Returns the unsigned number in these bytes, most significant byte first."""
     return int.from_bytes(data[first : first + length], "big")
 
 
 def sections_of(data, begin, end):
-    """Where the sections of a message lie that begins and ends there."""
+    """Returns the places of the sections of a message that begins at `begin` and ends at `end`."""
     sections, first, last = {}, begin + HEAD, 0
     while data[first : first + 4] != b"7777" or first != end - 4:
         length, name = number(data, first, 4), number(data, first + 4, 1)
@@ -140,7 +141,7 @@ def sections_of(data, begin, end):
 
 
 def head_of(data, first):
-    """The edition of the message that begins there, and its end."""
+    """Returns the edition of the message that begins at `first`, and its end."""
     there = len(data) - first
     if there < HEAD:
         raise Refused(f"the message is cut: only {there} bytes are there")
@@ -150,8 +151,7 @@ def head_of(data, first):
 
 
 def place_of(data, path, wanted):
-    """Where the message with this number begins and ends. What lies between messages is passed
-    over."""
+    """Returns where the message with this number begins and ends. Skips bytes between messages."""
     if data[: len(MARK)] != MARK:
         raise Refused(f"{path} doesn't begin with GRIB")
     first = 0
@@ -169,7 +169,7 @@ def place_of(data, path, wanted):
 
 
 def message_of(path, wanted):
-    """The message of a file that the word says, counted from 1."""
+    """Returns the message of a file with this number, counted from 1."""
     data = read_file(path)
     first, end = place_of(data, path, whole_number(wanted, "number of a message", 1))
     message = Message(data, first, end, sections_of(data, first, end))
@@ -180,7 +180,7 @@ def message_of(path, wanted):
 
 
 def coding_of(message):
-    """How the stream of a message is coded."""
+    """Returns how the stream of a message is coded."""
     section = message.section(5)
     template = number(section, 9, 2)
     if template != 42:
@@ -199,7 +199,7 @@ def coding_of(message):
 
 
 def packing_of(message):
-    """How the samples of a message stand for values."""
+    """Returns how the samples of a message represent values."""
     section, coding = message.section(5), coding_of(message)
     reference = Fraction(struct.unpack(">f", section[11:15])[0])
     is_signed = bool(coding.flags & SIGNED)
@@ -207,13 +207,15 @@ def packing_of(message):
 
 
 def signed(data, first):
-    """The number of two bytes whose highest bit is its sign."""
+    """Returns the number in two bytes: the highest bit is the sign, the others are the absolute
+    value."""
     value = number(data, first, 2)
     return (1 << 15) - value if value >> 15 else value
 
 
 def with_stream(message, stream):
-    """The bytes of the file with another stream, and the two lengths that go with it."""
+    """Returns the bytes of the file with another stream. The two lengths that depend on it are
+    adjusted."""
     first, end = message.sections[7]
     length = SECTION_HEAD + len(stream)
     if length >= 1 << 32:
@@ -226,8 +228,8 @@ def with_stream(message, stream):
 
 
 def judge_fit(coding, aec, stream):
-    """Refuses a stream that doesn't decode by the options of a message, and one whose last byte
-    isn't needed for its count."""
+    """Refuses a stream that doesn't decode with the options and the count of a message, or that
+    also decodes without its last byte."""
     words = ["-d", *coding.counted_words()]
     try:
         run_aec(aec, words, stream)
@@ -241,14 +243,15 @@ def judge_fit(coding, aec, stream):
 
 
 def numbers_in(read, aec, first, length):
-    """Numbers without sign of a message, from a place on."""
+    """Returns `length` unsigned numbers of a message, from place `first` on."""
     words = coding_of(read).counted_words()
     stored = run_aec(aec, ["--range", f"{first}:{length}", *words], read.stream())
     return [packing_of(read).number(sample) for sample in samples_of(stored, words)]
 
 
 def edited(read, aec, script):
-    """The bytes of the file whose message a script has edited."""
+    """Returns the bytes of the file after a script has edited the message. The script must keep the
+    count."""
     coding = coding_of(read)
     stream = run_aec(aec, coding.counted_words(), read.stream(), script)
     left = count_after(script, coding.count)
@@ -258,8 +261,8 @@ def edited(read, aec, script):
 
 
 def count_after(script, count):
-    """How many samples a script leaves of so many. The script is one that aec has taken; a kind of
-    edit that isn't known here is refused, since it may change the count."""
+    """Returns the number of samples after a script, from `count` before it. aec has accepted this
+    script. A kind of edit that isn't known here is refused, since it may change the count."""
     for line in script.split(b"\n"):
         kind, *values = line.split() or [b"#"]
         if kind == b"truncate":
@@ -281,7 +284,7 @@ def options(file, *, message="1"):
 
 
 def values(aec, file, part, *, message="1"):
-    """Prints values."""
+    """Prints the values of FIRST:LEN, a line each."""
     first, colon, length = part.partition(":")
     if not colon:
         raise WrongWords(f"{part} is no FIRST:LEN")
@@ -316,14 +319,14 @@ def take(file, stream, *, message="1"):
 
 
 def put(aec, file, stream, out, *, message="1"):
-    """Writes a message with another stream."""
+    """Writes the file with another stream in a message."""
     read, coded = message_of(file, message), read_file(stream)
     judge_fit(coding_of(read), aec, coded)
     write_whole(out, with_stream(read, coded), file, stream)
 
 
 def edit(aec, script, file, out, *, message="1"):
-    """Writes a message whose stream a script has edited."""
+    """Writes the file with a message's stream edited by a script."""
     read, lines = message_of(file, message), read_file(script)
     write_whole(out, edited(read, aec, lines), file, script)
 

@@ -1,5 +1,5 @@
 #!/usr/bin/env python3
-"""The coded streams of an HDF5 data set with the szip filter. Needs h5py, but not HDF5's own szip:
+"""Reads and edits the coded streams of an HDF5 data set with the szip filter:
 
     h5_szip.py show FILE DATASET              prints shape, type, chunks, and the options for aec
     h5_szip.py read AEC FILE DATASET OUT      writes all elements as bytes, as they are stored, the
@@ -8,8 +8,8 @@
                                               changes the element at PLACE, such as 3,0,17, to
                                               VALUE, in FILE itself
 
-A chunk that the filter has left uncoded stays uncoded. One that no longer shrinks is written
-uncoded.
+Needs h5py, but not HDF5's own szip. A chunk that the filter has left uncoded stays uncoded. A chunk
+that no longer shrinks is written uncoded, unless its old code was as long as the uncoded chunk.
 """
 
 import itertools
@@ -25,12 +25,12 @@ except ImportError as fault:
     h5py, missing = None, str(fault)
 
 SZIP = 4  # the number of the filter
-# what HDF5 says of a chunk that isn't in the file, in its versions
+# messages of several versions of HDF5 for a chunk that isn't in the file
 NOT_STORED = ("storage is not allocated", "address isn't defined", "buf cannot be NULL")
 
 
 def opened(path, mode, name):
-    """A file, and the data set of that name in it."""
+    """Opens a file. Returns the file, and the data set of that name in it."""
     if h5py is None:
         raise Refused(f"{missing}: python3-h5py has it for /usr/bin/python3")
     try:
@@ -44,7 +44,8 @@ def opened(path, mode, name):
 
 
 def layout_of(data_set):
-    """How the chunks of a data set are laid out."""
+    """Returns how the chunks of a data set are laid out. Refuses other filters than szip alone, and
+    elements that aren't single numbers."""
     settings = data_set.id.get_create_plist()
     filters = [settings.get_filter(i) for i in range(settings.get_nfilters())]
     names = [it[0] for it in filters]
@@ -60,14 +61,15 @@ def layout_of(data_set):
 
 
 def chunk_bytes(data_set):
-    """The raw bytes of each chunk; those at an edge of the data set are as long as the others."""
+    """Returns the number of raw bytes of each chunk. A chunk at an edge of the data set is as long
+    as the others."""
     return data_set.dtype.itemsize * math.prod(data_set.chunks)
 
 
 def chunk_at(data_set, corner):
-    """The chunk whose first place that is. One that isn't in the file has the fill value. HDF5 1.10
-    tells only by its fault: where the last dimension may grow, `get_chunk_info_by_coord` misses
-    chunks that are there."""
+    """Returns the chunk whose first element is at `corner`. A chunk that isn't in the file has the
+    fill value. In HDF5 1.10 only a failed read shows that a chunk isn't there: if the last
+    dimension may grow, `get_chunk_info_by_coord` misses chunks that are there."""
     try:
         mask, data = data_set.id.read_direct_chunk(corner)
     except (OSError, RuntimeError, ValueError) as fault:
@@ -79,13 +81,13 @@ def chunk_at(data_set, corner):
 
 
 def corners(data_set):
-    """The first place of each chunk."""
+    """Returns the first place of each chunk."""
     steps = zip(data_set.shape, data_set.chunks)
     return itertools.product(*(range(0, length, step) for length, step in steps))
 
 
 def show(file, dataset):
-    """Prints what the data set says of its streams."""
+    """Prints what a data set says about its streams."""
     handle, data_set = opened(file, "r", dataset)
     with handle:
         layout = layout_of(data_set)
@@ -115,7 +117,7 @@ def read(aec, file, dataset, out):
 
 
 def judge_words(place, value):
-    """Refuses words that are no place and no value of any data set."""
+    """Raises WrongWords for words that can't be a place and a value of any data set."""
     if not all(it.isascii() and it.isdecimal() for it in place.split(",")):
         raise WrongWords(f"{place} is no place, such as 3,0,17")
     try:
@@ -125,8 +127,8 @@ def judge_words(place, value):
 
 
 def place_in(data_set, text):
-    """The place of an element: as many numbers as the data set has dimensions, each within the
-    shape."""
+    """Returns the place of an element. It must have as many numbers as the data set has dimensions,
+    each within the shape."""
     numbers, wanted = text.split(","), len(data_set.shape)
     if len(numbers) != wanted:
         raise Refused(f"{text} is no place here: the data set has {wanted} dimensions")
@@ -137,7 +139,8 @@ def place_in(data_set, text):
 
 
 def bytes_of_integer(data_set, text):
-    """A whole number as an element is stored; the bits above the type's precision are zero."""
+    """Returns the bytes of a whole number as an element is stored. Bits above the type's precision
+    are zero."""
     dtype, stored = data_set.dtype, data_set.id.get_type()
     precision = stored.get_precision()
     try:
@@ -152,7 +155,7 @@ def bytes_of_integer(data_set, text):
 
 
 def bytes_of_float(data_set, text):
-    """A number as an element is stored."""
+    """Returns the bytes of a number as an element is stored."""
     dtype = data_set.dtype
     value = float(text)
     with numpy.errstate(over="ignore"):
@@ -163,7 +166,7 @@ def bytes_of_float(data_set, text):
 
 
 def bytes_of_value(data_set, text):
-    """The bytes that an element of a data set gets."""
+    """Returns the bytes that an element of a data set gets."""
     kind, stored = data_set.dtype.kind, data_set.id.get_type()
     if kind in "iu" and stored.get_offset() == 0:
         return bytes_of_integer(data_set, text)
@@ -173,7 +176,8 @@ def bytes_of_value(data_set, text):
 
 
 def edit(aec, file, dataset, place, value):
-    """Gives an element another value. The file is opened for writing once the new chunk is made."""
+    """Gives an element another value. Opens the file for writing only after the new chunk is
+    made."""
     judge_words(place, value)
     handle, data_set = opened(file, "r", dataset)
     with handle:

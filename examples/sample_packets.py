@@ -1,8 +1,8 @@
 #!/usr/bin/env python3
-"""Writes a file of space packets to try space_packets.py with: sample_packets.py AEC FILE
+"""Writes a file of space packets, to try space_packets.py with: sample_packets.py AEC FILE
 
-Eight packets of APID 77, each with 512 of the 4,096 samples of durations.raw: a secondary header of
-four bytes, here zeros, and one stream, coded by `aec -n 12 -j 16 -r 32`.
+The file has eight packets of APID 77. Each has a secondary header of four bytes, here zeros, and
+one stream: 512 of the 4,096 samples of durations.raw, coded by `aec -n 12 -j 16 -r 32`.
 """
 
 import os
@@ -10,14 +10,14 @@ import sys
 
 from aec_runs import call, read_file, run_aec, write_whole
 
-APID, HAS_SECONDARY, WHOLE = 77, 1 << 11, 3 << 14  # what the first four bytes of a packet say
+APID, HAS_SECONDARY, WHOLE = 77, 1 << 11, 3 << 14  # fields of the first four bytes of a packet
 SECONDARY = bytes(4)
 PART = 1024  # bytes of 512 samples
 WORDS = ["-n", "12", "-j", "16", "-r", "32"]
 
 
 def packet(sequence, field):
-    """A packet with this data field."""
+    """Returns a packet with the secondary header and this stream."""
     head = (HAS_SECONDARY | APID, WHOLE | sequence, len(SECONDARY + field) - 1)
     return b"".join(it.to_bytes(2, "big") for it in head) + SECONDARY + field
 

@@ -1,13 +1,15 @@
 #!/usr/bin/env python3
-"""The coded streams in a file of space packets, each data field its own stream:
+"""Decodes the coded streams in a file of space packets. Each data field is a stream of its own:
 
     space_packets.py read AEC FILE FOLDER SECONDARY OPTIONS..
 
-SECONDARY is the length of the secondary header in bytes, for packets that say that they have one.
-OPTIONS are those of aec, with --count. Writes the samples of each packet into FOLDER, a new one, as
-APID_PACKET.raw; packets are counted from 0 in FILE. Sequence counts that skip are named. What can't
-be decoded is named and left, and the rest goes on: the status is then 1. Idle packets are passed
-over. The standard's compression identification packet isn't read.
+SECONDARY is the length of the secondary header in bytes, for packets whose header says that they
+have one. OPTIONS are those of aec, with --count. Makes FOLDER, which must not exist, and writes the
+samples of each packet into it as APID_PACKET.raw. Packets are counted from 0 in FILE.
+
+Prints a line for each gap in the sequence counts, and for each packet that can't be decoded. A
+packet that can't be decoded is skipped, and the status is then 1. Idle packets are skipped too. The
+standard's compression identification packet isn't read.
 """
 
 import os
@@ -26,7 +28,7 @@ from aec_runs import (
 
 PRIMARY = 6  # bytes of the primary header
 IDLE = 0x7FF  # the APID of idle packets, the greatest
-COUNTS = 1 << 14  # where the sequence count begins anew
+COUNTS = 1 << 14  # where the sequence count begins at 0 again
 
 
 class Packet(NamedTuple):
@@ -36,20 +38,21 @@ class Packet(NamedTuple):
     apid: int
     has_secondary: bool
     sequence: int
-    field: bytes  # all behind the primary header
+    field: bytes  # all after the primary header
 
     def stream(self, secondary):
-        """The data field without a secondary header of that length."""
+        """Returns the data field without its secondary header, if it has one. `secondary` is the
+        header's length."""
         return self.field[secondary:] if self.has_secondary else self.field
 
     def name(self):
-        """How the packet is called in what is printed."""
+        """Returns how messages name the packet."""
         return f"packet {self.number} (APID {self.apid}, sequence count {self.sequence})"
 
 
 def packets_of(data):
-    """The packets of a file. Behind one that is cut, or that isn't a packet, no other can be found:
-    it is refused."""
+    """Yields the packets of a file. Refuses a packet that is cut, and bytes that aren't a packet:
+    no packet can be found after them."""
     first, number = 0, 0
     while first < len(data):
         head = data[first : first + PRIMARY]
@@ -66,15 +69,15 @@ def packets_of(data):
 
 
 def skipped(packet, expected):
-    """A text for a sequence count that isn't the expected one, None where it is. `expected` has the
-    next count of each APID, and gets that behind this packet."""
+    """Returns a text if packets are missing before this packet, else None. `expected` has the next
+    sequence count of each APID, and is updated."""
     missing = (packet.sequence - expected.get(packet.apid, packet.sequence)) % COUNTS
     expected[packet.apid] = (packet.sequence + 1) % COUNTS
     return f"{packet.name()}: {missing} before it are missing" if missing else None
 
 
 def read(aec, file, folder, secondary, *options):
-    """Decodes each packet of a file. The status."""
+    """Decodes each packet of a file. Returns the status."""
     length = whole_number(secondary, "length of a secondary header")
     require_aec(aec)
     judge_options(aec, options)

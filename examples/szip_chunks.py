@@ -1,11 +1,11 @@
-"""How HDF5's szip filter lays out the elements of a chunk as samples, and a chunk's bytes as they
-stand in the file: four bytes with the number of raw bytes, least significant first, then the
-stream. Knows nothing of files.
+"""How HDF5's szip filter lays out the elements of a chunk as samples, and the bytes of a chunk in
+the file: four bytes with the number of raw bytes, least significant first, then the stream. Reads
+and writes no HDF5 file.
 
-Elements of up to 32 bits are samples as they are, but for those of 32 bits: these, and those of 64,
-are planes of bytes, the first byte of each element, then the second of each, and so on. Samples are
-cut into scan lines, and behind each line come samples that fill it up to whole blocks, so that a
-line is one interval.
+Elements of less than 32 bits are the samples. Elements of 32 and 64 bits are divided into planes of
+bytes, and these bytes are the samples: the first byte of each element, then the second byte of
+each, and so on. Samples are cut into scan lines. After each line there is filler up to whole
+blocks, so a line is one interval.
 """
 
 from typing import NamedTuple
@@ -18,7 +18,7 @@ HEAD = 4  # bytes of a chunk before its stream
 
 
 class Layout(NamedTuple):
-    """The four numbers that the filter keeps with a data set, and the bytes of an element."""
+    """The four numbers that the filter stores with a data set, and the bytes of an element."""
 
     mask: int
     block_size: int
@@ -27,7 +27,7 @@ class Layout(NamedTuple):
     element: int
 
     def check(self):
-        """Refuses what aec doesn't read."""
+        """Refuses a layout that aec doesn't read."""
         if self.block_size < 8:
             raise Refused(f"blocks of {self.block_size} samples: aec has even sizes from 8 to 64")
         if self.element != self.expected_element():
@@ -35,7 +35,7 @@ class Layout(NamedTuple):
             raise Refused(f"{what} are laid out in no known way")
 
     def expected_element(self):
-        """The bytes of an element of so many bits."""
+        """Returns the number of bytes of an element of so many bits."""
         if self.bits <= 8:
             return 1
         if self.bits <= 16:
@@ -43,23 +43,23 @@ class Layout(NamedTuple):
         return 8 if self.bits == 64 else 4
 
     def is_planes(self):
-        """Whether the samples are the bytes of elements."""
+        """Returns whether the samples are the bytes of elements."""
         return self.bits in (32, 64)
 
     def sample(self):
-        """The bytes of a sample."""
+        """Returns the number of bytes of a sample."""
         return 1 if self.is_planes() else self.element
 
     def interval(self):
-        """The blocks of a line, which are those of an interval."""
+        """Returns the number of blocks of a line, which is one interval."""
         return -(-self.line // self.block_size)
 
     def filled(self):
-        """The samples of a line that is filled up."""
+        """Returns the number of samples of a line with its filler."""
         return self.interval() * self.block_size
 
     def words(self):
-        """The words for aec, without a count."""
+        """Returns the words for aec, without a count."""
         bits = 8 if self.is_planes() else self.bits
         switches = {
             "-m": self.mask & MSB_FIRST,
@@ -70,29 +70,29 @@ class Layout(NamedTuple):
         return words + [word for word, is_set in switches.items() if is_set]
 
     def place(self, sample):
-        """Where a sample stands in the stream; both are counted from 0."""
+        """Returns a sample's place in the stream. Both count from 0."""
         return sample // self.line * self.filled() + sample % self.line
 
     def count(self, raw_bytes):
-        """The samples of the stream up to the last that stands for raw bytes."""
+        """Returns the number of samples of the stream, without the filler of its last line."""
         samples = raw_bytes // self.sample()
         return self.place(samples - 1) + 1 if samples else 0
 
     def filled_count(self, raw_bytes):
-        """The samples of the stream, its last line filled up too."""
+        """Returns the number of samples of the stream, with the filler of its last line."""
         return -(-(raw_bytes // self.sample()) // self.line) * self.filled()
 
 
 class Chunk(NamedTuple):
-    """A chunk as it stands in the file: its bytes, and whether the filter has passed over it, so
-    that they are the elements themselves."""
+    """A chunk in the file: its bytes, and whether it is raw. If it is, the filter was skipped, and
+    the bytes are the elements themselves."""
 
     data: bytes
     is_raw: bool
 
 
 def of_planes(data, element):
-    """Elements of so many bytes from the planes of their bytes."""
+    """Returns elements of so many bytes from the planes of their bytes."""
     raw, count = bytearray(len(data)), len(data) // element
     for plane in range(element):
         raw[plane::element] = data[plane * count : (plane + 1) * count]
@@ -100,7 +100,7 @@ def of_planes(data, element):
 
 
 def without_filler(layout, stored, raw_bytes):
-    """The raw bytes of stored samples, without those that fill up lines."""
+    """Returns the raw bytes of stored samples, without the filler of lines."""
     line, filled = layout.line * layout.sample(), layout.filled() * layout.sample()
     lines = [stored[first : first + line] for first in range(0, len(stored), filled)]
     raw = b"".join(lines)[:raw_bytes]
@@ -108,7 +108,7 @@ def without_filler(layout, stored, raw_bytes):
 
 
 def check_len(chunk, raw_bytes):
-    """Refuses a chunk that doesn't stand for so many raw bytes."""
+    """Refuses a chunk whose number of raw bytes isn't `raw_bytes`."""
     if not chunk.is_raw and len(chunk.data) < HEAD:
         raise Refused(f"a chunk has {len(chunk.data)} bytes, too few for its head")
     named = len(chunk.data) if chunk.is_raw else int.from_bytes(chunk.data[:HEAD], "little")
@@ -117,7 +117,7 @@ def check_len(chunk, raw_bytes):
 
 
 def decoded(layout, aec, chunk, raw_bytes):
-    """The raw bytes of a chunk."""
+    """Returns the raw bytes of a chunk."""
     check_len(chunk, raw_bytes)
     if chunk.is_raw:
         return chunk.data
@@ -126,7 +126,8 @@ def decoded(layout, aec, chunk, raw_bytes):
 
 
 def overwrites(layout, element, value, elements):
-    """The script that gives one of so many elements, counted from 0, other bytes."""
+    """Returns the script that gives element `element` of `elements`, counted from 0, other
+    bytes."""
     if layout.is_planes():
         samples = {plane * elements + element: byte for plane, byte in enumerate(value)}
     else:
@@ -137,10 +138,10 @@ def overwrites(layout, element, value, elements):
 
 
 def edited(layout, aec, chunk, element, value, raw_bytes):
-    """The chunk with other bytes for one element, which is counted from 0. The filler behind its
-    line stays as it was. A raw chunk stays raw, and one that no longer shrinks becomes raw, but
-    for one that is as long as a raw one: HDF5 1.10 forgets that a chunk is raw from now on where
-    its length stays."""
+    """Returns the chunk with other bytes for one element, counted from 0. The filler of its line is
+    unchanged. A raw chunk stays raw. A coded chunk that no longer shrinks becomes raw, unless its
+    old code is as long as the raw chunk: if the length stays the same, HDF5 1.10 doesn't note that
+    the chunk is raw from now on."""
     check_len(chunk, raw_bytes)
     if not chunk.is_raw:
         script = overwrites(layout, element, value, raw_bytes // layout.element)

@@ -1,4 +1,4 @@
-"""The Debian packages: aec-proved (the program), libaecp0 (the shared library), libaecp-dev (header and archive)."""
+"""Builds the Debian packages: aec-proved (the program), libaecp0 (the shared library), libaecp-dev (header and archive)."""
 
 import gzip
 import hashlib
@@ -56,7 +56,7 @@ PACKAGES = {
 
 
 def control(name, version, depends, root):
-    """The text of a control file."""
+    """Returns the text of a control file."""
     fields = dict(PACKAGES[name])
     described = fields.pop("Description")
     files = [it for it in stage.below(root) if os.path.isfile(it) and not os.path.islink(it) and "/DEBIAN/" not in it]
@@ -79,19 +79,19 @@ def control(name, version, depends, root):
 
 
 def packed(data):
-    """Bytes as gzip packs them for Debian: with -9, and with neither name nor date."""
+    """Returns bytes compressed with gzip as Debian wants it: with -9, without name and date."""
     return gzip.compress(data, 9, mtime=0)
 
 
 def changelog(version, moment):
-    """The changelog of the packages. CHANGELOG.md says what changed for users."""
+    """Returns the changelog of the packages. CHANGELOG.md says what changed for users."""
     date = time.strftime("%a, %d %b %Y %H:%M:%S +0000", time.gmtime(moment))
     change = f"  * Version {version}. CHANGELOG.md of the source has the changes."
     return f"aec-proved ({version}) unstable; urgency=low\n\n{change}\n\n -- {MAINTAINER}  {date}\n"
 
 
 def documents(top, root, name, version, moment, proved):
-    """The files of /usr/share/doc that each package has."""
+    """Writes the files of /usr/share/doc that each package has."""
     folder = os.path.join(root, "usr/share/doc", name)
     stage.write(os.path.join(folder, "copyright"), stage.read(os.path.join(top, "packaging/debian/copyright")))
     stage.write(os.path.join(folder, "changelog.gz"), packed(changelog(version, moment).encode()))
@@ -99,7 +99,7 @@ def documents(top, root, name, version, moment, proved):
 
 
 def sums(root):
-    """The text of md5sums."""
+    """Returns the text of md5sums."""
     found = []
     for path in stage.below(root):
         name = os.path.relpath(path, root)
@@ -115,7 +115,7 @@ def date_all(root, moment):
 
 
 def finish(top, root, folder, name, version, depends, moment):
-    """Writes DEBIAN/ and the package, and returns its path."""
+    """Writes DEBIAN/ and the package. Returns the package's path."""
     own = os.path.join(top, "packaging/debian")
     overrides = os.path.join(own, f"{name}.lintian-overrides")
     if os.path.exists(overrides):
@@ -135,17 +135,17 @@ def finish(top, root, folder, name, version, depends, moment):
 
 
 def next_of(version):
-    """The next major version: its structs may differ."""
+    """Returns the next major version. Its structs may differ."""
     return f"{int(version.split('.')[0]) + 1}~"
 
 
 def libc_of(path):
-    """The dependency on the C library."""
+    """Returns the dependency on the C library."""
     return "libc6 (>= {}.{})".format(*elf.glibc_needed(path))
 
 
 def program(top, root):
-    """The program's files, as Debian wants them: manual page compressed, zsh's file where Debian's zsh looks."""
+    """Writes the program's files as Debian wants them: manual page compressed, zsh's file where Debian's zsh looks for it."""
     stage.program(top, root, "/usr", "aec-proved")
     share = os.path.join(root, "usr/share")
     page = os.path.join(share, "man/man1/aec-proved.1")
@@ -154,14 +154,14 @@ def program(top, root):
     completion = os.path.join(share, "zsh/vendor-completions/_aec-proved")
     stage.write(completion, stage.read(os.path.join(share, "zsh/site-functions/_aec-proved")))
     shutil.rmtree(os.path.join(share, "zsh/site-functions"))
-    # The file copyright has the licence.
+    # The licence is in the file copyright.
     documents_folder = os.path.join(share, "doc/aec-proved")
     shutil.rmtree(documents_folder)
     stage.user_pages(documents_folder, ["LICENSE"])
 
 
 def split_library(top, work):
-    """The roots of libaecp0 and libaecp-dev."""
+    """Writes the files of libaecp0 and libaecp-dev. Returns the root folders of both."""
     dev, shared = os.path.join(work, "libaecp-dev"), os.path.join(work, "libaecp0")
     stage.library(top, dev, "/usr", LIB, "/usr")
     moved = os.path.join(dev, "usr", LIB, "libaecp.so.0")

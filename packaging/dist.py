@@ -1,11 +1,11 @@
 #!/usr/bin/env python3
 """Packs what `make` and `make library` have built into dist/: dist.py [--unproved]
 
-A tarball, the Debian packages and the wheel. Two runs over the same folder bin/ write the same bytes, wherever it is: each date is
-the commit's (or SOURCE_DATE_EPOCH), names are sorted, and no path of this machine goes in.
+Writes a tarball, the Debian packages and the wheel. Two runs with the same bin/ write the same bytes, in any folder: each
+date is SOURCE_DATE_EPOCH or else the commit's, names are sorted, and no package contains a path of this machine.
 
-Fails unless each binary was proved and built at this commit; a checkout with changes counts as the commit 'NAME with changes'. With
---unproved, the binaries are packed unchecked, for a try, and the file PROVED says so.
+Fails unless each binary was proved and built at this commit; a checkout with changes counts as the commit 'NAME with changes'.
+With --unproved, the binaries are packed unchecked, for a try, and the file PROVED says so.
 """
 
 import os
@@ -32,7 +32,7 @@ def version():
 
 
 def moment():
-    """The date of every file, in seconds: SOURCE_DATE_EPOCH, else the commit's."""
+    """Returns the date of every file, in seconds: SOURCE_DATE_EPOCH, else the commit's. Raises NotProved if there is neither."""
     given = os.environ.get("SOURCE_DATE_EPOCH") or proved.git("log", "-1", "--format=%ct")
     if not given:
         raise proved.NotProved("there is no commit to take a date from: set SOURCE_DATE_EPOCH")
@@ -52,7 +52,7 @@ def texts(is_proved):
 
 
 def build(is_proved):
-    """Writes all packages; returns their paths."""
+    """Writes all packages. Returns their paths."""
     os.umask(0o022)
     when = moment()
     os.environ["SOURCE_DATE_EPOCH"] = str(when)

@@ -1,9 +1,10 @@
-"""What a built file needs of the C library, as `objdump` prints it."""
+"""Finds with `objdump` what a built file needs of the C library."""
 
 import re
 import subprocess
 
-# Names of versions that aren't numbers, and the version of glibc that has them. GLIBC_PRIVATE counts as 99.0, since other versions of glibc may lack it.
+# Names of versions that aren't numbers, and the version of glibc that has them. GLIBC_PRIVATE counts as 99.0, since other versions of
+# glibc may lack it.
 NAMED = {"ABI_DT_RELR": (2, 36), "PRIVATE": (99, 0)}
 
 
@@ -12,7 +13,7 @@ def headers(path):
 
 
 def glibc_needed(path):
-    """The least version of glibc that the loader accepts for a file, as (2, 17)."""
+    """Returns the least version of glibc that the loader accepts for a file, as (2, 17)."""
     found = [(0, 0)]
     for name in re.findall(r"GLIBC_(\S+)", headers(path).partition("Version References:")[2]):
         numbers = re.fullmatch(r"(\d+)\.(\d+)(\.\d+)?", name)
@@ -21,5 +22,5 @@ def glibc_needed(path):
 
 
 def libraries_needed(path):
-    """The names of the shared libraries that a file needs."""
+    """Returns the names of the shared libraries that a file needs."""
     return sorted(re.findall(r"^ +NEEDED +(\S+)", headers(path), re.M))

@@ -1,7 +1,8 @@
 #!/usr/bin/env python3
 """Installs the pages for users: pages.py FOLDER [--without FILE]..
 
-Copies the pages, pictures and examples into FOLDER. A link to any other file becomes plain words, so that each link of an installed page leads to an installed page.
+Copies the pages, pictures and examples into FOLDER. A link to any other file becomes plain words, so that each link of an
+installed page leads to an installed file or to a web site.
 """
 
 import argparse
@@ -12,13 +13,13 @@ import sys
 
 TOP = os.path.join(os.path.dirname(os.path.abspath(__file__)), "..")
 FILES = ["README.md", "CHANGELOG.md", "SECURITY.md", "LICENSE", "docs/*.md", "docs/*/*", "bench/tables.md", "examples/*"]
-# For those who change the program. They are in the source alone.
+# For those who change the program. They are only in the source.
 DEVELOPERS = {"docs/ARCHITECTURE.md", "docs/DECISIONS.md"}
 LINK = re.compile(r"!?\[([^\]]*)\]\(([^)\s]+)\)")
 
 
 def user_files(without=()):
-    """The files for users, as paths from the top of the repository."""
+    """Returns the files for users, as paths from the top of the repository."""
     found = set()
     for pattern in FILES:
         paths = glob.glob(os.path.join(TOP, pattern))
@@ -27,19 +28,20 @@ def user_files(without=()):
 
 
 def target_of(page, link):
-    """The path that a page's link names, from the top of the repository. None if it leads to another site or into the page."""
+    """Returns the path that a page's link names, from the top of the repository. None if it leads to another site or into the
+    page."""
     if "://" in link or link.startswith(("#", "mailto:")):
         return None
     return os.path.normpath(os.path.join(os.path.dirname(page), link.partition("#")[0]))
 
 
 def is_installed(target, files):
-    """Whether a link's target is an installed file, or a folder of installed files."""
+    """Returns whether a link's target is an installed file, or a folder of installed files."""
     return target in files or any(it.startswith(target + "/") for it in files)
 
 
 def with_links(page, text, files):
-    """A page's text, in which links to files that aren't installed are only their text. Blocks of code stay as they are."""
+    """Returns a page's text, in which links to files that aren't installed are only their text. Blocks of code are unchanged."""
 
     def link(found):
         target = target_of(page, found[2])

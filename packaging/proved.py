@@ -1,10 +1,10 @@
 #!/usr/bin/env python3
-"""What was proved of the built files: proved.py commit | record COMMIT FILE.. | gate COMMIT LOG
+"""Records what was proved of the built files: proved.py commit | record COMMIT FILE.. | gate COMMIT LOG
 
 commit: prints the commit of the checkout, before a build begins.
-record: after `make` or `make library` has proved and built FILE, writes FILE.proved beside it: the file's SHA-256, the commit and the
-kit. `make dist` packs a file only if its sum and commit still match and all files have one kit. `make dist` writes the three into the
-file PROVED of each package.
+record: after `make` or `make library` has proved and built FILE, writes FILE.proved beside it: the file's SHA-256, the commit and
+the kit. `make dist` packs a file only if its sum and commit still match and all files have one kit. It also writes sum, commit and
+kit into the file PROVED of each package.
 gate: after `make test` has run the gate, writes the commit and the last line of the gate's LOG to bin/gate.
 """
 
@@ -34,11 +34,11 @@ SHA-256 of each binary.
 
 
 class NotProved(Exception):
-    """A file to be packed wasn't proved and built here."""
+    """A file to be packed wasn't proved and built here, or the packages have no date."""
 
 
 def told(*words):
-    """What a command prints, without the end of the line. Empty if it fails."""
+    """Returns what a command prints, without the end of the line. Empty if it fails."""
     try:
         return subprocess.run(words, cwd=TOP, capture_output=True, text=True, check=True).stdout.strip()
     except (OSError, subprocess.CalledProcessError):
@@ -46,12 +46,13 @@ def told(*words):
 
 
 def git(*words):
-    """What git prints in the checkout, even if another user owns the checkout."""
+    """Returns what git prints in the checkout, even if another user owns the checkout."""
     return told("git", "-c", "safe.directory=*", *words)
 
 
 def commit():
-    """The commit of the checkout, and whether a file of it was changed."""
+    """Returns the commit of the checkout, with the words 'with changes' if a file of it was changed; 'unknown' if git names
+    none."""
     name = git("rev-parse", "HEAD")
     if not name:
         return "unknown"
@@ -59,7 +60,7 @@ def commit():
 
 
 def sum_of(path):
-    """The SHA-256 of a file."""
+    """Returns the SHA-256 of a file."""
     with open(path, "rb") as file:
         return hashlib.sha256(file.read()).hexdigest()
 
@@ -71,7 +72,7 @@ def record(at, path):
 
 
 def record_gate(at, log):
-    """Keeps the last line of the gate at a commit."""
+    """Writes a commit, and the last line of the gate's log at this commit, to bin/gate."""
     with open(log, encoding="utf-8") as file:
         lines = file.read().splitlines()
     os.makedirs(os.path.join(TOP, "bin"), exist_ok=True)
@@ -80,7 +81,8 @@ def record_gate(at, log):
 
 
 def kit_of(paths):
-    """Returns the kit that has proved these files. Raises NotProved if a file or its commit has changed, or if the files have several kits."""
+    """Returns the kit that has proved these files. Raises NotProved if a file or its commit has changed, or if the files have
+    several kits."""
     kits = set()
     for path in paths:
         try:
@@ -99,7 +101,7 @@ def kit_of(paths):
 
 
 def gate():
-    """The last line of the gate at this commit, as `make test` has kept it."""
+    """Returns the last line of the gate at this commit, from bin/gate, or a text that it wasn't run."""
     try:
         with open(os.path.join(TOP, GATE), encoding="utf-8") as file:
             at, line = file.read().splitlines()
@@ -109,7 +111,7 @@ def gate():
 
 
 def head(version, paths, is_proved):
-    """The text of PROVED up to the sums."""
+    """Returns the text of PROVED up to the sums."""
     if not is_proved:
         return UNPROVED.format(version=version, commit=commit())
     return HEAD.format(version=version, kit=kit_of(paths), commit=commit(), gate=gate())

@@ -21,7 +21,7 @@ def read(path):
 
 
 def below(folder):
-    """The paths of all files, links and folders below a folder."""
+    """Yields the paths of all files, links and folders below a folder."""
     for at, folders, names in os.walk(folder):
         yield from (os.path.join(at, name) for name in folders + names)
 
@@ -33,29 +33,30 @@ def made(top, target, folder, *words):
 
 
 def program(top, folder, prefix, name):
-    """The program with its manual page, completions and pages, as `make install` puts them."""
+    """Installs the program with its manual page, completions and pages, as `make install` does."""
     made(top, "install", folder, f"PREFIX={prefix}", f"PROGRAM={name}")
 
 
 def library(top, folder, prefix, libdir, pc_prefix):
-    """The library for C, as `make install-c` puts it."""
+    """Installs the library for C, as `make install-c` does."""
     words = [f"PREFIX={prefix}", f"LIBDIR={prefix}/{libdir}", "PC_PREFIX=" + pc_prefix.replace("$", "$$")]
     made(top, "install-c", folder, *words)
 
 
 def user_pages(folder, without):
-    """The pages for users alone."""
+    """Installs only the pages for users."""
     pages.install(folder, without)
 
 
 def library_page(top):
-    """The page of the library, for a package that has no other page."""
+    """Returns the page of the library, for a package that has no other page: its links to files become plain words."""
     page = "docs/LIBRARY.md"
     return pages.with_links(page, read(os.path.join(top, page)).decode(), set()).encode()
 
 
 def notices(top):
-    """The notices of the kit's crates whose code is in the binaries, as plain text. Their licence asks for them in each copy."""
+    """Returns, as plain text, the notices of the kit's crates whose code is in the binaries. Their licence asks for them in each
+    copy."""
     text = read(os.path.join(top, "packaging/debian/copyright")).decode()
     comment = re.search(r"(?ms)^Comment:\n(.*?)\n\n", text)[1]
     licence = re.search(r"(?ms)^License: Expat\n(.*)", text)[1]

@@ -1,4 +1,4 @@
-"""The tarball: program, library and pages in a folder with PREFIX's layout, and a script that installs them."""
+"""Builds the tarball: program, library and pages in a folder laid out as PREFIX, and a script that installs them."""
 
 import gzip
 import os
@@ -6,7 +6,7 @@ import tarfile
 
 import stage
 
-# Where the binaries are.
+# The paths of the binaries in the folder.
 PLACES = {"aec": "bin/aec", "libaecp.a": "lib/libaecp.a", "libaecp.so": "lib/libaecp.so.0"}
 
 
@@ -51,7 +51,7 @@ LICENSE is the licence, and NOTICES has the licence of crates whose code is in t
 
 
 def build(top, work, folder, version, moment, proved):
-    """Writes the tarball into a folder, and returns its path."""
+    """Writes the tarball into a folder. Returns the tarball's path."""
     name = f"aec-{version}-x86_64-linux"
     root = os.path.join(work, name)
     fill(top, root, version, proved)

@@ -1,4 +1,4 @@
-"""The wheel of the Python module, with the library inside."""
+"""Builds the wheel of the Python module, with the library inside."""
 
 import base64
 import hashlib
@@ -48,7 +48,7 @@ class Unfit(Exception):
 
 
 def check_library(path):
-    """Fails if the library needs more than the tag allows."""
+    """Raises Unfit if the library needs more than the tag allows."""
     needed, libraries = elf.glibc_needed(path), elf.libraries_needed(path)
     if needed > GLIBC or not set(libraries) <= {"libc.so.6"}:
         version = ".".join(map(str, needed))
@@ -56,12 +56,12 @@ def check_library(path):
 
 
 def project_value(text, name):
-    """A text value of pyproject.toml."""
+    """Returns a text value of pyproject.toml."""
     return re.search(rf'^{name} = "(.*)"$', text, re.M)[1]
 
 
 def module_files(folder, library):
-    """The files of the module, by their names in the wheel."""
+    """Returns the files of the module, by their names in the wheel."""
     names = sorted(it for it in os.listdir(os.path.join(folder, "aecp")) if it.endswith(".py") or it == "py.typed")
     found = {f"aecp/{name}": data_of(os.path.join(folder, "aecp", name)) for name in names}
     return {**found, "aecp/libaecp.so": data_of(library)}
@@ -73,7 +73,7 @@ def data_of(path):
 
 
 def sum_line(name, data):
-    """The line of a file in RECORD."""
+    """Returns the line of a file in RECORD."""
     digest = base64.urlsafe_b64encode(hashlib.sha256(data).digest()).rstrip(b"=").decode()
     return f"{name},sha256={digest},{len(data)}\n"
 
@@ -87,7 +87,7 @@ def put(archive, name, data, moment):
 
 
 def build(top, folder, version, moment, proved):
-    """Writes the wheel into a folder, and returns its path."""
+    """Writes the wheel into a folder. Returns the wheel's path."""
     library = os.path.join(top, "bin", "libaecp.so")
     check_library(library)
     source = os.path.join(top, "python")

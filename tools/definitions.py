@@ -1,17 +1,18 @@
 #!/usr/bin/env python3
 """Writes docs/DEFINITIONS.md: definitions.py [--check]
 
-Each definition of crates/*/specs with the sentence over it, by crate and file, in the order of the
-crate's specs/Lib.antt. First come those that the contract of a public function, type or trait
-cites, itself or by another definition; then those that only the public functions of `laws` cite;
-then those that serve proofs alone. A sentence's `§7` is a section of docs/FORMAT.md, its
-`COMMAND: Edits` a part of docs/COMMAND.md: both become links.
+The page lists each definition of crates/*/specs with the sentence above it, by crate and file, in the order of the crate's
+specs/Lib.antt. It has three parts:
+- definitions that the contract of a public function, type or trait cites, directly or through other definitions;
+- definitions that only the public functions of `laws` cite;
+- definitions that only proofs need.
 
-A file whose definitions all serve proofs alone begins with the line MARK.
+In a sentence, `§7` becomes a link to a section of docs/FORMAT.md, and `COMMAND: Edits` a link to a part of docs/COMMAND.md. A
+file whose definitions are all for proofs alone begins with the line MARK, except files `..Examples.antt`.
 
-Fails where a definition that a public contract cites has no sentence, where a section or a part
-that a sentence names isn't there, where MARK is missing or stands in another file, and with
---check, which writes nothing, where the page isn't what is written.
+Fails if a definition that a public contract cites has no sentence, if a sentence names a section or a part that doesn't exist, or
+if a file lacks MARK or has it wrongly. With --check nothing is written, and the script also fails if the page differs from what
+it would write.
 """
 
 import os
@@ -51,13 +52,13 @@ rests on them: skip them unless you change a proof. A file of such definitions a
 
 
 def headings(page):
-    """What each heading of a page is called in a link, by its text."""
+    """Returns the link anchor of each heading of a page, by the text of the heading."""
     names = re.findall(r"^##+ (.*)", text_of(page), re.M)
     return {name: re.sub(r"[^\w -]", "", name.lower()).replace(" ", "-") for name in names}
 
 
 class Links:
-    """Sections and parts as links, and those that aren't there."""
+    """Makes links of sections and parts. `wrongs` has a message for each that is missing."""
 
     def __init__(self):
         self.sections = {name.split(".")[0]: link for name, link in headings("docs/FORMAT.md").items()}
@@ -84,7 +85,7 @@ class Links:
 
 
 def contract_lines(lines, start):
-    """A function's signature and contract, from its first line up to its body or its semicolon."""
+    """Returns a function's signature and contract: from its first line to the line with its brace or semicolon."""
     for at in range(start, len(lines)):
         if lines[at].strip() in ("{", "{}") or lines[at].endswith(";"):
             return lines[start : at + 1]
@@ -92,7 +93,8 @@ def contract_lines(lines, start):
 
 
 def public_roots(library, crates, with_laws):
-    """Pairs of a file and lines of it: what is public of each crate, but for crates of tests, with its laws or without."""
+    """Yields each public item of the crates, without crates of tests, as its file and its lines there. Laws only if
+    `with_laws`."""
     for crate in crates.values():
         if crate.name.endswith("_tests"):
             continue
@@ -108,7 +110,7 @@ def public_roots(library, crates, with_laws):
 
 
 def cited_by(library, roots):
-    """The keys of all that lines cite, themselves or by what they cite."""
+    """Returns the keys of all items that these lines cite, directly or through other items."""
     found, left = set(), list(roots)
     while left:
         file, lines = left.pop()
@@ -120,7 +122,7 @@ def cited_by(library, roots):
 
 
 def spec_files(crate):
-    """The files of a crate's definitions, in the order in which they are listed."""
+    """Yields the files of a crate's definitions, in the order of its specs/Lib.antt."""
     index = f"crates/{crate}/specs/Lib.antt"
     if os.path.exists(os.path.join(TOP, index)):
         for name in re.findall(r"^pub mod (\w+)", text_of(index), re.M):
@@ -132,7 +134,7 @@ def sentence_of(words):
 
 
 def subject_of(path):
-    """The comment at the front of a file."""
+    """Returns the comment at the start of a file, without MARK, as one line."""
     words = []
     for line in text_of(path).splitlines():
         if not line.startswith("-- "):
@@ -150,7 +152,7 @@ def list_of(items, links):
 
 
 def part_of(library, crates, keep, links):
-    """The definitions that are to be kept, by crate and file, and how many they are."""
+    """Returns the text of the definitions for which `keep` is true, by crate and file, and their number."""
     parts, count = [], 0
     for crate in crates:
         files = []
@@ -168,7 +170,7 @@ def part_of(library, crates, keep, links):
 
 
 def marked_wrongly(library, crates, public):
-    """The files of definitions that lack MARK, or have it without being so."""
+    """Yields a message for each file that lacks MARK, or has it although a public contract cites the file."""
     for crate in crates:
         for path in spec_files(crate):
             items = library.file(path).items.values()
@@ -178,7 +180,7 @@ def marked_wrongly(library, crates, public):
 
 
 def written_page():
-    """The page, what is wrong, and how many definitions calls cite, how many laws alone, and how many neither."""
+    """Returns the page, the messages of what is wrong, and the number of definitions in each part of the page."""
     library, links, crates = Library(), Links(), all_crates()
     called = cited_by(library, public_roots(library, crates, with_laws=False))
     public = cited_by(library, public_roots(library, crates, with_laws=True))

@@ -1,12 +1,12 @@
 #!/usr/bin/env python3
 """Writes man/aec.1 from docs/COMMAND.md and the file VERSION: man.py [--check]
 
-The page's title is the part NAME, its first block of code SYNOPSIS, and the text from there to the
-first heading DESCRIPTION; each other heading is a part. A row of a table becomes a tagged
-paragraph: its first cell is the tag, and each cell after the second begins with the head of its
-column. A list item that begins with code and a colon is tagged by that code.
+The title of docs/COMMAND.md becomes the section NAME, its first block of code SYNOPSIS, and the text from there to the first
+heading DESCRIPTION. Each other heading begins a section of its own. A row of a table becomes a tagged paragraph: the first cell
+is the tag, the second the text, and each later cell follows the head of its column. A list item that begins with code and a colon
+becomes a paragraph with that code as its tag.
 
-With --check nothing is written, and the script fails where the page isn't what it would write.
+With --check nothing is written, and the script fails if the page differs from what it would write.
 """
 
 import os
@@ -22,13 +22,13 @@ NOTE = '.\\" Written by `make man` from docs/COMMAND.md.\n'
 COLUMNS = 100
 ITEM = re.compile(r"(- |\d+\. )(.*)")
 TAGGED = re.compile(r"`([^`]*)`: (.*)", re.S)
-# A text that roff would read as something else, and how it is written.
+# Characters that roff would read as something else, and how they are written.
 SIGNS = {"\\": r"\e", "^": r"\(ha", "~": r"\(ti"}
 CODE_SIGNS = {**SIGNS, "-": r"\-", "'": r"\(aq", "`": r"\(ga"}
 
 
 def escaped(text, signs):
-    """A text in which each sign is written so that roff prints it."""
+    """Returns a text with each character of `signs` written so that roff prints it."""
     return "".join(signs.get(it, it) for it in text)
 
 
@@ -37,7 +37,7 @@ def font(name, text):
 
 
 def inline(text, is_bold=False):
-    """A paragraph's text in roff. Code and strong text are bold, emphasis is italic, of a link its text stays."""
+    """Returns a paragraph's text in roff: code and strong text in bold, emphasis in italics, a link as its text alone."""
     text = re.sub(r"\[([^]]*)\]\([^)]*\)", r"\1", text)
     out = []
     for part in re.split(r"(`[^`]*`|\*\*.+?\*\*|\*[^*`]+\*)", text):
@@ -54,29 +54,29 @@ def inline(text, is_bold=False):
 
 
 def guarded(line):
-    """A line of text that roff takes for no request."""
+    """Returns a line of text so that roff doesn't take it for a request."""
     return "\\&" + line if line.startswith((".", "'")) else line
 
 
 def filled(text):
-    """The lines of a paragraph."""
+    """Returns the lines of a paragraph."""
     wrapped = textwrap.wrap(inline(text), COLUMNS, break_long_words=False, break_on_hyphens=False)
     return "".join(f"{guarded(line)}\n" for line in wrapped)
 
 
 def tag(text):
-    """A tag in bold."""
+    """Returns a tag in bold."""
     return ".TP\n.B " + inline(text.replace("`", "")).replace("-", r"\-") + "\n"
 
 
 def code(lines):
-    """Code as it stands, indented."""
+    """Returns code unchanged, but indented."""
     shown = "".join(f"{guarded(escaped(line, CODE_SIGNS))}\n" for line in lines)
     return f".PP\n.RS 4\n.nf\n{shown}.fi\n.RE\n"
 
 
 def table(lines):
-    """A tagged paragraph for each row."""
+    """Returns a tagged paragraph for each row of a table."""
     rows = [[cell.strip() for cell in re.split(r"(?<!\\)\|", line)[1:-1]] for line in lines]
     out = []
     for row in rows[2:]:
@@ -86,7 +86,7 @@ def table(lines):
 
 
 def items(lines):
-    """The items of a list, each with all its lines, without their indentation."""
+    """Returns the items of a list, each as its lines without their indentation."""
     found = []
     for line in lines:
         if ITEM.match(line):
@@ -97,7 +97,7 @@ def items(lines):
 
 
 def listed(lines):
-    """A list. What is indented within an item is a list of its own."""
+    """Returns a list in roff. Items that are indented within an item become a list of their own."""
     out = []
     for first, *rest in items(lines):
         mark, text = ITEM.match(first).groups()
@@ -114,7 +114,7 @@ def listed(lines):
 
 
 def heading(line):
-    """A part, or a part of a part."""
+    """Returns the heading of a section or a subsection."""
     level, name = line.split(" ", 1)
     if level == "##":
         return f".SH {escaped(name.upper(), CODE_SIGNS)}\n"
@@ -122,7 +122,7 @@ def heading(line):
 
 
 def block(lines):
-    """A block of the page: what stands between empty lines."""
+    """Returns a block of the page in roff. Empty lines separate blocks."""
     if lines[0].startswith("```"):
         return code(lines[1:-1])
     if lines[0].startswith("#"):
@@ -136,13 +136,13 @@ def block(lines):
 
 
 def blocks(text):
-    """The blocks of a page, each as its lines. Code is one block."""
+    """Yields the blocks of a page, each as its lines. Code between fences is one block."""
     for part in re.findall(r"(?ms)^```.*?^```$|^(?!```)[^\n]+(?:\n(?!```)[^\n]+)*", text):
         yield part.split("\n")
 
 
 def page(text):
-    """The manual page."""
+    """Returns the manual page."""
     title, synopsis, *rest = blocks(text)
     name, what = title[0].removeprefix("# ").split(": ", 1)
     out = [NOTE, f'.TH {name.upper()} 1 "" "{name} {version()}" "User Commands"\n']

@@ -1,13 +1,13 @@
 #!/usr/bin/env python3
 """Writes the table of modules at the end of each crate's README.md: modules.py [--check]
 
-A row is a module, the public functions and types that it has, and the first sentence of the `//!`
-comment of its file. Below the table stands which libraries the crate uses, by crates.txt, and where
-its claims are. The rest of a README is written by hand: what stands above the line NOTE. A crate of
-tests may have none; all such crates are rows of a table in ARCHITECTURE.
+A row has a module, its public functions, types and traits, and the first sentence of the `//!` comment of its file. Below the
+table are the libraries that the crate uses, from crates.txt, and a link to its claims. The text above the line NOTE is written by
+hand. A crate of tests needs no README. All crates of tests are rows of a table in docs/ARCHITECTURE.md, which this script writes
+too.
 
-Fails where a module has no such comment, and with --check, which writes nothing, where a page isn't
-what is written.
+Fails if a module has no `//!` comment, or if a crate has no README (crates of tests aside). With --check nothing is written, and
+the script also fails if a page differs from what it would write.
 """
 
 import os
@@ -25,18 +25,18 @@ ITEM = re.compile(r"^pub (extern \"C\" )?(?:const )?(?:fn|struct|enum|trait) (\w
 
 
 def comment_of(text):
-    """A file's comment, on one line."""
+    """Returns the `//!` comment of a file, on one line."""
     lines = re.match(r"(?://!.*\n)*", text).group().splitlines()
     return " ".join(line.removeprefix("//!").strip() for line in lines).replace("|", "\\|")
 
 
 def sentence_of(text):
-    """The first sentence of a file's comment, without its full stop."""
+    """Returns the first sentence of a file's comment, without its full stop."""
     return re.split(r"\.(?: |$)", comment_of(text))[0]
 
 
 def items_of(crate, path):
-    """The names of what a module has that its crate gives out. Of laws only claims speak."""
+    """Returns the names of a module's items that its crate exports; none for `laws`, which only claims describe."""
     names, opened = exports_of(crate)
     module = module_of(path)
     items = ITEM.findall(text_of(path))
@@ -45,7 +45,7 @@ def items_of(crate, path):
 
 
 def rows_of(crate, wrongs):
-    """A row for each module of a crate: its name, its public items, its first sentence."""
+    """Returns a row for each module of a crate: its name, its public items, its first sentence."""
     rows = []
     for path in files_below(f"crates/{crate.name}/src", ".rt"):
         if module_of(path):
@@ -57,13 +57,13 @@ def rows_of(crate, wrongs):
 
 
 def table(heads, rows):
-    """A table with these rows, none where there are none."""
+    """Returns a table with these rows, or an empty text without rows."""
     lines = (heads, ["---"] * len(heads), *rows) if rows else ()
     return "".join(f"| {' | '.join(line)} |\n" for line in lines)
 
 
 def table_of(crate, wrongs):
-    """The rows of a crate's modules, without a column of public items where no module has one."""
+    """Returns the table of a crate's modules. If no module has public items, the table has no column for them."""
     rows = rows_of(crate, wrongs)
     kept = [0, 1, 2] if any(row[1] for row in rows) else [0, 2]
     heads, *rows = [[row[i] for i in kept] for row in (("Module", "Public", "Contains"), *rows)]
@@ -71,7 +71,7 @@ def table_of(crate, wrongs):
 
 
 def uses_of(crate):
-    """Which libraries a crate uses, and where its claims are."""
+    """Returns the line that says which libraries a crate uses, where its claims are and how to check it."""
     named = re.search(rf"(?m)^{crate}(?: staticlib)?: (.*)$", text_of("crates.txt"))[1].split()
     uses = f"Uses {', '.join(f'`{name}`' for name in named)}."
     has_claims = os.path.exists(os.path.join(TOP, f"crates/{crate}/claims.txt"))
@@ -80,7 +80,7 @@ def uses_of(crate):
 
 
 def written(crate, wrongs):
-    """A crate's README: what stands in it by hand, and the rest."""
+    """Returns a crate's README: the text written by hand, and the rest."""
     by_hand = text_of(readme_of(crate)).split(NOTE)[0].rstrip("\n")
     modules = table_of(crate, wrongs)
     return f"{by_hand}\n\n{NOTE}\n{modules}" + ("\n" if modules else "") + uses_of(crate.name)
@@ -95,7 +95,7 @@ def has_readme(crate):
 
 
 def tests_written(crates, wrongs):
-    """ARCHITECTURE with a row for each crate of tests: what it contains, and its modules."""
+    """Returns docs/ARCHITECTURE.md with a row for each crate of tests: what it contains, and its modules."""
     rows = []
     for crate in crates:
         if crate.name.endswith(TESTS):

@@ -1,27 +1,29 @@
 #!/usr/bin/env python3
 """Writes docs/PROOFS.md: pages.py [--check]
 
-The claims of a crate stand in its claims.txt, in parts with an empty line between. A part is a
-heading (`== NAME`), text that goes into the page as it is, or a claim: its sentences, of which a
-line with `- ` in front begins an item of a list, and below them, indented by four, what it has of
-these lines, each of which may go on below its text:
+The claims of a crate are in its claims.txt, in parts separated by empty lines. A part is a heading (`== NAME`), text that is
+copied to the page, or a claim. A claim begins with its sentences; a line that begins with `- ` is an item of a list. Then it has
+some of these lines, indented by four; a text may continue on the next line, below its start:
 
     given  the premise, in words
-    by     what carries it: functions and their clauses, as `Params::new: ok refuses; first_bad`.
-           No clauses: the one without a name. A path has as many modules as tell it apart.
+    by     what carries the claim: functions and their clauses, as `Params::new: ok refuses; first_bad`.
+           Without clauses, the clause without a name is meant. A path needs only as many modules as make it unique.
            `a, b: ok` are two functions; `Octets meets Codec` is an impl, whose clauses are those
            of the trait; `Fault: from_gives` is a ghost item of a type
     wrong  must-fail edits of the crate
-    test   tests of the trial crates, as `builds_and_edits` or `skipping::*`, or scripts of tests/
-    bare   in place of all these: public functions with no wrong body in the gate; the sentences say why
+    test   tests of the crates of tests, as `builds_and_edits` or `skipping::*`, or scripts of tests/
+    bare   instead of all these: public functions without a wrong body in the gate; the sentences say why
 
-docs/claims.txt has what stands around the claims; its line `@crates` gives way to them, its words
-`@gate` and `@others` to how many must-fail edits the gate tries and leaves out.
+docs/claims.txt is the rest of the page. Its line `@crates` is replaced by the claims, its words `@gate` and `@others` by the
+numbers of must-fail edits that the gate tries and leaves out.
 
-Fails where a name is none; where an ensures clause of a public function (of no crate of tests), its premise, a must-fail
-edit, a test or a script of tests/ that make runs stands in no claim; where a public function that is no law stands
-neither in a claim with an edit of the gate nor among the bare ones; and with --check, which writes nothing, where the
-page isn't what is written.
+Fails in these cases:
+- A name doesn't exist, or isn't unique.
+- An ensures clause or the premise of a public function (crates of tests aside), a must-fail edit, a test, or a script of tests/
+  that make runs is in no claim.
+- A public function (laws, functions that a trait declares and crates of tests aside) is neither in a claim with an edit of the
+  gate nor on a line `bare`; or a function is in both.
+- The page differs from what the script would write. Only --check tests this, and then nothing is written.
 """
 
 import os
@@ -42,19 +44,19 @@ HEADS = {
 }
 LINE = rf"^    ({'|'.join(HEADS)}) +(.*)"
 NAMELESS = "without a name"
-# Scripts of tests/ that try the proofs, and no promise.
+# Scripts of tests/ that test the proofs and no claim.
 NO_TESTS = {"tests/wrong_bodies.py"}
 NOTE = "<!-- Written by `make pages` from docs/claims.txt and crates/*/claims.txt. -->\n\n"
 
 
 class Claim(NamedTuple):
     words: str
-    # What the claim has of each kind of line.
+    # The text of each kind of line that the claim has.
     lines: dict
 
 
 def claim_of(part, wrongs):
-    """The claim that a part is. A part that has no line of one stays as it is."""
+    """Returns the claim in a part, or the part itself if it has no line of a claim."""
     if not re.search(LINE, part, re.M):
         return part
     words, lines, kind = [], {}, None
@@ -78,7 +80,7 @@ def parts_of(path, wrongs):
 
 
 class Names:
-    """What there is to be named, and what has been."""
+    """The names that claims can use, and those that they have used."""
 
     def __init__(self):
         self.crates = all_crates()
@@ -88,20 +90,20 @@ class Names:
         self.scripts = set(re.findall(r"tests/\w+\.py", runs)) - NO_TESTS
         self.edits = {name: edits_of(name) for name in self.crates}
         self.gate = {name: set(edits_of(name, ["must-fail"])) for name in self.crates}
-        # Paths of functions beside whose claim the gate tries an edit, and of the bare ones.
+        # Paths of functions in claims with an edit of the gate, and of functions on lines `bare`.
         self.guarded, self.bare = set(), set()
         self.words = set(re.findall(r"\w+", self.all_text()))
         self.named, self.wrongs = set(), []
 
     def all_text(self):
-        """Everything that has a name which text may speak of."""
+        """Returns all texts with names that a sentence may use: definitions, functions, clauses and must-fail edits."""
         specs = [text_of(path) for path in files_below("crates", ".antt") if "/specs/" in path]
         paths = [" ".join([one.path(), *one.clauses]) for one in self.functions]
         edits = [name for names in self.edits.values() for name in names]
         return " ".join([*specs, *paths, *edits])
 
     def found(self, path, among):
-        """The functions that a path may mean."""
+        """Returns the functions whose path ends with `path`, or only those that have just this path within their crate."""
         ends = [one for one in among if ("::" + one.path()).endswith("::" + path)]
         return [one for one in ends if one.path() == f"{one.crate}::{path}"] or ends
 
@@ -112,7 +114,7 @@ class Names:
         self.bare.update(one.path() for one in ones)
 
     def judge_guards(self):
-        """Each public function has a wrong body in the gate, or is said to have none."""
+        """Checks that each public function has a wrong body in the gate, or is on a line `bare`, but not both."""
         for one in self.functions:
             path = one.path()
             is_left_out = one.is_declared or one.module == "laws" or one.crate.endswith("_tests")
@@ -164,7 +166,7 @@ class Names:
         return [one.path() for one in self.found(name, self.tests)]
 
     def judge_text(self, where, text):
-        """Names in text: of what they are isn't asked."""
+        """Checks that files and names in a text exist, whatever they are names of."""
         for word in re.findall(r"`([^`]+)`", text):
             parts = set(word.split("::"))
             if re.fullmatch(r"(tests|docs|bench|examples|tools)/[\w./]+", word):
@@ -174,7 +176,7 @@ class Names:
                 self.wrongs.append(f"{where}: nothing is called {word}")
 
     def judge_rest(self):
-        """What there is and nobody has named."""
+        """Adds a message for each thing that a claim must name, and that no claim names."""
         wanted = {one: f"test {one}" for one in [*(it.path() for it in self.tests), *self.scripts]}
         for one in self.functions:
             if one.is_public and not one.crate.endswith("_tests"):
@@ -193,7 +195,7 @@ def many(ones):
 
 
 def carriers_of(line):
-    """Pairs of a name and its clauses."""
+    """Returns pairs of a name and its clauses."""
     found = []
     for item in line.split(";") if line else ():
         names, _, clauses = item.partition(": ")
@@ -213,7 +215,7 @@ def listed(names):
 
 
 def edits_text(line, gate):
-    """The edits that the gate tries, then the others."""
+    """Returns the edits that the gate tries, then the others."""
     names = line.split()
     tried = [name for name in names if name in gate]
     others = [name for name in names if name not in gate]
@@ -239,7 +241,7 @@ def claim_text(claim, gate):
 
 
 def page_of(parts, mark="### ", gate=()):
-    """The parts as a page: claims that follow each other are one list."""
+    """Returns the parts as a page. Claims that follow each other form one list."""
     page, last = "", None
     for part in parts:
         is_claim = isinstance(part, Claim)
@@ -250,7 +252,7 @@ def page_of(parts, mark="### ", gate=()):
 
 
 def read_claims(path, crate, names):
-    """The parts of a file, of whose claims each name is judged."""
+    """Returns the parts of a file, and checks each name in them."""
     parts = parts_of(path, names.wrongs)
     for part in parts:
         names.judge_text(path, part.words if isinstance(part, Claim) else part)

@@ -1,4 +1,4 @@
-"""What the sources of the crates have: functions, the names of their clauses, must-fail edits."""
+"""Reads the sources of the crates: functions, the names of their clauses, must-fail edits."""
 
 import os
 import re
@@ -8,7 +8,7 @@ TOP = os.path.abspath(os.path.join(os.path.dirname(__file__), ".."))
 
 OWNER = re.compile(r"(?:pub )?(?:impl(?:<.*?>)? (?:([\w:]+)(?:<.*>)? for )?(\w+)|trait (\w+))")
 FUNCTION = re.compile(r"( *)(pub(?:\(crate\))? )?(?:const )?(extern \"C\" )?fn (\w+)")
-# What crates.txt says of a crate begins with its name.
+# A crate's line in crates.txt begins with its name.
 CRATE = re.compile(r"(\w+)( staticlib)?:")
 CLAUSE = re.compile(r"\s+(ensures|requires) (\w+)?")
 GHOST = re.compile(r"\s+ghost (\w+)")
@@ -24,9 +24,9 @@ class Function(NamedTuple):
     premises: set
     is_public: bool
     is_test: bool
-    # Declared by a trait, so that impls alone have a body.
+    # Declared by a trait, so only impls have a body.
     is_declared: bool
-    # The file and the line, from 0, where it stands.
+    # Its file, and its line there, counted from 0.
     file: str
     at: int
 
@@ -37,12 +37,12 @@ class Function(NamedTuple):
 class Crate(NamedTuple):
     name: str
     functions: list
-    # For each type or trait what its ghost items are called.
+    # The names of the ghost items of each type or trait.
     ghosts: dict
-    # Pairs of a trait and a type that has it.
+    # Pairs of a trait and a type that has it. The trait is None for other impls, and for a trait itself.
     impls: set
     modules: list
-    # The names that its root gives out.
+    # The names that its root exports.
     exports: set
 
 
@@ -52,7 +52,7 @@ def text_of(path):
 
 
 def files_below(folder, *endings):
-    """The files of a folder of the repository, by their path in it, in one order."""
+    """Returns the files below a folder that have one of these endings, as paths from the top, always in the same order."""
     found = []
     for at, folders, names in os.walk(os.path.join(TOP, folder)):
         folders[:] = sorted(name for name in folders if name != "out")
@@ -62,13 +62,13 @@ def files_below(folder, *endings):
 
 
 def module_of(path):
-    """The module of a file of some src/: that of lib.rt and main.rt has no name."""
+    """Returns the module of a file below some src/. For lib.rt and main.rt its name is empty."""
     name = path.split("/src/")[1].removesuffix(".rt").replace("/", "::")
     return "" if name in ("lib", "main") else name
 
 
 def exports_of(crate):
-    """The names that the root of a crate gives out, and the modules that it opens."""
+    """Returns the names that a crate's root exports, and its public modules."""
     root = f"crates/{crate}/src/lib.rt"
     text = text_of(root) if os.path.exists(os.path.join(TOP, root)) else ""
     used = " ".join(re.findall(r"^pub use (?!aec_)([^;]*);", text, re.M))
@@ -76,7 +76,7 @@ def exports_of(crate):
 
 
 def functions_in(path, crate, found):
-    """Adds the functions of a file to what was found, its ghost items and impls to the crate."""
+    """Adds the functions of a file to `found`, and its ghost items and impls to the crate."""
     names, opened = exports_of(crate.name)
     module, owner, is_trait, is_test, clauses = module_of(path), "", False, False, {}
     for number, line in enumerate(text_of(path).splitlines()):
@@ -110,12 +110,12 @@ def crate_of(name):
 
 
 def all_crates():
-    """The crates of the repository by name, lowest first."""
+    """Returns the crates of the repository by name, lowest first."""
     lines = map(CRATE.match, text_of("crates.txt").splitlines())
     return {line[1]: crate_of(line[1]) for line in lines if line}
 
 
 def edits_of(crate, folders=("must-fail", "more-must-fail")):
-    """The names of the must-fail edits of a crate."""
+    """Returns the names of the must-fail edits of a crate."""
     paths = [it for folder in folders for it in files_below(f"crates/{crate}/{folder}", ".edit")]
     return [os.path.basename(path).removesuffix(".edit") for path in paths]

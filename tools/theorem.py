@@ -1,14 +1,13 @@
 #!/usr/bin/env python3
-"""All that a reader of a theorem has to believe: theorem.py [--check | CRATE::FUNCTION [CLAUSE..]]
+"""Prints all that a reader of a theorem has to believe: theorem.py [--check | CRATE::FUNCTION [CLAUSE..]]
 
-Prints the contract of a function, or some of its clauses, and each definition that it cites, down
-to the words of the standard library: each once, with its sentence, what is cited before what cites
-it. Names are resolved as the checker does, by the `use` lines of the file that they stand in. A
-type is cited with what contracts see of it (its Model), a trait with its whole contract.
+Prints the contract of a function, or some of its clauses, and each definition that it cites, down to the words of the standard
+library. Each definition appears once, with its sentence, after the definitions that it cites. Names are resolved as the checker
+does it, by the `use` lines of their file. A type is printed with the part that contracts see of it (its Model), a trait with its
+whole contract.
 
-With no function: writes the pages of docs/theorems/, and prints how many lines each has. With
---check it writes none, and fails where one isn't what would be written. It also fails where a cited
-definition has no sentence.
+Without a function, writes the pages of docs/theorems/, and prints how many lines each has. With --check no page is written, and
+the script fails if a page differs from what it would write. In both cases it fails if a cited definition has no sentence.
 """
 
 import os
@@ -20,7 +19,7 @@ from sources import OWNER, TOP, files_below, text_of
 
 FOLDER = "docs/theorems"
 NOTE = "<!-- Written by `make theorem`. -->\n\n"
-# For each page the crate, the function, its clauses where not all are meant, and what it says.
+# For each page: the crate, the function, its clauses (none means all), and the title.
 PAGES = {
     "write_edited": ("aec_edit", "write_edited", [], "The headline, over any lawful codec"),
     "decode_edited": ("aec_engine", "decode_edited", [], "The headline, over our own coder"),
@@ -33,21 +32,21 @@ DEFINITION = re.compile(r"(?:(?:abbrev|unfoldable|pub|data|record|def) )+(\S+)")
 MAKER = re.compile(r"  (\w+) :")
 DECLARED = re.compile(r"pub (?:struct|enum|trait) (\w+)")
 CLAUSE = re.compile(r" *(ensures|requires) ?(\w*)")
-# A name or a sign; what stands behind a point is the field of something.
+# A name or a sign. A name after a point is a field, and is left out.
 TOKEN = re.compile(r"(?<![.\w])[^\W\d]\w*|[^\s\w(){},;.\[\]]+ℤ?")
 FENCE = "\n```"
 LIBRARY = "`rt lemma WORD` prints what each is."
-# The words of a device's bytes, and what they leave open.
+# The module of words about a device's bytes, and what they leave open.
 KNOWN_BYTES = "std.specs.Io.KnownBytes"
 UNKNOWN = "`Appends` and `Keeps` say nothing of unknown bytes. Those of a device over memory are known."
 
 
 class Item(NamedTuple):
     path: str
-    # The line where it stands.
+    # Its first line, counted from 0.
     at: int
     name: str
-    # Its sentence, and the lines of its text.
+    # The lines of its sentence, and those of its text.
     words: list
     lines: list
 
@@ -63,7 +62,7 @@ class Word(NamedTuple):
 
 
 def block_from(lines, start):
-    """The lines of a block of Rattle's from its first line up to its closing brace."""
+    """Returns the lines of a block of Rattle, from its first line to its closing brace."""
     if lines[start].endswith(";") or lines[start].endswith("}"):
         return [lines[start]]
     end = next(i for i in range(start, len(lines)) if lines[i].startswith("}"))
@@ -71,7 +70,7 @@ def block_from(lines, start):
 
 
 def words_above(lines, start, mark):
-    """The comment that stands right above a line, attributes aside."""
+    """Returns the comment directly above a line. Attributes between them are skipped."""
     words, at = [], start - 1
     while at >= 0 and lines[at].strip().startswith((mark, "#[")):
         words += [lines[at]] if lines[at].strip().startswith(mark) else []
@@ -124,7 +123,7 @@ class File:
 
 
 class Library:
-    """The files of all crates, read when they are asked for."""
+    """The files of all crates. Each is read when it is first needed."""
 
     def __init__(self):
         self.files = {}
@@ -135,14 +134,14 @@ class Library:
         return self.files[path]
 
     def declared(self, crate, name):
-        """A type or trait of a crate, wherever it stands there."""
+        """Returns the type or trait of a crate with this name, from any of its files; None if there is none."""
         for path in files_below(f"crates/{crate}/src", ".rt"):
             if name in self.file(path).items:
                 return self.file(path).items[name]
         return None
 
     def meaning(self, file, name):
-        """What a name in a file means, if anything: an item, or a word of the standard library."""
+        """Returns what a name in a file means: an item, a word of the standard library, or None."""
         if name in file.items:
             return file.items[name]
         if name not in file.scope:
@@ -162,7 +161,7 @@ class Library:
         return self.file(f"crates/{crate}/{'/'.join(parts)}.antt").items[true]
 
     def cited(self, file, lines):
-        """What lines of a file cite, in their order."""
+        """Yields what the lines of a file cite, in their order."""
         signs = {part: name for name in file.scope for part in name.split("◌") if "◌" in name}
         for token in tokens_of(lines):
             meaning = self.meaning(file, signs.get(token, token))
@@ -170,7 +169,7 @@ class Library:
                 yield meaning
 
     def renamed(self, items):
-        """The names in items that stand for another one, by the `use` lines of their files."""
+        """Returns pairs of a name in these items and its true name, where a `use` line of the file renames it."""
         pairs = {}
         for item in items:
             scope = self.file(item.path).scope
@@ -182,13 +181,13 @@ class Library:
 
 
 def tokens_of(lines):
-    """The names and signs in lines, comments aside."""
+    """Returns the names and signs in lines, without comments."""
     text = "\n".join(line for line in lines if not line.strip().startswith(("--", "///")))
     return TOKEN.findall(text)
 
 
 def contract_of(crate, name, clauses):
-    """The contract of a public function, or what it requires and the clauses that are named."""
+    """Returns the contract of a public function. With `clauses`, returns only its requires clauses and those clauses."""
     owner, _, function = name.rpartition("::")
     for path in files_below(f"crates/{crate}/src", ".rt"):
         lines, at = text_of(path).split("\n"), ""
@@ -212,7 +211,7 @@ def kept_clauses(lines, clauses):
 
 
 def gather(library, item, found, words):
-    """Adds an item to what was found, with the keys of what it cites, and all that this cites."""
+    """Adds an item to `found`, with the keys of the items that it cites, and then these items in the same way."""
     below = found.setdefault(item.key(), (item, set()))[1]
     for meaning in library.cited(library.file(item.path), item.lines):
         if isinstance(meaning, Word):
@@ -224,7 +223,7 @@ def gather(library, item, found, words):
 
 
 def run_in(path, left, found):
-    """The keys of a file that can come now, each after what it cites, and how many of it wait."""
+    """Returns how many keys of a file must still wait, and those that can come now, each after the keys that it cites."""
     run = []
     for key in [key for key in left if key[0] == path] * 2:
         if key not in run and found[key][1].isdisjoint(set(left) - set(run)):
@@ -233,7 +232,7 @@ def run_in(path, left, found):
 
 
 def in_order(found):
-    """The items, what is cited before what cites it; those of one file together where they can."""
+    """Returns the items, each after those that it cites. Items of one file are together if possible."""
     order, left = [], sorted(found)
     while left:
         runs = [run_in(path, left, found) for path in sorted({key[0] for key in left})]
@@ -244,7 +243,7 @@ def in_order(found):
 
 
 def sections_of(items):
-    """Items as texts, of one file after the other with the file over them."""
+    """Returns the items as sections of a page: a section for each run of items of one file, below the name of the file."""
     sections, last = [], None
     for item in items:
         text = "\n".join(item.words + item.lines)
@@ -268,7 +267,7 @@ def counts_of(contract, cited):
 
 
 def page_of(crate, name, clauses, title):
-    """The page of a theorem, how many lines it has, and which definitions have no sentence."""
+    """Returns the page of a theorem, the counts of its lines, and the names of items without a sentence."""
     found, words, library = {}, {}, Library()
     contract = contract_of(crate, name, clauses)
     gather(library, contract, found, words)
@@ -294,7 +293,7 @@ def page_of(crate, name, clauses, title):
 
 
 def write_pages(is_check):
-    """What is wrong with the pages, which are written where they are not only checked."""
+    """Writes the pages, unless `is_check`. Returns the messages of what is wrong with them."""
     wrongs = []
     os.makedirs(os.path.join(TOP, FOLDER), exist_ok=True)
     for file, theorem in PAGES.items():

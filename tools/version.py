@@ -32,7 +32,7 @@ PLACES = [
 
 
 def version():
-    """The version, three numbers with points between them."""
+    """Returns the version, three numbers with points between them."""
     with open(os.path.join(TOP, "VERSION"), encoding="utf-8") as file:
         text = file.read().strip()
     if not re.fullmatch(r"\d+\.\d\d?\.\d\d?", text):
@@ -41,29 +41,29 @@ def version():
 
 
 def number_of(points):
-    """The version as one number: 10,000, 100 and 1 times its three numbers."""
+    """Returns the version as one number: 10,000, 100 and 1 times its three numbers."""
     major, minor, patch = map(int, points.split("."))
     return 10000 * major + 100 * minor + patch
 
 
 def filled(around, points):
-    """The text of a place with a version in it."""
+    """Returns the text of a place with a version in it."""
     return around.replace("POINTS", points).replace("NUMBER", str(number_of(points)))
 
 
 def pattern_of(around):
-    """A pattern for the text of a place with any version in it."""
+    """Returns a pattern for the text of a place with any version in it."""
     return re.escape(around).replace("POINTS", r"\d+\.\d+\.\d+").replace("NUMBER", r"\d+")
 
 
 def updated(text, around, points):
-    """A file's text with the version in one of its places. None if the place isn't there exactly once."""
+    """Returns a file's text with the version in one of its places. None if the place isn't there exactly once."""
     found = re.findall(pattern_of(around), text)
     return text.replace(found[0], filled(around, points)) if len(found) == 1 else None
 
 
 def differences(is_written):
-    """A line for each place that differs or is missing. If `is_written`, each place that differs is corrected."""
+    """Yields a line for each place that differs or is missing. If `is_written`, each place that differs is corrected instead."""
     points = version()
     for path, around in PLACES:
         with open(os.path.join(TOP, path), encoding="utf-8") as file:

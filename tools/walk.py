@@ -1,17 +1,15 @@
 #!/usr/bin/env python3
-"""How long the walk through the house is: walk.py [--check]
+"""Counts the calls from `main` of crates/aec down to the buffer of bits: walk.py [--check]
 
-Follows the calls in the sources of the crates from `main` of crates/aec down to the buffer of bits,
-for a coded sample, a decoded one and a line of a script, and prints the functions on the way, how
-many calls and files that are, and then for each crate the mean number of clauses a function.
+Follows the calls in the sources of the crates for a coded sample, a decoded sample and a line of a script. Prints for each the
+functions on the way and the numbers of calls and files, and then for each library the mean number of clauses of a function.
 
-A way is the shortest chain of calls that passes the functions named in WAYS, which are those that a
-sample of a whole block really passes. A call is found by its name: a method's on a type or trait
-that the file names, a free function's in its module or by a `use`. From a trait's function the way
-goes on in those of its impls.
+A way is the shortest chain of calls that passes the functions named in WAYS. A sample of a whole block really passes these. A
+call is found by its name: a method by a type or trait that the file names; a function after a path by the last part of the path;
+a free function without a path by its file or a `use`. After a function that a trait declares, the way continues in the trait's
+impls.
 
-Fails where a way isn't there, and with --check, which prints no way, where one has more calls or
-files than its bounds.
+Fails if a way doesn't exist, or has more calls or files than its bounds. With --check only failures and their number are printed.
 """
 
 import re
@@ -24,7 +22,7 @@ from sources import all_crates, text_of
 
 class Way(NamedTuple):
     what: str
-    # What it passes, as the last parts of a path.
+    # The functions that it passes, each by the last parts of its path.
     through: list
     calls: int
     files: int
@@ -64,7 +62,8 @@ def key(one):
 
 
 def bodies(path, functions):
-    """For each function of a file, the text from its name up to the next function, without comments, contract and strings."""
+    """Yields each function of a file with its text: from its second line to the next function, without comments, contract and
+    strings."""
     lines = text_of(path).split("\n")
     starts = sorted(one.at for one in functions) + [len(lines)]
     for one in functions:
@@ -75,7 +74,7 @@ def bodies(path, functions):
 
 
 class House:
-    """The functions of the crates, and which calls which."""
+    """The functions of the crates, and which functions each one calls."""
 
     def __init__(self):
         crates = all_crates()
@@ -106,7 +105,7 @@ class House:
                     yield one
 
     def is_field(self, one):
-        """Whether a type's methods are called by files that don't name it."""
+        """Returns whether a function's type has methods that are called in files that don't name the type."""
         return one.owner in ("BitBuf", "BitReader", "Coded", "StreamReader", "StreamCoder")
 
     def is_used(self, path, one):
@@ -125,7 +124,7 @@ class House:
         return found[0]
 
     def chain(self, start, end):
-        """The shortest chain of calls from one function to another."""
+        """Returns the shortest chain of calls from one function to another, empty if there is none."""
         came, left = {key(start): None}, deque([start])
         while left and key(end) not in came:
             one = left.popleft()

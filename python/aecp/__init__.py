@@ -1,4 +1,4 @@
-r"""Lossless coding of samples as CCSDS 121.0-B-3 has it, over the proved library libaecp.so.
+r"""Lossless coding of integer samples in the format CCSDS 121.0-B-3, with the proved library libaecp.so.
 
     >>> import aecp
     >>> options = aecp.Options(bits=16)
@@ -8,8 +8,8 @@ r"""Lossless coding of samples as CCSDS 121.0-B-3 has it, over the proved librar
     >>> coded, count = aecp.edit(coded, len(samples), "insert 100 7 8 9\nremove 0 5\n", options)
 
 A coded stream contains neither its options nor its sample count. Keep both with the stream: no call is sure to notice wrong ones.
-`encode`, `decode_bytes` and `decode_range_bytes` need the standard library alone; `decode` and `decode_range` return numpy arrays.
-Several threads may call at once, and their calls run in parallel. While a call runs, no thread may change the memory that it was given.
+`encode`, `decode_bytes` and `decode_range_bytes` need only the standard library; `decode` and `decode_range` return numpy arrays.
+Several threads may call at once, and their calls run in parallel. While a call runs, no thread may change the memory passed to it.
 """
 
 import os
@@ -24,7 +24,7 @@ try:
     from aecp.streams import Decoder, Encoder, edit
     from aecp.workspace import Workspace
 except ImportError:
-    # The command says in a line of its own that there is no library, and gives help without one.
+    # The command aecp prints a line of its own if there is no library, and gives help without one.
     if sys.argv[:1] != ["-m"] and os.path.basename(sys.argv[0]) != "aecp":
         raise
 

@@ -1,4 +1,4 @@
-"""python -m aecp: the command aecp."""
+"""Runs the command aecp: python -m aecp."""
 
 from aecp.cli import main
 

@@ -17,14 +17,15 @@ if TYPE_CHECKING:
 else:
     Array = Writable = Any
 
-SMALL = 1 << 20  # bytes that take no time to clear
-ORDERS = "@=<>!"  # what the format of a buffer may begin with: the order of bytes
+SMALL = 1 << 20  # bytes; to clear fewer takes no time
+ORDERS = "@=<>!"  # the byte orders with which the format of a buffer may begin
 BYTES = frozenset(order + code for order in ("", *ORDERS) for code in "Bbc")  # formats of buffers of bytes
 KINDS = {**dict.fromkeys("bhilqn", "int"), **dict.fromkeys("BHILQN", "uint"), **dict.fromkeys("efdg", "float")}
 
 
 def numpy_if_there() -> Any:
-    """numpy, None where it isn't installed. To load it takes longer than most calls, so it is loaded where an array is needed."""
+    """Returns numpy, or None if it isn't installed. Loading it takes longer than most calls, so it is loaded only when it is
+    needed."""
     try:
         import numpy
     except ImportError:
@@ -33,12 +34,12 @@ def numpy_if_there() -> Any:
 
 
 def numpy_type(name: str) -> Any:
-    """A type of numpy, for isinstance. Until something has loaded numpy, nothing is of its types."""
+    """Returns a type of numpy, for isinstance. Before numpy is loaded, returns (), since no object has such a type then."""
     return getattr(sys.modules.get("numpy"), name, ())
 
 
 def view_of(data: Any, name: str, taken: str) -> memoryview:
-    """The memory of an argument. TypeError for an argument without a buffer, with its name and what it must be."""
+    """Returns the memory of an argument. Raises TypeError, with its name and what it must be, if the argument has no buffer."""
     try:
         return memoryview(data)
     except TypeError:
@@ -46,18 +47,18 @@ def view_of(data: Any, name: str, taken: str) -> memoryview:
 
 
 def item_type(view: memoryview) -> str:
-    """The type of a buffer's items as numpy names it, such as uint16; the buffer's format if that is no number."""
+    """Returns the type of a buffer's items as numpy names it, such as uint16, or the buffer's format if they aren't numbers."""
     kind = KINDS.get(view.format.lstrip(ORDERS))
     return f"format {view.format!r}" if kind is None else f"{kind}{8 * view.itemsize}"
 
 
 def is_big_endian(view: memoryview) -> bool:
-    """Whether the items of a buffer have their most significant byte first."""
+    """Returns whether a buffer's items have their most significant byte first."""
     return view.format[0] in ">!" or view.format[0] != "<" and sys.byteorder == "big"
 
 
 class Source:
-    """The address and the size of the bytes of an argument, which it holds on to."""
+    """The address and the size of an argument's bytes. It keeps these bytes alive."""
 
     def __init__(self, data: Any, name: str, taken: str = "bytes") -> None:
         self.held: Any
@@ -85,7 +86,7 @@ class Source:
 
 
 class Target:
-    """The address and the size of memory that a call fills, which it holds on to."""
+    """The address and the size of memory that a call fills. It keeps this memory alive."""
 
     def __init__(self, data: Any) -> None:
         with view_of(data, "out", "memory that can be written") as view:
@@ -97,7 +98,7 @@ class Target:
 
 
 def uncleared() -> Optional[Any]:
-    """CPython's call for a bytearray whose bytes are whatever was in that memory; None in other interpreters."""
+    """Returns CPython's call for a bytearray that isn't cleared, or None in other interpreters."""
     python = getattr(ctypes, "pythonapi", None)
     call = getattr(python, "PyByteArray_FromStringAndSize", None)
     if call is not None:
@@ -109,11 +110,12 @@ NEW_BYTES = uncleared()
 
 
 def room_for(size: int) -> bytearray:
-    """A bytearray of so many bytes. The system gives no memory until a byte is written, so a count that is too great costs none."""
+    """Returns a bytearray of so many bytes. Raises MemoryError if they can't be allocated. Memory is used only when a byte is
+    written, so a count that is too great costs none."""
     if NEW_BYTES is None or size < SMALL:
         return bytearray(size)
     try:
-        mmap.mmap(-1, size).close()  # whether so much can be had at all: the call itself would print its failure
+        mmap.mmap(-1, size).close()  # fails if so much can't be allocated: the call itself would print an error
     except (OSError, OverflowError, ValueError):
         raise MemoryError(f"{size} bytes can't be allocated") from None
     made = NEW_BYTES(None, size)

@@ -12,18 +12,20 @@ from aecp.library import LIBRARY, Reply, c_options, text_of
 from aecp.options import Options, whole
 
 ALL = 2**64 - 1
-MOST_A_BYTE = 64 * 64 * 8  # samples that a coded byte can stand for
-GUESS = 8  # bytes of samples for a coded byte, where nobody says how many samples there are
+MOST_A_BYTE = 64 * 64 * 8  # the most samples that a coded byte can mean
+GUESS = 8  # bytes of samples for a coded byte, if no count is given
 
 
 def encode(samples: Any, options: Options) -> bytes:
-    """The code of samples, as bytes.
+    """Codes samples. Returns the stream as bytes.
 
-    samples: stored samples as bytes, or in a buffer of bytes (bytes at the end that make up no whole sample are dropped); or
-    integers of the size and sign of options.dtype, in either byte order: a numpy array of any shape, an array of the module array,
-    or another buffer of them.
-    Raises OptionsRefused, SampleRefused, LimitPassed, NoMemory; TypeError for anything else, such as a list, floats, integers of
-    another size or sign, and an array with a mask.
+    samples: stored samples, as bytes or a contiguous buffer of bytes (bytes at the end that make no whole sample are dropped); or
+    integers of the size and sign of options.dtype, in either byte order: a numpy array of any shape, an array of the module array, or
+    another contiguous buffer.
+
+    Raises OptionsRefused; SampleRefused if a sample is out of range; LimitPassed for more than 2^32 samples; NoMemory, or another
+    MemoryError, if an allocation fails; TypeError for other samples, such as a list, floats, integers of another size or sign, or a
+    masked array; ValueError for a numpy array if samples have three bytes.
     """
     given, source = c_options(options), Source(native(samples, options), "samples")
     most = LIBRARY.aecp_bound(given, source.size // options.storage)
@@ -31,7 +33,7 @@ def encode(samples: Any, options: Options) -> bytes:
 
 
 def native(samples: Any, options: Options) -> Any:
-    """Samples as encode takes them, in memory as the options store them. TypeError for what encode doesn't take."""
+    """Returns memory with the samples as the options store them, for samples as encode takes them. Raises TypeError for others."""
     if type(samples) is bytes:
         return samples
     if isinstance(samples, numpy_type("ndarray")):
@@ -52,7 +54,7 @@ def native(samples: Any, options: Options) -> Any:
 
 
 def native_array(samples: Any, options: Options) -> Any:
-    """A numpy array as the options store its samples, which is the array itself if it is stored so."""
+    """Returns a numpy array with the samples as the options store them: the array itself if they are stored so."""
     refuse_mask(samples)
     given, wanted = samples.dtype.str, options.dtype
     if given[1:] == wanted[1:] and given[0] in ("|", wanted[0]) and samples.ndim and samples.flags.c_contiguous:
@@ -64,35 +66,38 @@ def native_array(samples: Any, options: Options) -> Any:
 
 
 def refuse_mask(samples: Any) -> None:
-    """Raises TypeError for an array with a mask."""
+    """Raises TypeError for a masked array."""
     array_type = numpy_type("ndarray")
     if type(samples) is not array_type and isinstance(samples, array_type) and isinstance(samples, needed_numpy().ma.MaskedArray):
         raise TypeError("an array with a mask can't be coded: use its filled()")
 
 
 def sample_type(options: Options) -> str:
-    """The type of stored samples, such as uint16. No array has the type uint24."""
+    """Returns the type of stored samples, such as uint16. No array has the type uint24."""
     return f"{'int' if options.signed else 'uint'}{8 * options.storage}"
 
 
 def wrong_samples(options: Options, given: str) -> TypeError:
-    """The exception for samples that encode doesn't take."""
+    """Returns the exception for samples that encode doesn't take."""
     wanted = "bytes" if options.storage == 3 else f"bytes, or an array of {sample_type(options)} (options.dtype)"
     return TypeError(f"samples must be {wanted}, not {given}")
 
 
 def decode(coded: Any, count: Optional[int], options: Options, out: Optional[Array] = None) -> Array:
-    """The first `count` samples of coded bytes, as a numpy array of one dimension with the dtype of the options; with count None
-    all, filler of the last block too. Raises as decode_bytes does; ImportError where there is no numpy.
+    """Decodes samples. Returns a numpy array of one dimension, with the dtype options.dtype.
 
-    out: an array with the dtype of the options, in C order, to be filled from its front. The result is then a view of it.
+    coded, count: as for decode_bytes.
+    out: a C-contiguous numpy array of any shape with the dtype options.dtype. It is filled from its start, and the result shares its
+    memory. After a fault it is unchanged.
+
+    Raises what decode_bytes raises; TypeError for another `out`; ImportError without numpy; ValueError if samples have three bytes.
     """
     return array_of(decode_bytes(coded, count, options, of_dtype(out, options)), options)
 
 
 def decode_range(coded: Any, count: Optional[int], first: int, length: int, options: Options, out: Optional[Array] = None) -> Array:
-    """`length` of the first `count` samples, from place `first` on, as decode returns them. The whole stream is judged. Raises as
-    decode does, and RangeRefused."""
+    """Decodes `length` of the first `count` samples, from sample `first` on, counted from 0. Returns an array as decode does. Also
+    checks the samples outside the range. Raises what decode raises, and RangeRefused if the range is outside the samples."""
     return array_of(decode_range_bytes(coded, count, first, length, options, of_dtype(out, options)), options)
 
 
@@ -105,12 +110,16 @@ def decode_bytes(coded: Any, count: Optional[int], options: Options, out: Writab
 
 
 def decode_bytes(coded: Any, count: Optional[int], options: Options, out: Optional[Writable] = None) -> Union[bytearray, memoryview]:
-    """What decode returns, as a bytearray of stored samples, or as a memoryview of the front of `out`.
+    """Decodes samples. Returns a bytearray of stored samples, options.storage bytes each; with `out`, a memoryview of the filled part of
+    `out`.
 
-    coded: bytes, or what has a buffer of bytes that lie one after the other, also one that can't be written.
-    out: memory that can be written, such as a bytearray, to be filled from its front. A refused call leaves it as it was.
-    Raises OptionsRefused, StreamRefused, LimitPassed, NoMemory; a Fault with the number 18 where `out` is too short; TypeError for
-    what has no such buffer. 1.5 MB can stand for 2^32 samples: give a count.
+    coded: the stream, as bytes or another object with a contiguous buffer, also a read-only one.
+    count: how many samples, from the first on. None means all, with the filler of the last block; 1.5 MB can decode to 2^32 samples.
+    out: contiguous memory that can be written, such as a bytearray. It is filled from its start. After a fault it is unchanged.
+
+    Raises OptionsRefused; StreamRefused if the stream is cut or damaged; LimitPassed for more than 2^32 samples or 2^40 coded bytes;
+    NoMemory, or another MemoryError, if an allocation fails; a Fault with the number 18 if `out` is too short; TypeError for objects
+    without such a buffer; ValueError if `count` isn't 0 to 2^64 - 1.
     """
     source, before = Source(coded, "coded"), [c_options(options), number_of(count)]
     if out is not None:
@@ -129,7 +138,7 @@ def decode_range_bytes(coded: Any, count: Optional[int], first: int, length: int
 def decode_range_bytes(
     coded: Any, count: Optional[int], first: int, length: int, options: Options, out: Optional[Writable] = None
 ) -> Union[bytearray, memoryview]:
-    """What decode_range returns, as decode_bytes returns it."""
+    """Decodes a range as decode_range does. Returns stored samples, and takes `out`, as decode_bytes does."""
     source = Source(coded, "coded")
     before = [c_options(options), number_of(count), place(first, "first"), place(length, "length")]
     if out is not None:
@@ -138,7 +147,7 @@ def decode_range_bytes(
 
 
 def place(number: int, name: str) -> int:
-    """A number for C. ValueError where it doesn't fit 64 bits."""
+    """Returns a number for C. Raises TypeError if it isn't a whole number, ValueError if it doesn't fit 64 bits."""
     number = whole(number, name)
     if not 0 <= number < 2**64:
         raise ValueError(f"{name} must be 0 to 2^64 - 1")
@@ -146,25 +155,26 @@ def place(number: int, name: str) -> int:
 
 
 def number_of(count: Optional[int]) -> int:
-    """A count for C. The greatest number of 64 bits, which is none there, is refused as the one below it is."""
+    """Returns a count for C, where 2^64 - 1 means all samples. So None becomes 2^64 - 1, and 2^64 - 1 becomes 2^64 - 2, which is too
+    many."""
     return ALL if count is None else min(place(count, "count"), ALL - 1)
 
 
 def most_stored(source: Source, count: Optional[int], options: Options) -> int:
-    """Room for so many samples: no more than bytes can stand for. Without a count it is a guess."""
+    """Returns the bytes of so many stored samples, but no more than the coded bytes can mean. Without a count it returns a guess."""
     if count is None:
         return GUESS * source.size
     return min(count, MOST_A_BYTE * source.size) * options.storage
 
 
 def filled(name: str, before: list[Any], source: Source, room: int) -> bytearray:
-    """What a call fills a bytearray with. Where it takes more room than there is, the call is made again."""
+    """Makes a call that fills a bytearray, and returns the bytearray. If `room` bytes are too few, makes the call again with more."""
     reply, call = Reply(), getattr(LIBRARY, name)
     while True:
         try:
             out = room_for(room)
         except MemoryError:
-            # The stream is judged before so much memory is asked for again.
+            # The call with an empty buffer checks the stream, and returns the length that it really needs.
             out = bytearray()
         front = ctypes.c_char.from_buffer(out) if out else None
         at = None if front is None else ctypes.addressof(front)
@@ -182,7 +192,7 @@ def filled(name: str, before: list[Any], source: Source, room: int) -> bytearray
 
 
 def put(name: str, before: list[Any], source: Source, out: Any) -> memoryview:
-    """The front of `out` that a call fills."""
+    """Makes a call that fills `out`. Returns the part of `out` that was filled."""
     reply, target = Reply(), Target(out)
     number = getattr(LIBRARY, name)(*before, source.at, source.size, target.at, target.size, reply)
     if number:
@@ -192,7 +202,8 @@ def put(name: str, before: list[Any], source: Source, out: Any) -> memoryview:
 
 
 def of_dtype(out: Any, options: Options) -> Any:
-    """An array to be filled. TypeError where its dtype isn't that of the options, or `options` isn't Options."""
+    """Returns `out`, which may be None. Raises TypeError if it isn't a C-contiguous array of options.dtype, or `options` isn't
+    Options."""
     if out is None:
         return None
     c_options(options)
@@ -202,13 +213,13 @@ def of_dtype(out: Any, options: Options) -> Any:
 
 
 def array_of(stored: Any, options: Options) -> Array:
-    """Stored samples as an array over the same memory."""
+    """Returns stored samples as an array that shares their memory."""
     made: Array = needed_numpy().frombuffer(stored, options.dtype)
     return made
 
 
 def needed_numpy() -> Any:
-    """numpy. ImportError where it isn't installed."""
+    """Returns numpy. Raises ImportError if it isn't installed."""
     numpy = numpy_if_there()
     if numpy is None:
         raise ImportError("arrays need numpy: use decode_bytes, decode_range_bytes or next_bytes")

@@ -1,4 +1,4 @@
-"""check: every kept stream beside its note, with nothing written."""
+"""The verb check: compares every kept stream with its note. Writes nothing."""
 
 from __future__ import annotations
 
@@ -14,7 +14,7 @@ from aecp.pairs import NOTE, OLD_NOTE, STREAM, Damaged, Pair, read_if_there
 
 
 class Verdict(NamedTuple):
-    """What is wrong with a kept file: `kind` is empty where nothing is."""
+    """What is wrong with a kept file. `kind` is empty if nothing is."""
 
     path: str
     kind: str = ""
@@ -22,7 +22,8 @@ class Verdict(NamedTuple):
 
 
 def kept_in(paths: list[str], complaints: list[Outcome]) -> Iterator[str]:
-    """The streams that are named, and those in folders that are named, each once; of a lone note the name of its stream."""
+    """Yields the paths of the streams that `paths` name, and of those in folders that they name, each once. For a lone note,
+    yields the path that its stream would have."""
     seen: set[str] = set()
     for path in paths:
         if os.path.isdir(path):
@@ -39,7 +40,7 @@ def kept_in(paths: list[str], complaints: list[Outcome]) -> Iterator[str]:
 
 
 def stream_of(path: str) -> str:
-    """The stream that a name stands for: its own, that of its note, or that of an original."""
+    """Returns the path of the stream for its own path, for that of its note, or for that of an original."""
     for end in (NOTE, OLD_NOTE):
         if path.endswith(end):
             return path[: len(path) - len(end)] + STREAM
@@ -62,7 +63,7 @@ def check_all(paths: list[str]) -> list[Verdict]:
 
 
 def check(path: str) -> Verdict:
-    """Compares a stream and its samples with their sums."""
+    """Compares a stream and its samples with the sums of its note."""
     pair = Pair(path)
     try:
         opened = pair.open()
@@ -79,7 +80,7 @@ def check(path: str) -> Verdict:
 
 
 def judged(path: str, stream: bytes, note: Note) -> Verdict:
-    """Whether a stream that has its note's sum gives the samples of the note."""
+    """Returns the verdict on a stream that has its note's sum: whether it decodes to the samples of the note."""
     from aecp.editing import judge_samples
 
     try:
@@ -94,7 +95,7 @@ def judged(path: str, stream: bytes, note: Note) -> Verdict:
 
 
 def where_it_stops(pair: Pair) -> str:
-    """Where the decoding of a changed stream stops, in words."""
+    """Returns a text that says where the decoding of a changed stream stops."""
     stream: Optional[bytes] = read_if_there(pair.path)
     note = pair.note()
     if stream is None:

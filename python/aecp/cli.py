@@ -1,6 +1,6 @@
-"""The command aecp: its words, what each verb does, and how it ends.
+"""The command aecp: its words, its help, and how it ends.
 
-Status 0: all is done. 1: something was refused or is damaged. 2: the words are wrong.
+Status 0: all is done. 1: something was refused or is damaged. 2: the words are wrong. 128 plus the number of a signal: it was stopped.
 """
 
 from __future__ import annotations
@@ -15,20 +15,21 @@ from typing import Any, Callable, NoReturn, Optional
 
 from aecp import __version__
 
-ABOUT = """Keeps files of samples as coded streams (CCSDS 121.0-B-3), each beside a note with its options and sums. Kept streams can be
-checked, edited, and taken back to every earlier state bit for bit. `aecp VERB --help` has a page for each verb."""
+ABOUT = """Keeps files of samples as coded streams (CCSDS 121.0-B-3), each beside a note with its options,
+count and checksums. Kept streams can be checked, edited, and restored to every earlier state bit for bit. `aecp VERB --help` has a
+page for each verb. The status is 0 if all is done, 1 if something is refused or damaged, 2 for wrong arguments."""
 EXAMPLES = {
-    "keep": "aecp keep data -n 16 --include '*.raw'    codes each file of the folder data that is named so",
+    "keep": "aecp keep data -n 16 --include '*.raw'    codes the files of the folder data with such names",
     "back": "aecp back scan.raw.aec                    writes scan.raw",
     "check": "aecp check data                           reads every kept stream in data",
     "edit": "echo 'overwrite 20 1' | aecp edit scan.raw.aec -",
-    "undo": "aecp undo scan.raw.aec                    takes the last edit back",
+    "undo": "aecp undo scan.raw.aec                    undoes the last edit",
     "log": "aecp log scan.raw.aec                     what was done, and when",
-    "diff": "aecp diff old.aec new.aec > script        a script that makes old into new",
+    "diff": "aecp diff old.aec new.aec > script        a script that turns old into new",
     "pixels": "aecp pixels --shape 512x512 bad.csv > script",
     "info": "aecp info scan.raw.aec",
     "fit": "aecp fit scan.raw -n 16                   sizes with each block size and interval",
-    "rescue": "aecp rescue scan.raw.aec out.raw          the samples before the damage",
+    "rescue": "aecp rescue scan.raw.aec out.raw          the samples before the bit where decoding stops",
     "view": "aecp view scan.raw.aec out.png --width 512",
 }
 
@@ -37,9 +38,10 @@ STOPS = (signal.SIGINT, signal.SIGTERM, signal.SIGHUP)
 
 
 def add_options(parser: argparse.ArgumentParser, needs_bits: bool) -> None:
-    """The options of coding, as `aec` has them."""
+    """Adds the options of coding, which are those of `aec`."""
     group = parser.add_argument_group("options of coding")
-    group.add_argument("-n", dest="bits", type=int, required=needs_bits, metavar="N", help="bits of a sample, 1 to 32; a file doesn't contain it")
+    bits = "bits of a sample, 1 to 32; no file says how many"
+    group.add_argument("-n", dest="bits", type=int, required=needs_bits, metavar="N", help=bits)
     group.add_argument("-j", dest="block_size", type=int, metavar="J", help="samples in a block: 8, 16, 32 or 64 (16)")
     group.add_argument("-r", dest="interval", type=int, metavar="R", help="blocks in an interval, 1 to 4096 (128)")
     flags = {
@@ -47,8 +49,8 @@ def add_options(parser: argparse.ArgumentParser, needs_bits: bool) -> None:
         "-m": ("msb_first", "a sample has its most significant byte first"),
         "-3": ("three_byte", "samples of 17 to 24 bits have three bytes"),
         "-t": ("restricted", "the restricted set of code options, for at most 4 bits"),
-        "-p": ("pad", "fill each interval up to a byte"),
-        "--even-blocks": ("even_blocks", "J may be every even number from 8 to 64"),
+        "-p": ("pad", "fill each interval up to a byte boundary"),
+        "--even-blocks": ("even_blocks", "J may be any even number from 8 to 64"),
     }
     for word, (name, text) in flags.items():
         group.add_argument(word, dest=name, action="store_true", help=text)
@@ -65,36 +67,37 @@ def words() -> argparse.ArgumentParser:
     parser = argparse.ArgumentParser(prog="aecp", description=ABOUT)
     parser.add_argument("--version", action="version", version=f"aecp {__version__}")
     verbs = parser.add_subparsers(dest="verb", metavar="VERB", required=True)
-    keep = add_verb(verbs, "keep", "codes files and folders; each is decoded and compared before its pair gets its names")
+    keep = add_verb(verbs, "keep", "codes files and folders; decodes and compares each stream before FILE.aec and its note appear")
     keep.add_argument("paths", nargs="+", metavar="PATH", help="a file, or a folder with all below it")
     add_options(keep, needs_bits=True)
     keep.add_argument("--jobs", type=int, metavar="N", help="processes at once (one a core)")
-    keep.add_argument("--include", action="append", default=[], metavar="PATTERN", help="in folders only files of such names, as '*.raw'")
-    keep.add_argument("--exclude", action="append", default=[], metavar="PATTERN", help="in folders no files of such names")
-    keep.add_argument("--rehash", action="store_true", help="compare kept files by their sum, not by their time")
+    included = "in folders only files with such names, as '*.raw'; text files too"
+    keep.add_argument("--include", action="append", default=[], metavar="PATTERN", help=included)
+    keep.add_argument("--exclude", action="append", default=[], metavar="PATTERN", help="in folders no files with such names")
+    keep.add_argument("--rehash", action="store_true", help="compare kept files by SHA-256, even if size and time are the same")
     keep.add_argument("--anyway", action="store_true", help="keep a stream that is larger than its file")
     keep.add_argument("--remove", action="store_true", help="remove each original if its stream decodes to it")
-    back = add_verb(verbs, "back", "writes the samples of a kept stream, checked by their sum")
+    back = add_verb(verbs, "back", "writes the samples of a kept stream, and compares their checksum")
     back.add_argument("file", metavar="FILE.aec")
     back.add_argument("out", metavar="OUT", nargs="?", help="a new file (FILE); - is standard output")
     back.add_argument("--range", metavar="FIRST:LEN", help="LEN samples from place FIRST on, counted from 0")
-    check = add_verb(verbs, "check", "compares every kept stream and its samples with the sums of its note; writes nothing")
+    check = add_verb(verbs, "check", "compares each kept stream and its samples with the checksums in its note; writes nothing")
     check.add_argument("paths", nargs="+", metavar="PATH", help="a kept stream, or a folder with all below it")
     check.add_argument("--json", action="store_true", help="print the result as JSON")
     check.add_argument("--jobs", type=int, metavar="N", help="processes at once (one a core)")
-    edit = add_verb(verbs, "edit", "edits a kept stream by a script; `aecp undo` takes it back bit for bit")
+    edit = add_verb(verbs, "edit", "edits a kept stream by a script; `aecp undo` undoes it bit for bit")
     edit.add_argument("file", metavar="FILE.aec")
     edit.add_argument("script", metavar="SCRIPT", help="lines such as 'overwrite 20 1 2 3'; - is standard input")
-    edit.add_argument("--allow-empty", action="store_true", help="take lines with no value")
-    undo = add_verb(verbs, "undo", "takes the last edit back, bit for bit")
+    edit.add_argument("--allow-empty", action="store_true", help="accept lines without values")
+    undo = add_verb(verbs, "undo", "undoes the last edit, bit for bit")
     undo.add_argument("file", metavar="FILE.aec")
     log = add_verb(verbs, "log", "prints what was done to a kept stream, and when")
     log.add_argument("file", metavar="FILE.aec")
     log.add_argument("--script", type=int, metavar="K", help="print the script of the edit with this number")
-    diff = add_verb(verbs, "diff", "prints the script that makes the samples of A into those of B")
+    diff = add_verb(verbs, "diff", "prints a script that turns the samples of A into those of B")
     diff.add_argument("first", metavar="A.aec")
     diff.add_argument("second", metavar="B.aec")
-    pixels = add_verb(verbs, "pixels", "prints a table of row, column and value as a script, sorted by place")
+    pixels = add_verb(verbs, "pixels", "turns a table of row, column and value into a script, sorted by place, and prints it")
     pixels.add_argument("--shape", required=True, metavar="ROWSxCOLS")
     pixels.add_argument("--frame", type=int, default=0, metavar="K", help="the frame, counted from 0")
     pixels.add_argument("table", metavar="TABLE", help="CSV or TSV, rows and columns counted from 0; - is standard input")
@@ -102,26 +105,27 @@ def words() -> argparse.ArgumentParser:
     info.add_argument("paths", nargs="+", metavar="FILE.aec")
     fit = add_verb(verbs, "fit", "prints which options suit a file, and what an edit costs with them")
     fit.add_argument("file", metavar="FILE")
-    fit.add_argument("--all", action="store_true", help="try the whole file, not its first 4 MiB")
-    fit.add_argument("--stream", type=int, metavar="COUNT", help="FILE is a stream of so many samples: which options read it?")
+    fit.add_argument("--all", action="store_true", help="try the whole file, not only its first 4 MiB")
+    fit.add_argument("--stream", type=int, metavar="COUNT", help="FILE is a stream of COUNT samples: print the options that decode it")
     add_options(fit, needs_bits=False)
-    rescue = add_verb(verbs, "rescue", "writes the samples of a stream before its damage; says at which bit that is")
+    rescue = add_verb(verbs, "rescue", "writes the samples before the bit where decoding stops, and names it; some may be wrong")
     rescue.add_argument("file", metavar="STREAM")
-    rescue.add_argument("out", metavar="OUT", nargs="?", help="a new file; none: only say what there is")
-    rescue.add_argument("--count", type=int, metavar="N", help="the number of samples, where no note says it")
+    rescue.add_argument("out", metavar="OUT", nargs="?", help="a new file; without OUT, only reports")
+    rescue.add_argument("--count", type=int, metavar="N", help="the number of samples (else that of the note)")
     add_options(rescue, needs_bits=False)
     view = add_verb(verbs, "view", "draws samples in grey: OUT is named .png or .pgm")
     view.add_argument("file", metavar="FILE.aec")
     view.add_argument("out", metavar="OUT")
     view.add_argument("--width", type=int, required=True, metavar="W", help="samples of a row")
     view.add_argument("--range", metavar="FIRST:LEN", help="LEN samples from place FIRST on")
-    view.add_argument("--count", type=int, metavar="N", help="the number of samples, where no note says it")
+    view.add_argument("--count", type=int, metavar="N", help="the number of samples; only with -n, which ignores the note")
     add_options(view, needs_bits=False)
     return parser
 
 
 def parsed(argv: Optional[list[str]]) -> argparse.Namespace:
-    """What the words ask for. File names may also come after options, where argparse leaves them over."""
+    """Returns what the words ask for. File names may also come after options: argparse returns them as unknown, and they are added
+    here."""
     parser = words()
     asked, late = parser.parse_known_args(argv)
     if late and all(word == "-" or not word.startswith("-") for word in late):
@@ -137,7 +141,7 @@ def parsed(argv: Optional[list[str]]) -> argparse.Namespace:
 
 
 def interrupted(number: int, _: Any) -> NoReturn:
-    """Stops what is done. A second stop is too late: what was begun is taken back by then."""
+    """Raises KeyboardInterrupt at a signal to stop. Later signals are ignored: by then, what was begun is being undone."""
     for it in STOPS:
         signal.signal(it, signal.SIG_IGN)
     raise KeyboardInterrupt(number)
@@ -145,7 +149,7 @@ def interrupted(number: int, _: Any) -> NoReturn:
 
 @contextlib.contextmanager
 def quiet_pipes() -> Iterator[None]:
-    """Ends quietly where nobody reads the output any more."""
+    """Ends with status 1 and without a message if nobody reads the output any more."""
     try:
         yield
         sys.stdout.flush()
@@ -155,10 +159,10 @@ def quiet_pipes() -> Iterator[None]:
 
 
 def main(argv: Optional[list[str]] = None) -> NoReturn:
-    """Does what the words say, and ends with the status."""
+    """Does what the words ask for, and ends with the status."""
     asked = parsed(argv)
     for stop in STOPS:
-        if signal.getsignal(stop) is not signal.SIG_IGN:  # as under nohup
+        if signal.getsignal(stop) is not signal.SIG_IGN:  # as SIGHUP is under nohup
             signal.signal(stop, interrupted)
     try:
         from aecp import verbs
@@ -176,7 +180,7 @@ def main(argv: Optional[list[str]] = None) -> NoReturn:
 
 
 def complain(text: str, status: int = 1) -> int:
-    """Prints a line on standard error. The status."""
+    """Prints a line on standard error. Returns the status."""
     print(f"aecp: {text}", file=sys.stderr, flush=True)
     return status
 

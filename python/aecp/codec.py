@@ -1,9 +1,10 @@
-"""A codec for numcodecs, with which zarr 2 keeps its chunks: zarr.array(data, compressor=Aecp(16)). numcodecs finds it by its entry
-point as {"id": "aecp", "bits": 16}.
+"""A codec for numcodecs, for chunks of zarr 2: zarr.array(data, compressor=Aecp(16)). numcodecs finds it by its entry point as
+{"id": "aecp", "bits": 16}.
 
-A chunk is four bytes, least significant first, and then the stream. The lower 31 bits are the number of samples. The highest bit is
-set where the bytes of a sample have the other order than `msb_first` says: an array of big-endian integers is then coded as what it
-is. The options stand with the array's metadata."""
+A chunk is four bytes, least significant first, and then the stream. The lower 31 bits of the four bytes are the number of samples.
+The highest bit is set if the samples have another byte order than `msb_first` says. So the bytes of an array of big-endian integers
+are coded without change. The options are in the array's metadata.
+"""
 
 from __future__ import annotations
 
@@ -29,12 +30,17 @@ class Aecp(Codec):  # type: ignore[misc]
         self.usual = Options(bits, **options)
 
     def ordered(self, is_other: bool) -> Options:
-        """The options, or those with the other order of bytes."""
+        """Returns the options, with the other byte order if `is_other`."""
         return replace(self.usual, msb_first=self.usual.msb_first != is_other)
 
     def encode(self, buf: Any) -> bytes:
-        """The chunk of stored samples: an array of integers of the options' size, signed or not, or bytes. TypeError for an array of
-        anything else, and for one with a mask."""
+        """Codes a chunk. Returns it as bytes.
+
+        buf: stored samples as bytes or any array of one-byte items; or an array of integers of the options' size, signed or not.
+
+        Raises TypeError for other arrays and masked ones; ValueError if the bytes make no whole samples, or at least 2^31 samples; and
+        what aecp.encode raises.
+        """
         refuse_mask(buf)
         dtype = ensure_ndarray(buf).dtype
         is_integers = dtype.kind in "iu" and dtype.itemsize == self.usual.storage
@@ -50,12 +56,13 @@ class Aecp(Codec):  # type: ignore[misc]
         return (count + OTHER_ORDER * is_other).to_bytes(HEAD, "little") + encode(data, self.ordered(is_other))
 
     def decode(self, buf: Any, out: Any = None) -> Any:
-        """The bytes of a chunk."""
+        """Decodes a chunk. Returns its stored samples as a bytearray, or copies them to `out` and returns `out`. Raises what
+        aecp.decode_bytes raises."""
         chunk = memoryview(ensure_contiguous_ndarray(buf)).cast("B")
         is_other, count = divmod(int.from_bytes(chunk[:HEAD], "little"), OTHER_ORDER)
         samples = decode_bytes(chunk[HEAD:], count, self.ordered(bool(is_other)))
         return samples if out is None else ndarray_copy(samples, out)
 
     def get_config(self) -> dict[str, Any]:
-        """What numcodecs.get_codec makes the codec of."""
+        """Returns the configuration from which numcodecs.get_codec makes this codec."""
         return {"id": self.codec_id, "bits": self.bits, **self.options}

@@ -1,4 +1,4 @@
-"""edit, undo, log, diff and pixels."""
+"""The verbs edit, undo, log, diff and pixels."""
 
 from __future__ import annotations
 
@@ -16,11 +16,11 @@ from aecp.options import Options
 from aecp.pairs import Damaged, Opened, Pair, Refused, is_of, other_bytes, read_if_there
 from aecp.scripts import Change, change_of, cut, difference, edited, judged, parts_of, script_within
 
-SHOWN = 20  # bad lines that are shown
+SHOWN = 20  # the most bad lines that are shown
 
 
 def samples_in(opened: Opened) -> bytearray:
-    """The stored samples of a kept stream. Damaged where the stream doesn't have what its note says."""
+    """Returns the stored samples of a kept stream. Raises Damaged if it doesn't decode with the options and the count of its note."""
     note = opened.note
     try:
         samples = decode_bytes(opened.stream, note.count, note.options)
@@ -31,14 +31,13 @@ def samples_in(opened: Opened) -> bytearray:
 
 
 def judge_samples(samples: Any, note: Note) -> None:
-    """Damaged where samples aren't those of a note."""
+    """Raises Damaged if samples aren't those of a note."""
     if len(samples) != note.samples.bytes or sha256_of(samples) != note.samples.sha256:
         raise Damaged("other samples", "the samples aren't those of the note: their SHA-256 is another. The options may be wrong")
 
 
 def begun(pair: Pair, pool: ThreadPoolExecutor) -> tuple[Opened, Future[None]]:
-    """The note and the stream of a locked pair, and what raises Damaged where the stream hasn't the sum of its note, once that is
-    known."""
+    """Returns the note and the stream of a locked pair, and a future that raises Damaged if the stream doesn't have its note's sum."""
     note, stream = pair.note(), read_if_there(pair.path)
     if stream is None or len(stream) != note.stream.bytes:
         note, stream = pair.open()
@@ -46,13 +45,13 @@ def begun(pair: Pair, pool: ThreadPoolExecutor) -> tuple[Opened, Future[None]]:
 
 
 def judge_stream(stream: bytes, note: Note) -> None:
-    """Damaged where a stream isn't that of a note."""
+    """Raises Damaged if a stream isn't that of a note."""
     if not is_of(stream, note):
         raise Damaged("other bytes", other_bytes(stream, note))
 
 
 def edit(pair: Pair, script: bytes, allow_empty: bool) -> str:
-    """Edits a kept stream by a script, under the lock. The text that says what was done."""
+    """Edits a kept stream by a script, under the lock. Returns the text that says what was done."""
     with ThreadPoolExecutor(4) as pool:
         opened, has_sum = begun(pair, pool)
         note, options, decoding = opened.note, opened.note.options, pool.submit(samples_in, opened)
@@ -78,7 +77,7 @@ def edit(pair: Pair, script: bytes, allow_empty: bool) -> str:
 
 
 def refuse_lines(complaints: list[str]) -> None:
-    """Refuses a script with lines that are no edits or don't fit."""
+    """Raises Refused if a script has lines that are no edits or don't fit."""
     if complaints:
         more = len(complaints) - SHOWN
         lines = complaints[:SHOWN] + ([f"and {more} more lines"] if more > 0 else [])
@@ -86,7 +85,7 @@ def refuse_lines(complaints: list[str]) -> None:
 
 
 def judge_return(stream: bytes, samples: bytearray, count: int, options: Options, spare: bytearray) -> None:
-    """Refuses a new stream that doesn't decode to its samples. Memory of the same length is used anew."""
+    """Raises Refused if a new stream doesn't decode to its samples. Decodes into `spare`, if it has their length."""
     if len(spare) == len(samples):
         is_same = len(decode_bytes(stream, count, options, spare)) == len(samples) and spare == samples
     else:
@@ -96,7 +95,7 @@ def judge_return(stream: bytes, samples: bytearray, count: int, options: Options
 
 
 def inverse_of(opened: Opened, after: Any, before: Any, change: Change) -> dict[str, str]:
-    """What takes an edit back: a script, or the earlier stream where that is shorter, or isn't the code of its samples."""
+    """Returns what undoes an edit: a script, or the earlier stream if that is shorter, or isn't the code of its samples."""
     note = opened.note
     is_ours = not note.is_old or encode(before, note.options) == opened.stream
     script = script_within(difference(after, before, change, note.options), len(opened.stream)) if is_ours else None
@@ -106,14 +105,14 @@ def inverse_of(opened: Opened, after: Any, before: Any, change: Change) -> dict[
 
 
 def last_edit(note: Note) -> Optional[int]:
-    """The place in the history of the last edit that wasn't taken back."""
+    """Returns the place in the history of the last edit that wasn't undone, or None."""
     undone = {entry.get("edit") for entry in note.history if entry.get("what") == "undo"}
     places = [i for i, entry in enumerate(note.history) if entry.get("what") == "edit" and i not in undone]
     return places[-1] if places else None
 
 
 def undo(pair: Pair) -> str:
-    """Takes the last edit of a kept stream back, under the lock. The text that says what was done."""
+    """Undoes the last edit of a kept stream, under the lock. Returns the text that says what was done."""
     with ThreadPoolExecutor(4) as pool:
         opened, has_sum = begun(pair, pool)
         note, place = opened.note, last_edit(opened.note)
@@ -132,8 +131,8 @@ def undo(pair: Pair) -> str:
 
 
 def earlier_stream(opened: Opened, entry: dict[str, Any], pool: ThreadPoolExecutor, has_sum: Future[None]) -> bytes:
-    """What is to be the stream before an edit, the last one of the history. Its sum shows whether it is, and so that of the samples that
-    it is made of need not be judged."""
+    """Returns the stream as it should have been before an edit, the last one that wasn't undone. The caller checks its sum, so the sum
+    of the samples from which it is made needs no check here."""
     inverse, options = entry["inverse"], opened.note.options
     if "stream" in inverse:
         has_sum.result()
@@ -147,7 +146,7 @@ def earlier_stream(opened: Opened, entry: dict[str, Any], pool: ThreadPoolExecut
 
 
 def log_lines(note: Note) -> list[str]:
-    """What was done to a kept stream, a line for each."""
+    """Returns what was done to a kept stream, a line for each action."""
     undone = {entry.get("edit") for entry in note.history if entry.get("what") == "undo"}
     lines = []
     for i, entry in enumerate(note.history):
@@ -165,7 +164,7 @@ def log_lines(note: Note) -> list[str]:
 
 
 def script_in(note: Note, place: int) -> bytes:
-    """The script of an edit of the history."""
+    """Returns the script of an edit of the history."""
     entry = note.history[place] if 0 <= place < len(note.history) else {}
     if entry.get("what") != "edit":
         raise Refused(f"the history has no edit {place}: `aecp log` lists them")
@@ -173,7 +172,7 @@ def script_in(note: Note, place: int) -> bytes:
 
 
 def compared(first: Opened, second: Opened) -> tuple[bytearray, bytearray]:
-    """The stored samples of two streams, which have to be stored alike."""
+    """Returns the stored samples of two streams. Raises Refused if they are stored in different ways."""
     a, b = first.note.options, second.note.options
     if (a.bits, a.signed, a.storage, a.msb_first) != (b.bits, b.signed, b.storage, b.msb_first):
         raise Refused("the samples are stored in other ways, so no script makes one of the other")
@@ -181,7 +180,7 @@ def compared(first: Opened, second: Opened) -> tuple[bytearray, bytearray]:
 
 
 def cells_of(text: str) -> list[list[str]]:
-    """The cells of each line of a table, which are divided by tabs, semicolons or commas, as in its first line."""
+    """Returns the cells of each line of a table. The first line shows what divides them: tabs, else semicolons, else commas."""
     first = text.partition("\n")[0]
     delimiter = "\t" if "\t" in first else ";" if ";" in first else ","
     try:
@@ -191,7 +190,7 @@ def cells_of(text: str) -> list[list[str]]:
 
 
 def pixels(text: str, rows: int, columns: int, frame: int) -> str:
-    """The script that a table of row, column and value is, sorted by place."""
+    """Returns a table of row, column and value as a script, sorted by place. Raises Refused if a line is wrong."""
     values: dict[int, int] = {}
     complaints = []
     for line, words in enumerate(cells_of(text), 1):

@@ -1,4 +1,4 @@
-"""What a call raises."""
+"""The exceptions that calls raise."""
 
 from __future__ import annotations
 
@@ -7,8 +7,12 @@ TOO_MANY_SAMPLES, OUT_OF_RANGE, MEMORY, SCRIPT, STREAM_TOO_LONG, EVEN_BLOCK_SIZE
 
 
 class Fault(ValueError):
-    """A refusal. `number` is that of aecp.h, `place` what it names there, else 0; the text says both in words. `line` is the line of a
-    script that it is about, counted from 1, else 0."""
+    """A call was refused. The text says why.
+
+    number  the number of the fault in aecp.h
+    place   what aecp.h names for this number, such as an index or a bit, else 0
+    line    the line of a script that is refused, counted from 1, else 0
+    """
 
     def __init__(self, number: int, place: int, text: str, line: int = 0) -> None:
         super().__init__(text)
@@ -23,7 +27,8 @@ class OptionsRefused(Fault):
 
 
 class SampleRefused(Fault):
-    """A sample is out of range: `index` is that of the first."""
+    """A sample is out of range. `index` is the place of the first such sample, counted from 0 among the samples of the call; for
+    an Encoder, among all its samples; for a script, among the values of `line`."""
 
     @property
     def index(self) -> int:
@@ -31,7 +36,7 @@ class SampleRefused(Fault):
 
 
 class StreamRefused(Fault):
-    """The stream is cut or damaged: the coded data set that begins at `bit` is refused."""
+    """The stream is cut or damaged: the coded data set that begins at `bit`, counted from 0, is refused."""
 
     @property
     def bit(self) -> int:
@@ -47,7 +52,7 @@ class RangeRefused(Fault, IndexError):
 
 
 class LimitPassed(Fault):
-    """There are more than `limit` samples or bytes: the greatest are 2^32 samples, and 2^40 coded bytes."""
+    """There are more than `limit` samples or bytes. The limits are 2^32 samples and 2^40 coded bytes."""
 
     @property
     def limit(self) -> int:
@@ -55,11 +60,11 @@ class LimitPassed(Fault):
 
 
 class ScriptRefused(Fault):
-    """The script has a line that is no edit: `line` is the first."""
+    """A script has a line that is no edit. `line` is the first such line."""
 
 
 class NoMemory(Fault, MemoryError):
-    """An allocation failed. The samples are as they were; intervals that were coded before are counted by `Workspace.calls`."""
+    """An allocation failed. No sample was changed. `Workspace.calls` also counts intervals that were coded before the failure."""
 
 
 KINDS: dict[int, type[Fault]] = {
@@ -71,7 +76,7 @@ KINDS: dict[int, type[Fault]] = {
 
 
 def fault_of(number: int, place: int, text: str, line: int = 0) -> Fault:
-    """The exception of a refusal, which is that of one edit where there is a line."""
+    """Returns the exception for a refusal. With `line`, one edit of a script is refused, and the text names this line."""
     if line:
         return KINDS.get(number, Fault)(number, place, f"line {line}: {text}", line)
     return KINDS.get(number, Fault)(number, place, text, place if number == SCRIPT else 0)

@@ -1,4 +1,4 @@
-"""fit: which options suit a file, what an edit costs with them, and which options read a stream that nobody knows."""
+"""The verb fit: which options suit a file, what an edit costs with them, and which options read an unknown stream."""
 
 from __future__ import annotations
 
@@ -18,21 +18,21 @@ from aecp.scripts import Store
 BLOCKS = (8, 16, 32, 64)
 INTERVALS = (1, 2, 8, 32, 128, 512, 4096)
 EVERY_INTERVAL = tuple(1 << i for i in range(13))
-PIECE = 1 << 22  # bytes of a file that are tried, unless all are
+PIECE = 1 << 22  # bytes of a file that are tried without --all
 FRONT = 1 << 14  # samples that a stream is tried with first
-NEAR = 1000  # a size is as good as the best where it is less than a part of so many greater
+NEAR = 1000  # a size is as good as the best if it is at most 1 / NEAR greater
 SHOWN = 20
 
 
 class Size(NamedTuple):
-    """How many bytes options give."""
+    """The number of coded bytes with these options."""
 
     bytes: int
     options: Options
 
 
 def sizes(data: bytes, fixed: Options, given: set[str]) -> list[Size]:
-    """The sizes by each block size and interval that aren't given, shortest first."""
+    """Returns the sizes with each block size and interval, smallest first. If the user gave one of these, only that is tried."""
     blocks = (fixed.block_size,) if "block_size" in given else BLOCKS
     intervals = (fixed.interval,) if "interval" in given else INTERVALS
     found = []
@@ -43,14 +43,14 @@ def sizes(data: bytes, fixed: Options, given: set[str]) -> list[Size]:
 
 
 def recommended(found: list[Size]) -> Size:
-    """The shortest interval of those that are as good as the best."""
+    """Returns the size with the shortest interval of those that are as good as the best."""
     best = found[0].bytes
     near = [it for it in found if (it.bytes - best) * NEAR <= best]
     return min(near, key=lambda it: (it.options.block_size * it.options.interval, it.bytes))
 
 
 def guessed_bits(data: bytes) -> Options:
-    """The width and the order of bytes that give the front of a file in the fewest bytes. It is a guess."""
+    """Returns a guess: the width and the byte order with which the start of a file takes the fewest bytes."""
     found = []
     for bits, msb_first in ((8, False), (16, False), (16, True), (32, False), (32, True)):
         options = Options(bits, msb_first=msb_first)
@@ -60,7 +60,7 @@ def guessed_bits(data: bytes) -> Options:
 
 
 def facts(data: bytes, options: Options) -> list[str]:
-    """What the samples of a piece say of the options for their storage."""
+    """Returns what the samples of a piece say about their width, a line each."""
     store = Store(options)
     values = store.values_of(data[: FRONT * 16 * store.width])
     if not values:
@@ -79,7 +79,7 @@ def facts(data: bytes, options: Options) -> list[str]:
 
 
 def better_storage(data: bytes, options: Options) -> list[str]:
-    """What another order of bytes, sign or prediction would give."""
+    """Returns a line for each other byte order, sign or prediction that takes fewer bytes."""
     usual = len(encode(data, options))
     said = []
     for words, change in (("-m", "msb_first"), ("-s", "signed"), ("-N", "preprocess")):
@@ -96,7 +96,7 @@ def better_storage(data: bytes, options: Options) -> list[str]:
 
 
 def table(data: bytes, whole: int, options: Options, given: set[str]) -> list[str]:
-    """The lines that `fit` prints."""
+    """Returns the lines that `fit` prints."""
     width = options.storage
     try:
         found = sizes(data, options, given)
@@ -113,7 +113,7 @@ def table(data: bytes, whole: int, options: Options, given: set[str]) -> list[st
 
 
 def candidates(fixed: Options, given: set[str]) -> Iterator[Options]:
-    """All options that leave what is given as it is."""
+    """Yields all options to try. What the user gave stays."""
     widths = (fixed.bits,) if "bits" in given else range(1, 33)
     blocks = (fixed.block_size,) if "block_size" in given else BLOCKS
     intervals = (fixed.interval,) if "interval" in given else EVERY_INTERVAL
@@ -130,8 +130,8 @@ def read_by(stream: bytes, count: int, options: Options) -> Optional[Any]:
 
 
 def streams(stream: bytes, count: int, fixed: Options, given: set[str]) -> list[str]:
-    """The options that read so many samples of a stream without a fault, likely ones first: those that need the last byte of the stream
-    (whole), then by the sum of the differences between neighbours."""
+    """Returns lines of the options that decode `count` samples of a stream without a fault, likely ones first: those that need
+    the last byte of the stream (whole) before the others, then by the sum of the differences between neighbours."""
     found = []
     listed = list(candidates(fixed, given))
     for i, options in enumerate(listed):

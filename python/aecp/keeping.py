@@ -1,4 +1,4 @@
-"""keep: files to pairs."""
+"""The verb keep: codes files to pairs."""
 
 from __future__ import annotations
 
@@ -24,13 +24,13 @@ from aecp.writing import sync_folder
 OURS = (STREAM, NOTE, OLD_NOTE)
 HIDDEN = re.compile(r"\.(.*\.aec)\.([0-9a-f]{12}\.new|json\.new|lock)", re.S)
 TEXTS = ["README*", *(f"*.{end}" for end in ("txt", "md", "csv", "tsv", "json", "xml", "html", "log", "py", "sh", "toml", "yaml", "yml"))]
-FRONT = 1 << 18  # bytes that a hint looks at
-AT_ONCE = 5  # files of a process that wait for the disk, or are coded
+FRONT = 1 << 18  # bytes of a file that a hint tries
+AT_ONCE = 5  # files that a process codes or writes at the same time
 T = TypeVar("T")
 
 
 class Outcome(NamedTuple):
-    """What became of a file. `kind` is kept, skipped, passed, changed or refused; `said` is printed where it isn't empty."""
+    """What happened to a file. `kind` is kept, skipped, passed, changed or refused. `said` is printed if it isn't empty."""
 
     path: str
     kind: str
@@ -50,14 +50,14 @@ class Keeping:
 
 
 class Found(NamedTuple):
-    """A file to be kept, and whether it was named and not found in a folder."""
+    """A file to be kept, and whether it was named itself, instead of found in a folder."""
 
     path: str
     is_named: bool
 
 
 def files_of(paths: Iterable[str], include: list[str], exclude: list[str], complaints: list[Outcome]) -> Iterator[Found]:
-    """The files that are named, and those in folders that are named, in order. Symbolic links are said and passed over."""
+    """Yields the files that are named and those in folders that are named, in order. Symbolic links are reported and not kept."""
     for path in paths:
         if os.path.islink(path):
             complaints.append(Outcome(path, "refused", "it is a symbolic link: name what it points to"))
@@ -98,7 +98,7 @@ def matches(names: tuple[str, ...], patterns: list[str]) -> bool:
 
 @functools.lru_cache(maxsize=64)
 def leftovers_in(folder: str) -> dict[str, list[str]]:
-    """What stopped runs have left in a folder, by the name of the stream."""
+    """Returns what stopped runs have left in a folder, by the name of the stream."""
     found: dict[str, list[str]] = {}
     for name in os.listdir(folder):
         match = HIDDEN.fullmatch(name)
@@ -108,14 +108,15 @@ def leftovers_in(folder: str) -> dict[str, list[str]]:
 
 
 class Held(NamedTuple):
-    """Locks: in each folder the first has a file of its own, which lasts as long as the stack, and is that of the others too."""
+    """The locks of a run. In each folder the first pair has a lock file of its own, until `stack` is closed. The lock files of the other
+    pairs are links to it."""
 
     stack: contextlib.ExitStack
     first: dict[str, Pair]
 
     @contextlib.contextmanager
     def locked(self, pair: Pair, wait: bool) -> Iterator[bool]:
-        """Locks a pair. It yields False where another run has the lock, and there is no waiting."""
+        """Locks a pair. Yields False if another run has the lock and `wait` isn't set."""
         if pair.folder in self.first and pair.lock_beside(self.first[pair.folder]):
             try:
                 yield True
@@ -129,7 +130,7 @@ class Held(NamedTuple):
 
 
 def keep_all(keeping: Keeping, files: list[Found]) -> list[Outcome]:
-    """Keeps each file. Those that another run is at work on come last, one by one."""
+    """Keeps each file. Files that other runs have locked come last, one by one."""
     outcomes = keep_together(keeping, files, wait=False)
     done = [outcome or keep_together(keeping, [file], wait=True)[0] for file, outcome in zip(files, outcomes)]
     kept = [it for it in done if it is not None]
@@ -139,14 +140,14 @@ def keep_all(keeping: Keeping, files: list[Found]) -> list[Outcome]:
 
 
 def keep(keeping: Keeping, file: Found) -> Outcome:
-    """Keeps a file, or says why it doesn't."""
+    """Keeps a file, or says why it can't."""
     return keep_all(keeping, [file])[0]
 
 
 def keep_together(keeping: Keeping, files: list[Found], wait: bool) -> list[Optional[Outcome]]:
-    """Keeps each file, while earlier ones wait for the disk. None for a file whose lock another run has, if it doesn't wait: two runs
-    that hold locks must not wait for each other."""
-    sys.setswitchinterval(0.0001)  # a thread that has waited for the disk waits no longer for the one that codes
+    """Keeps files. While one is coded, others wait for the disk. Without `wait`, returns None for a file whose lock another run has: two
+    runs that hold locks must not wait for each other."""
+    sys.setswitchinterval(0.0001)  # so that a thread that is back from the disk soon gets its turn
     with contextlib.ExitStack() as stack:
         held = Held(stack, {})
         pool = stack.enter_context(ThreadPoolExecutor(AT_ONCE))
@@ -155,7 +156,7 @@ def keep_together(keeping: Keeping, files: list[Found], wait: bool) -> list[Opti
 
 
 def refusing(path: str, work: Callable[[], T]) -> Union[T, Outcome]:
-    """What a piece of work on a file gives, or why it was refused."""
+    """Returns the result of a piece of work on a file, or why it was refused."""
     try:
         return work()
     except Refused as refusal:
@@ -169,14 +170,14 @@ def refusing(path: str, work: Callable[[], T]) -> Union[T, Outcome]:
 
 
 def said_of(error: OSError, path: str) -> str:
-    """What a failure of the system says, with the name of another file where it isn't this one."""
+    """Returns the text of a failure of the system, with the name of its file if that isn't `path`."""
     text = "no space left on the device" if error.errno == 28 else str(error.strerror or error)
     name = error.filename
     return text if name is None or name == path else f"{text}: {shown(name if isinstance(name, str) else os.fsdecode(name))}"
 
 
 def keep_or_refuse(keeping: Keeping, file: Found, held: Held, wait: bool) -> Optional[Outcome]:
-    """Keeps a file under its lock. None where another run has the lock."""
+    """Keeps a file under its lock. Returns None if another run has the lock."""
     pair = Pair(file.path + STREAM)
     if pair.is_kept() and pair.name not in leftovers_in(pair.folder):
         return judge_kept(keeping, file.path, pair)
@@ -185,7 +186,7 @@ def keep_or_refuse(keeping: Keeping, file: Found, held: Held, wait: bool) -> Opt
 
 
 def keep_locked(keeping: Keeping, file: Found, pair: Pair) -> Outcome:
-    """Keeps a file, once its pair is locked."""
+    """Keeps a file whose pair is locked."""
     left = [path for path in leftovers_in(pair.folder).get(pair.name, []) if path != pair.lock_path]
     mended = pair.mend(left) if left else None
     if pair.is_kept():
@@ -209,8 +210,8 @@ def keep_locked(keeping: Keeping, file: Found, pair: Pair) -> Outcome:
 
 
 def judge_lone_note(pair: Pair, note: Note) -> None:
-    """Refuses to replace a file that has the name of a note, has no stream beside it, and says anything else than the note to be written:
-    a note with edits, that of other samples or options, or no note at all."""
+    """Raises Refused if the note's path has a file, without a stream beside it, that the new note must not replace: a note with edits, a
+    note of other samples or options, or no note at all."""
     try:
         lone = note_of(read_if_there(pair.note_path) or b"")
     except BadNote:
@@ -220,7 +221,7 @@ def judge_lone_note(pair: Pair, note: Note) -> None:
 
 
 def coded(keeping: Keeping, data: bytes, status: os.stat_result) -> tuple[Note, bytes]:
-    """The note and the stream of a file, once the stream has given the file back."""
+    """Codes a file, and compares what the stream decodes to with the file. Returns the note and the stream."""
     options = keeping.options
     count, rest = divmod(len(data), options.storage)
     if rest:
@@ -241,7 +242,7 @@ def coded(keeping: Keeping, data: bytes, status: os.stat_result) -> tuple[Note, 
 
 
 def alternatives(options: Options) -> Iterator[tuple[str, Options]]:
-    """Other options that may be meant, as words."""
+    """Yields other options that may be meant, with their words."""
     yield "-m" if not options.msb_first else "no -m", replace(options, msb_first=not options.msb_first)
     yield "-s" if not options.signed else "no -s", replace(options, signed=not options.signed)
     for bits in (8, 16, 32):
@@ -251,7 +252,7 @@ def alternatives(options: Options) -> Iterator[tuple[str, Options]]:
 
 
 def hint(data: bytes, options: Options) -> str:
-    """Which other options code the front of a file in fewer bytes, if some do."""
+    """Returns a text that names the options with which the start of a file becomes smallest, or an empty text."""
     best: Optional[tuple[int, str]] = None
     for words, other in alternatives(options):
         front = data[: FRONT - FRONT % other.storage]
@@ -267,7 +268,7 @@ def hint(data: bytes, options: Options) -> str:
 
 
 def judge_kept(keeping: Keeping, path: str, pair: Pair, mended: str = "") -> Outcome:
-    """Whether a file that is kept already is still what was kept."""
+    """Returns the outcome for a file that was kept before: skipped, or changed if it was changed since then."""
     note, status = pair.note(), os.stat(path)
     source = note.source or {"mtime_ns": None, **note.samples.json()}
     is_same = status.st_size == source["bytes"] and (status.st_mtime_ns == source["mtime_ns"] and not keeping.rehash)
@@ -298,7 +299,7 @@ def removed(keeping: Keeping, outcome: Outcome) -> Outcome:
 
 
 def refuse_options(options: Options) -> None:
-    """Raises OptionsRefused where the format has no such options."""
+    """Raises Refused if the format has no such options."""
     try:
         encode(b"", options)
     except OptionsRefused as fault:

@@ -1,4 +1,4 @@
-"""libaecp.so by ctypes: its structures, its calls, and where it is looked for."""
+"""libaecp.so by ctypes: its structures, its calls, and where it is searched for."""
 
 from __future__ import annotations
 
@@ -57,7 +57,8 @@ class Reader(ctypes.Structure):
 
 
 def place_of_library() -> str:
-    """The path of the library: AECP_LIBRARY, else beside this module, else a checkout's bin, else where the loader looks."""
+    """Returns the path of the library: AECP_LIBRARY, else beside this module, else in a checkout's bin/, else where the loader
+    looks."""
     named = os.environ.get("AECP_LIBRARY")
     if named:
         return named
@@ -66,7 +67,7 @@ def place_of_library() -> str:
 
 
 def call_types() -> dict[str, tuple[Any, list[Any]]]:
-    """The type of the result and of the arguments of each call."""
+    """Returns the types of the result and of the arguments of each call."""
     number, size, at = ctypes.c_uint64, ctypes.c_size_t, ctypes.c_void_p
     options, reply, handle = ctypes.POINTER(COptions), ctypes.POINTER(Reply), ctypes.POINTER(Handle)
     coder, reader = ctypes.POINTER(Coder), ctypes.POINTER(Reader)
@@ -106,7 +107,8 @@ def call_types() -> dict[str, tuple[Any, list[Any]]]:
 
 
 def load() -> ctypes.CDLL:
-    """The library. ImportError of one line where there is none, or another one."""
+    """Returns the library. Raises ImportError, with a text of one line, if there is none, if it lacks a call, or if judge_version
+    refuses it."""
     path = place_of_library()
     try:
         library = ctypes.CDLL(path)
@@ -122,7 +124,8 @@ def load() -> ctypes.CDLL:
 
 
 def judge_version(library: ctypes.CDLL) -> None:
-    """OSError if the library's version has another first number than the module's, or an older second one."""
+    """Raises OSError if the library's major version isn't the module's, or if its minor version is older. A library without
+    aecp_version passes."""
     call = getattr(library, "aecp_version", None)
     if call is not None:
         call.restype = ctypes.c_uint32
@@ -136,7 +139,8 @@ LIBRARY = load()
 
 
 def c_options(options: Options) -> COptions:
-    """Options for C, which nothing changes. TypeError for anything but Options; ValueError as made_options."""
+    """Returns options for C. They are shared, so nothing may change them. Raises TypeError for anything but Options; ValueError as
+    made_options."""
     if not isinstance(options, Options):
         raise TypeError(f"options must be aecp.Options, not {type(options).__name__}")
     return made_options(options)
@@ -144,7 +148,8 @@ def c_options(options: Options) -> COptions:
 
 @functools.lru_cache(maxsize=256)
 def made_options(options: Options) -> COptions:
-    """The structure of options, one for equal options. ValueError where a number doesn't fit 32 bits, which ctypes would cut."""
+    """Returns the structure of options; equal options have the same one. Raises ValueError if a number doesn't fit 32 bits, since
+    ctypes would cut it."""
     for name in NUMBERS:
         if not 0 <= getattr(options, name) < 2**32:
             raise ValueError(f"{name} must be 0 to 2^32 - 1")
@@ -152,7 +157,7 @@ def made_options(options: Options) -> COptions:
 
 
 def text_of(reply: Reply) -> str:
-    """A reply in words."""
+    """Returns the text of a reply."""
     out = ctypes.create_string_buffer(TEXT_BYTES)
     LIBRARY.aecp_text(reply, out, TEXT_BYTES)
     return out.value.decode()

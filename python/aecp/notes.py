@@ -1,4 +1,5 @@
-"""The note beside a kept stream: FILE.aec.json, as docs/ARCHIVE.md documents it, and FILE.aec.note of the older keep.sh, to be read."""
+"""The note of a kept stream: FILE.aec.json, described in docs/ARCHIVE.md. Notes FILE.aec.note of the older keep.sh are only
+read."""
 
 from __future__ import annotations
 
@@ -23,12 +24,12 @@ class BadNote(Exception):
 
 
 def sha256_of(data: Any) -> str:
-    """The SHA-256 of bytes, in hexadecimal digits."""
+    """Returns the SHA-256 of bytes, in hexadecimal digits."""
     return hashlib.sha256(data).hexdigest()
 
 
 def now() -> str:
-    """The time in UTC."""
+    """Returns the time in UTC."""
     return time.strftime("%Y-%m-%dT%H:%M:%SZ", time.gmtime())
 
 
@@ -55,7 +56,7 @@ class Sum:
 
 @dataclass(frozen=True)
 class Note:
-    """What a note says of a stream. `source` is the size, the time and the sum of the file that was kept."""
+    """What a note says about a stream. `source` is the size, the time and the sum of the file that was kept."""
 
     options: Options
     count: int
@@ -66,7 +67,7 @@ class Note:
     is_old: bool = False  # read from a note of keep.sh
 
     def json_fields(self) -> dict[str, Any]:
-        """All fields of the JSON but the last, which is their sum."""
+        """Returns all fields of the JSON except the last, which is their sum."""
         return {
             "format": FORMAT,
             "written_by": WRITER,
@@ -79,7 +80,7 @@ class Note:
         }
 
     def text(self) -> bytes:
-        """The bytes of the note's file."""
+        """Returns the bytes of the note's file."""
         fields = self.json_fields()
         lines = [f'"{name}": {json.dumps(value)}' for name, value in fields.items() if name != "history"]
         entries = ",\n  ".join(map(json.dumps, self.history))
@@ -87,21 +88,21 @@ class Note:
         return ("{\n " + ",\n ".join(lines) + "\n}\n").encode("ascii")
 
     def sums(self) -> dict[str, Any]:
-        """The count and the sums of a stream and its samples, as an entry of the history has them."""
+        """Returns the count and the sums of a stream and its samples, in the form of the history."""
         return {"samples": {"count": self.count, **self.samples.json()}, "stream": self.stream.json()}
 
     def after(self, count: int, samples: Sum, stream: Sum, history: list[dict[str, Any]]) -> Note:
-        """The note of the stream that an edit leaves."""
+        """Returns the note of the stream after an edit."""
         return dataclasses.replace(self, count=count, samples=samples, stream=stream, history=history, is_old=False)
 
 
 def sum_of(fields: dict[str, Any]) -> str:
-    """The SHA-256 of a note's fields: of their JSON with keys in order, no blanks and ASCII alone."""
+    """Returns the SHA-256 of a note's fields, as JSON in ASCII with sorted keys and no blanks."""
     return sha256_of(json.dumps(fields, sort_keys=True, separators=(",", ":")).encode("ascii"))
 
 
 def note_of(data: bytes) -> Note:
-    """The note that the bytes of FILE.aec.json are. BadNote where they are none, or were changed."""
+    """Returns the note in the bytes of FILE.aec.json. Raises BadNote if they are no note, or were changed."""
     try:
         fields = json.loads(data)
     except (ValueError, RecursionError) as error:
@@ -125,7 +126,7 @@ def note_of(data: bytes) -> Note:
 
 
 def judge_history(history: list[dict[str, Any]]) -> None:
-    """KeyError, TypeError or ValueError where entries of a history lack what the verbs read."""
+    """Raises one of the exceptions that note_of expects, or BadNote, if an entry of a history lacks what the verbs read."""
     for entry in history:
         for name in {"edit": ("before", "after"), "undo": ("before", "after")}.get(entry["what"], ("after",)):
             Sum.of_json(entry[name]["stream"])
@@ -138,7 +139,7 @@ def judge_history(history: list[dict[str, Any]]) -> None:
 
 
 def old_note_of(data: bytes) -> Note:
-    """The note that the bytes of FILE.aec.note of keep.sh are."""
+    """Returns the note in the bytes of FILE.aec.note of keep.sh. Raises BadNote if they are none."""
     try:
         fields = dict(line.split(" ", 1) for line in data.decode("ascii").splitlines())
         samples = Sum(int(fields["bytes"]), fields["sha256"])
@@ -149,7 +150,7 @@ def old_note_of(data: bytes) -> Note:
 
 
 def options_of_words(words: list[str]) -> Options:
-    """The options that words such as -n 16 -s say. ValueError for other words."""
+    """Returns the options that words such as -n 16 -s mean. Raises ValueError for other words."""
     given: dict[str, Any] = {}
     rest = iter(words)
     for word in rest:
@@ -165,7 +166,7 @@ def options_of_words(words: list[str]) -> Options:
 
 
 def words_of(options: Options) -> str:
-    """Options as words for `aec` and `aecp`."""
+    """Returns options as words for `aec` and `aecp`."""
     words = [f"-n {options.bits} -j {options.block_size} -r {options.interval}"]
     words += [letter for letter, name in LETTERS.items() if getattr(options, name)]
     return " ".join(words + ["-N"] * (not options.preprocess))

@@ -13,20 +13,21 @@ FLAGS = ("signed", "msb_first", "three_byte", "preprocess", "pad", "restricted",
 
 @dataclass(frozen=True)
 class Options:
-    """How samples are stored and coded; the same options decode. The first call refuses options that the format doesn't have.
+    """How samples are stored and coded. Decoding needs the same options.
 
     bits         bits per sample, 1 to 32
     block_size   samples in a block: 8, 16, 32 or 64, and with even_blocks every even number from 8 to 64
     interval     blocks in a reference sample interval, 1 to 4096
     signed       samples are signed
     msb_first    a stored sample has its most significant byte first
-    three_byte   samples of 17 to 24 bits are stored in three bytes; such samples are bytes here, and no arrays
+    three_byte   samples of 17 to 24 bits are stored in three bytes; they can't be arrays here, only bytes
     preprocess   predict each sample from the one before
     pad          fill each interval up to a byte boundary
     restricted   the restricted set of code options, for at most 4 bits
     even_blocks  see block_size
 
-    Raises TypeError where a number is no whole number, or a flag is no bool of Python or numpy.
+    Raises TypeError if a number isn't a whole number, or a flag isn't a bool of Python or numpy. The first call with options that
+    the format doesn't have raises OptionsRefused, or ValueError for a number that doesn't fit 32 bits.
     """
 
     bits: int
@@ -63,7 +64,7 @@ class Options:
 
     @property
     def dtype(self) -> str:
-        """The numpy dtype of stored samples, as a text such as '<u2'. ValueError for three bytes."""
+        """The numpy dtype of stored samples, as a text such as '<u2'. Raises ValueError if samples have three bytes."""
         storage = self.storage
         if storage == 3:
             raise ValueError("numpy has no integers of three bytes: use bytes")
@@ -81,7 +82,7 @@ class Options:
 
 
 def whole(value: object, name: str) -> int:
-    """A whole number as an int. TypeError for anything else, a bool too, also numpy's."""
+    """Returns a whole number as an int. Raises TypeError for anything else, also for a bool of Python or numpy."""
     is_bool = isinstance(value, bool) or getattr(getattr(value, "dtype", None), "kind", "") == "b"
     if is_bool or not hasattr(value, "__index__"):
         raise TypeError(f"{name} must be a whole number, not {value!r}")

@@ -1,9 +1,9 @@
 """Pairs of files, FILE.aec and FILE.aec.json, that no stop can break.
 
 A new stream is written as .FILE.aec.SUM.new, with the first 12 digits of its SHA-256, and then its note as .FILE.aec.json.new. Both are
-synced before anything gets its name. To replace a pair, the note is renamed first and the stream second: a note whose stream still has
-the other name shows that the second step is left to do. A new pair gets its names by links, which replace nothing, the stream first.
-Whoever opens a pair to write finishes what a stopped run left.
+synced before either gets its final name. To replace a pair, the note is renamed first and the stream second. So if a note's stream still
+has its hidden name, the second step is missing. A new pair gets its final names by links, which replace nothing: first the stream, then
+the note. The next run that opens the pair to write finishes what a stopped run left.
 """
 
 from __future__ import annotations
@@ -24,11 +24,11 @@ TRIES = 20
 
 
 class Refused(Exception):
-    """Why something isn't done. The text is what the user reads after the name of the file."""
+    """A run refuses to do something. The text is what the user reads after the name of the file."""
 
 
 class Damaged(Refused):
-    """What a kept stream and its note have wrong. `kind` is a word or two for programs."""
+    """A kept stream or its note is wrong. `kind` says how, in a word or two for programs."""
 
     def __init__(self, kind: str, text: str) -> None:
         super().__init__(text)
@@ -54,21 +54,21 @@ class Pair:
         self.lock_path = self.hidden("lock")
 
     def hidden(self, end: str) -> str:
-        """The path of a file beside the pair that a run needs for itself."""
+        """Returns the path of a hidden file beside the pair."""
         return os.path.join(self.folder, f".{self.name}.{end}")
 
     def new_stream_path(self, sha256: str) -> str:
         return self.hidden(f"{sha256[:12]}.new")
 
     def is_kept(self) -> bool:
-        """Whether there are a stream and a note."""
+        """Returns whether there are a stream and a note."""
         return os.path.exists(self.path) and (os.path.exists(self.note_path) or os.path.exists(self.old_note_path))
 
     def note_bytes(self) -> Optional[bytes]:
         return read_if_there(self.note_path)
 
     def note(self) -> Note:
-        """The note. Damaged where there is none, or a bad one."""
+        """Returns the note. Raises Damaged if there is none, or a bad one."""
         data, old = self.note_bytes(), None
         try:
             if data is not None:
@@ -85,7 +85,7 @@ class Pair:
         raise Damaged("no note", "there is no note: `aecp keep` writes one; `aecp rescue` reads a stream with none")
 
     def note_to_be(self) -> Optional[Note]:
-        """The note of a new pair whose stream has its name already, where the note has none yet."""
+        """Returns the new note that still has its hidden name. None if a note has its final name, or if there is no hidden one."""
         if os.path.exists(self.note_path) or os.path.exists(self.old_note_path):
             return None
         try:
@@ -94,8 +94,8 @@ class Pair:
             return None
 
     def open(self) -> Opened:
-        """The note and the stream, which has the note's sum. It changes nothing: where a replacement was stopped, and while one is
-        made, it finds the new pair or the old one."""
+        """Returns the note, and the stream with the note's sum. Changes nothing. If a replacement was stopped, or is being made, returns
+        the new pair or the old one. Raises Damaged if no stream has that sum."""
         for _ in range(TRIES):
             before = self.note_bytes()
             note = self.note_to_be() or self.note()
@@ -113,7 +113,7 @@ class Pair:
 
     @contextlib.contextmanager
     def locked(self, wait: bool = True) -> Iterator[bool]:
-        """Keeps other runs away from the pair while it lasts. It waits for one that is at work, or yields False."""
+        """Locks the pair against other runs. If another run has the lock, waits for it, or yields False without `wait`."""
         file = self.take_lock(wait)
         try:
             yield file is not None
@@ -127,7 +127,8 @@ class Pair:
             os.unlink(self.lock_path)
 
     def take_lock(self, wait: bool) -> Optional[int]:
-        """The open lock file. Another run removes it at its end, so that it has to be looked at again once it is locked."""
+        """Returns the open lock file. Another run removes this file at its end, so the path is checked again once the file is locked.
+        Without `wait`, returns None if another run has the lock."""
         while True:
             file = os.open(self.lock_path, os.O_RDWR | os.O_CREAT | os.O_CLOEXEC, 0o666)
             try:
@@ -145,8 +146,8 @@ class Pair:
             os.close(file)
 
     def lock_beside(self, other: Pair) -> bool:
-        """Makes the lock file of a locked pair of the same folder that of this one too, if this one has none. To make and remove a file
-        for each lock takes some file systems longer than all else that is done to a pair."""
+        """Makes this pair's lock file a link to that of `other`, a locked pair of the same folder. Returns False if that fails. On some
+        file systems, a new lock file for each pair would take longer than all other work on the pair."""
         try:
             os.link(other.lock_path, self.lock_path)
         except OSError:
@@ -154,12 +155,12 @@ class Pair:
         return True
 
     def leftovers(self) -> list[str]:
-        """The paths of what a run has written and given no name."""
+        """Returns the paths of files that a run has written but not renamed."""
         form = re.compile(re.escape(f".{self.name}.") + r"([0-9a-f]{12}|json)\.new")
         return [os.path.join(self.folder, name) for name in os.listdir(self.folder) if form.fullmatch(name)]
 
     def mend(self, left: Optional[list[str]] = None) -> Optional[str]:
-        """Finishes what a stopped run left, under the lock: the text that says what was done, None where nothing was."""
+        """Finishes what a stopped run left, under the lock. Returns the text that says what was done, or None."""
         left = self.leftovers() if left is None else left
         if not left:
             return None
@@ -171,7 +172,7 @@ class Pair:
         return done or ("what a stopped run left is removed" if removed else None)
 
     def finish_new(self, left: list[str]) -> Optional[str]:
-        """The note of a new pair whose stream has its name already."""
+        """Gives the note of a new pair its name, if the stream has its name already. Returns the text that says so, or None."""
         stream = read_if_there(self.path)
         if stream is None or self.new_note_path not in left or os.path.exists(self.note_path):
             return None
@@ -185,7 +186,7 @@ class Pair:
         return "a stopped run is finished: the note has its name"
 
     def finish_replaced(self, left: list[str]) -> Optional[str]:
-        """The stream of a replaced pair whose note has its name already."""
+        """Gives the stream of a replaced pair its name, if the note has its name already. Returns the text that says so, or None."""
         try:
             note = self.note()
         except Damaged:
@@ -198,7 +199,7 @@ class Pair:
         return "a stopped run is finished: the stream has its name"
 
     def write_new(self, note: Note, stream: bytes) -> list[str]:
-        """Writes a stream and its note under the names for new ones. Their paths."""
+        """Writes a stream and its note under hidden names. Returns their paths."""
         paths = [self.new_stream_path(note.stream.sha256), self.new_note_path]
         try:
             for path, data in zip(paths, (stream, note.text())):
@@ -209,7 +210,7 @@ class Pair:
         return paths
 
     def create(self, note: Note, stream: bytes) -> None:
-        """Writes a new pair, both files or none, where nothing has their names but perhaps this very stream."""
+        """Writes a new pair: both files or none. Nothing may have their names, except this very stream."""
         paths = self.write_new(note, stream)
         try:
             if read_if_there(self.path) != stream:
@@ -224,7 +225,7 @@ class Pair:
             remove_all(paths)
 
     def replace(self, note: Note, stream: bytes, judge: Callable[[], None] = lambda: None) -> None:
-        """Puts a stream and its note in the place of those that are there, once `judge` has raised nothing."""
+        """Replaces the pair by a stream and its note, unless `judge` raises."""
         paths = self.write_new(note, stream)
         try:
             judge()
@@ -234,7 +235,7 @@ class Pair:
         except BaseException:
             remove_all(paths)
             raise
-        os.rename(paths[1], self.note_path)  # from here on the next run finishes what is left to do
+        os.rename(paths[1], self.note_path)  # from here on, the next run finishes a stopped replacement
         os.rename(paths[0], self.path)
         sync_folder(self.folder)
         with contextlib.suppress(FileNotFoundError):
@@ -242,19 +243,19 @@ class Pair:
 
 
 def is_of(stream: bytes, note: Note) -> bool:
-    """Whether a stream is that of a note."""
+    """Returns whether a stream is that of a note."""
     return len(stream) == note.stream.bytes and sha256_of(stream) == note.stream.sha256
 
 
 def other_bytes(stream: bytes, note: Note) -> str:
-    """How a stream differs from that of its note."""
+    """Returns a text that says how a stream differs from that of its note."""
     if len(stream) != note.stream.bytes:
         return f"the stream has {len(stream)} bytes, and its note says {note.stream.bytes}"
     return "the stream's bytes were changed: their SHA-256 isn't that of the note"
 
 
 def read_if_there(path: str) -> Optional[bytes]:
-    """The bytes of a file, None where there is none."""
+    """Returns the bytes of a file, or None if there is none."""
     try:
         with open(path, "rb") as file:
             return file.read()
@@ -263,7 +264,7 @@ def read_if_there(path: str) -> Optional[bytes]:
 
 
 def is_same(path: str, other: str) -> bool:
-    """Whether two names are those of one file."""
+    """Returns whether two names are those of one file."""
     try:
         return os.path.samestat(os.lstat(path), os.lstat(other))
     except FileNotFoundError:
@@ -271,6 +272,6 @@ def is_same(path: str, other: str) -> bool:
 
 
 def shown(name: str) -> str:
-    """A name on one line: what is no text is written out, as \\xff and \\n."""
+    """Returns a name on one line. What is no text is written out, as \\xff and \\n."""
     text = os.fsencode(name).decode("utf-8", "backslashreplace")
     return "".join(c if c.isprintable() else c.encode("unicode_escape").decode("ascii") for c in text)

@@ -1,4 +1,4 @@
-"""back, info, rescue and view."""
+"""The verbs back, info, rescue and view."""
 
 from __future__ import annotations
 
@@ -21,7 +21,8 @@ MOST_PIXELS = 1 << 26
 
 
 def write_out(path: str, data: Any) -> None:
-    """Writes a file that isn't there, whole or not at all; - is standard output."""
+    """Writes a new file, whole or not at all. The path - is standard output; a pipe or a device is written directly. Raises Refused
+    if the file exists."""
     if path == "-":
         sys.stdout.buffer.write(data)
         sys.stdout.buffer.flush()
@@ -47,7 +48,7 @@ def write_out(path: str, data: Any) -> None:
 
 
 def range_in(text: Optional[str]) -> Optional[tuple[int, int]]:
-    """The two numbers of FIRST:LEN."""
+    """Returns the two numbers of FIRST:LEN. Raises ValueError for another text."""
     if text is None:
         return None
     first, colon, length = text.partition(":")
@@ -57,7 +58,7 @@ def range_in(text: Optional[str]) -> Optional[tuple[int, int]]:
 
 
 def samples_of(opened: Opened, part: Optional[tuple[int, int]]) -> bytearray:
-    """The stored samples of a kept stream, or a part of them; all are judged by their sum."""
+    """Returns the stored samples of a kept stream, or a part of them. All are checked by their sum."""
     samples = samples_in(opened)
     judge_samples(samples, opened.note)
     if part is None:
@@ -69,7 +70,7 @@ def samples_of(opened: Opened, part: Optional[tuple[int, int]]) -> bytearray:
 
 
 def info_lines(note: Note) -> list[str]:
-    """What a note says, in words."""
+    """Returns what a note says, in lines of text."""
     edits = sum(entry.get("what") == "edit" for entry in note.history)
     undone = sum(entry.get("what") == "undo" for entry in note.history)
     lines = [
@@ -84,7 +85,7 @@ def info_lines(note: Note) -> list[str]:
 
 
 class Rescued(NamedTuple):
-    """The samples that can be read of a stream, and why there are no more."""
+    """The samples that can be read from a stream, and why there are no more."""
 
     samples: Any
     number: int
@@ -93,7 +94,7 @@ class Rescued(NamedTuple):
 
 
 def rescued(stream: bytes, count: Optional[int], options: Options) -> Rescued:
-    """The samples before the damage. Each decoding judges so many samples at the front; the most that decode are looked for."""
+    """Finds the greatest number of samples that decode without a fault, and returns these samples."""
     try:
         samples = decode_bytes(stream, count, options)
         return Rescued(samples, len(samples) // options.storage, "", True)
@@ -117,7 +118,7 @@ def rescued(stream: bytes, count: Optional[int], options: Options) -> Rescued:
 
 
 def rescue_text(found: Rescued, stream: bytes, note: Optional[Note], has_count: bool) -> str:
-    """What was rescued, in words."""
+    """Returns a text that says what was rescued."""
     if found.is_whole and note is not None:
         try:
             judge_samples(found.samples, note)
@@ -135,19 +136,19 @@ def rescue_text(found: Rescued, stream: bytes, note: Optional[Note], has_count: 
 
 
 def grey(samples: list[int]) -> bytes:
-    """A byte for each sample, by its place between the least and the greatest."""
+    """Returns a byte for each sample, by its place between the least and the greatest."""
     least, most = min(samples), max(samples)
     span = max(most - least, 1)
     return bytes((x - least) * 255 // span for x in samples)
 
 
 def png_chunk(name: bytes, data: bytes) -> bytes:
-    """A chunk of a PNG file."""
+    """Returns a chunk of a PNG file."""
     return struct.pack(">I", len(data)) + name + data + struct.pack(">I", zlib.crc32(name + data))
 
 
 def png(pixels: bytes, width: int, height: int) -> bytes:
-    """A PNG file of grey pixels."""
+    """Returns a PNG file of grey pixels."""
     rows = b"".join(b"\0" + pixels[row * width : (row + 1) * width] for row in range(height))
     head = struct.pack(">IIBBBBB", width, height, 8, 0, 0, 0, 0)
     chunks = [(b"IHDR", head), (b"IDAT", zlib.compress(rows)), (b"IEND", b"")]
@@ -155,12 +156,12 @@ def png(pixels: bytes, width: int, height: int) -> bytes:
 
 
 def pgm(pixels: bytes, width: int, height: int) -> bytes:
-    """A PGM file of grey pixels."""
+    """Returns a PGM file of grey pixels."""
     return b"P5\n%d %d\n255\n" % (width, height) + pixels
 
 
 def view(samples: list[int], out: str, width: int) -> str:
-    """Draws samples in grey, so many in a row. The text that says what was drawn."""
+    """Draws samples in grey, `width` of them in a row. Returns the text that says what was drawn."""
     form = {".png": png, ".pgm": pgm}.get(os.path.splitext(out)[1])
     if form is None:
         raise Refused(f"{shown(out)} is named neither .png nor .pgm")
@@ -172,12 +173,12 @@ def view(samples: list[int], out: str, width: int) -> str:
 
 
 def listed(data: Any, options: Options) -> list[int]:
-    """The samples that stored bytes are."""
+    """Returns stored samples as numbers."""
     return Store(options).values_of(bytes(data))
 
 
 def part_of(stream: bytes, count: Optional[int], part: Optional[tuple[int, int]], options: Options) -> list[int]:
-    """Samples of a stream that has no note."""
+    """Returns samples of a stream that has no note."""
     if part is not None:
         return listed(decode_range_bytes(stream, count, part[0], part[1], options), options)
     return listed(decode_bytes(stream, count, options), options)

@@ -1,4 +1,4 @@
-"""Whole numbers that go to C as samples."""
+"""Whole numbers that are passed to C as samples."""
 
 from __future__ import annotations
 
@@ -14,16 +14,16 @@ TEXTS = (bytes, bytearray, memoryview, str)
 
 
 class Held:
-    """Samples as numbers of 64 bits in one piece of memory, which it holds on to."""
+    """Samples as numbers of 64 bits in one piece of memory, which it keeps alive."""
 
     def __init__(self, samples: Any) -> None:
         self.samples: Any = held_in(samples)
         self.len = len(self.samples)
-        self.view = memoryview(self.samples)  # while it is there nothing takes the memory away
+        self.view = memoryview(self.samples)  # as long as it exists, the memory can't be freed or resized
 
     @property
     def at(self) -> int:
-        """The address."""
+        """The address of the memory."""
         if isinstance(self.samples, array):
             return self.samples.buffer_info()[0]
         return int(self.samples.ctypes.data)
@@ -36,15 +36,15 @@ class Held:
 
 
 def several(samples: Any) -> Any:
-    """The samples themselves. TypeError for a single number, of numpy too: it is no list."""
+    """Returns the samples unchanged. Raises TypeError for a single number, also of numpy: it is no list."""
     if not hasattr(samples, "__iter__") or getattr(samples, "shape", None) == ():
         raise TypeError(f"samples must be a list or another iterable, not {type(samples).__name__}")
     return samples
 
 
 def held_in(samples: Any) -> Any:
-    """A sample, or several, as an array('q'), or as a numpy array of the same numbers. OverflowError where one doesn't fit 64 bits;
-    TypeError where one isn't a whole number."""
+    """Returns a sample, or several, as an array('q'), or as a numpy array of the same numbers. Raises OverflowError if a number
+    doesn't fit 64 bits, TypeError if one isn't a whole number."""
     if isinstance(samples, array):
         return of_array(samples)
     if isinstance(samples, TEXTS):
@@ -64,7 +64,7 @@ def held_in(samples: Any) -> Any:
 
 
 def of_array(samples: "array[Any]") -> "array[int]":
-    """An array of the standard library as one of 64-bit numbers."""
+    """Returns an array of the standard library as one of 64-bit numbers."""
     if samples.typecode == "q":
         return samples
     if samples.typecode not in "bBhHiIlLQ":
@@ -73,7 +73,7 @@ def of_array(samples: "array[Any]") -> "array[int]":
 
 
 def of_numpy(samples: Any) -> Any:
-    """An array of numpy, or a single number of it, as an array of 64-bit numbers."""
+    """Returns an array of numpy, or a single number of it, as an array of 64-bit numbers."""
     numpy = numpy_if_there()
     if isinstance(samples, numpy.ma.MaskedArray):
         raise TypeError("an array with a mask can't be taken as samples: use its filled() or compressed()")

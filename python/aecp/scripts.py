@@ -1,4 +1,4 @@
-"""Scripts of edits: judged, made on stored samples, and taken from the difference of two lists of samples."""
+"""Scripts of edits: checks them, applies them to stored samples, and makes them from the difference of two lists of samples."""
 
 from __future__ import annotations
 
@@ -11,11 +11,11 @@ from aecp.options import Options
 
 MOST_SAMPLES = 2**32
 PART = 1 << 16  # samples that are compared at once
-SMALL_PART = 1 << 11  # where differences are looked for
+SMALL_PART = 1 << 11  # samples of a part that is searched for differences
 LEAF = 16  # samples that are compared one by one
-A_LINE = 1000  # values of a line that is written
+A_LINE = 1000  # the most values in a line that is written
 SHOWN = 30  # characters of a word in a complaint
-# How many places follow a name, and whether values come after them.
+# For each name, how many places follow it, and whether values follow them.
 FORMS = {"overwrite": (1, True), "append": (0, True), "truncate": (1, False), "insert": (1, True), "remove": (2, False)}
 PLACES = {"overwrite": "FIRST V..", "append": "V..", "truncate": "COUNT", "insert": "FIRST V..", "remove": "FIRST LEN"}
 
@@ -29,7 +29,7 @@ class Edit(NamedTuple):
     values: list[int]
 
     def exchanged(self, count: int) -> tuple[int, int]:
-        """From which place up to which one the values replace what is there, of so many samples."""
+        """Returns which places, of `count` samples, the values replace: the first one, and the one after the last."""
         first = self.places[0] if self.places else count
         if self.name == "overwrite":
             return first, first + len(self.values)
@@ -39,11 +39,11 @@ class Edit(NamedTuple):
 
 
 class BadLine(Exception):
-    """Why a line is no edit, or doesn't fit."""
+    """A line is no edit, or doesn't fit. The text says why."""
 
 
 class Judged(NamedTuple):
-    """The edits of a script, what is wrong with its other lines, and how many samples the edits leave."""
+    """The edits of a script, what is wrong with its other lines, and the number of samples after the edits."""
 
     edits: list[Edit]
     complaints: list[str]
@@ -51,7 +51,7 @@ class Judged(NamedTuple):
 
 
 def cut(word: str) -> str:
-    """A word for a complaint, without its end where it is long."""
+    """Returns a word for a complaint. A long word is cut."""
     return word if len(word) <= SHOWN else f"{word[:SHOWN]}.."
 
 
@@ -64,7 +64,7 @@ def number_in(word: str, least: int, end: int, what: str) -> int:
 
 
 def edit_of(line: int, words: list[str], allow_empty: bool) -> Edit:
-    """The edit that the words of a line say."""
+    """Returns the edit that the words of a line mean. Raises BadLine if they mean none."""
     name, rest = words[0], words[1:]
     if name not in FORMS:
         raise BadLine(f"{cut(name)!r} is none of {', '.join(FORMS)}")
@@ -78,7 +78,7 @@ def edit_of(line: int, words: list[str], allow_empty: bool) -> Edit:
 
 
 def judge(edit: Edit, count: int, options: Options) -> int:
-    """How many samples an edit of so many leaves. BadLine where it doesn't fit."""
+    """Returns the number of samples after an edit of `count` samples. Raises BadLine if the edit doesn't fit."""
     first, end = edit.exchanged(count)
     if end > count:
         what = f"the {len(edit.values)} samples from place {first} on reach" if end - first > 1 and first < count else f"place {first} is"
@@ -97,7 +97,7 @@ def judge(edit: Edit, count: int, options: Options) -> int:
 
 
 def judged(script: bytes, count: int, options: Options, allow_empty: bool = False) -> Judged:
-    """The edits of a script for so many samples. Each bad line is a complaint, and the lines after it are judged without it."""
+    """Returns the edits of a script for `count` samples. Each bad line is a complaint, and the lines after it are checked without it."""
     edits, complaints = [], []
     for line, data in enumerate(script.split(b"\n"), 1):
         words = [word for word in re.split("[ \t]", data[: -1 if data.endswith(b"\r") else None].decode("utf-8", "backslashreplace")) if word]
@@ -135,7 +135,7 @@ class Store:
 
 
 def edited(samples: bytearray, edits: list[Edit], options: Options) -> bytearray:
-    """Makes edits on stored samples for which they were judged, and returns these."""
+    """Applies checked edits to stored samples, and returns these samples."""
     store = Store(options)
     for edit in edits:
         first, end = edit.exchanged(len(samples) // store.width)
@@ -144,8 +144,8 @@ def edited(samples: bytearray, edits: list[Edit], options: Options) -> bytearray
 
 
 def parts_of(edits: list[Edit], width: int) -> Optional[list[tuple[int, int]]]:
-    """Where edits that only overwrite may have changed stored samples: the first byte and the length of each part, in order. None where
-    other edits may have moved samples."""
+    """Returns the parts of the stored samples that overwrites may have changed: the first byte and the length of each, in order. Returns
+    None if there are other edits, which may have moved samples."""
     if any(edit.name != "overwrite" for edit in edits):
         return None
     parts: list[tuple[int, int]] = []
@@ -159,14 +159,14 @@ def parts_of(edits: list[Edit], width: int) -> Optional[list[tuple[int, int]]]:
 
 
 def all_parts(size: int, width: int) -> Iterator[tuple[int, int]]:
-    """All of so many bytes, in parts."""
+    """Yields parts that cover so many bytes."""
     for first in range(0, size, SMALL_PART * width):
         yield first, SMALL_PART * width
 
 
 def differing_runs(before: bytes, after: bytes, width: int, parts: Optional[list[tuple[int, int]]] = None) -> Iterator[tuple[int, int]]:
-    """The runs of samples that differ in two lists of the same length: the first place of each, and the one after its last. Only these
-    parts can differ, where they are known."""
+    """Yields the runs of samples that differ in two lists of the same length: the first place of each run, and the place after its last.
+    With `parts`, only these are compared."""
     begun = end = -1
     for first, length in all_parts(len(before), width) if parts is None else parts:
         for at in differing_places(before, after, first, length, width):
@@ -180,7 +180,7 @@ def differing_runs(before: bytes, after: bytes, width: int, parts: Optional[list
 
 
 def differing_places(before: bytes, after: bytes, first: int, length: int, width: int) -> Iterator[int]:
-    """The places of samples that differ, in a part of the bytes: halves that are equal are passed over."""
+    """Yields the places of samples that differ, in a part of the bytes. Halves that are equal are skipped."""
     ours, theirs = before[first : first + length], after[first : first + length]
     if ours == theirs:
         return
@@ -193,7 +193,7 @@ def differing_places(before: bytes, after: bytes, first: int, length: int, width
 
 
 def equal_front(before: bytes, after: bytes, width: int) -> int:
-    """How many samples at the front are the same."""
+    """Returns how many samples at the front are equal."""
     most = min(len(before), len(after)) // width
     least = 0
     step = PART
@@ -209,7 +209,7 @@ def equal_front(before: bytes, after: bytes, width: int) -> int:
 
 
 def equal_end(before: bytes, after: bytes, width: int, front: int) -> int:
-    """How many samples at the end are the same, after the front."""
+    """Returns how many samples at the end are equal, without the front."""
     most = min(len(before), len(after)) // width - front
     same = 0
     step = PART
@@ -226,8 +226,8 @@ def equal_end(before: bytes, after: bytes, width: int, front: int) -> int:
 
 
 class Change(NamedTuple):
-    """How two lists of samples differ. By places: the runs that differ at the same places, and one list is longer than the
-    other. Else `runs` is None: the front and the end are the same, and what is between them is exchanged."""
+    """How two lists of samples differ. Either `runs` are the ranges of places that differ, and the longer list has more samples at its
+    end; or `runs` is None, and the samples after the first `front` and before the last `end` are replaced."""
 
     runs: Optional[list[tuple[int, int]]]
     front: int
@@ -236,7 +236,7 @@ class Change(NamedTuple):
 
 
 def change_of(before: bytes, after: bytes, width: int, parts: Optional[list[tuple[int, int]]] = None) -> Change:
-    """The way that names fewer samples. Only these parts can differ, where they are known."""
+    """Returns the change that names fewer samples. With `parts`, only these are compared."""
     both = min(len(before), len(after))
     number = abs(len(before) - len(after)) // width
     front, end, most = 0, 0, 2 * both
@@ -255,7 +255,7 @@ def change_of(before: bytes, after: bytes, width: int, parts: Optional[list[tupl
 
 
 def difference(before: bytes, after: bytes, change: Change, options: Options) -> Iterator[bytes]:
-    """The lines of a script that makes the samples `after` of the samples `before`, which differ in that way."""
+    """Yields the lines of a script that makes the samples `after` from the samples `before`. `change` is how they differ."""
     store = Store(options)
     width, front, end = store.width, change.front * store.width, change.end * store.width
     if change.runs is not None:
@@ -272,7 +272,7 @@ def difference(before: bytes, after: bytes, change: Change, options: Options) ->
 
 
 def lines_of(name: str, first: int, data: bytes, store: Store) -> Iterator[bytes]:
-    """The lines that put stored samples at a place, by so many values a line."""
+    """Yields the lines that put stored samples at a place, with at most A_LINE values each."""
     size = A_LINE * store.width
     for part in range(0, len(data), size):
         values = " ".join(map(str, store.values_of(data[part : part + size])))
@@ -280,7 +280,7 @@ def lines_of(name: str, first: int, data: bytes, store: Store) -> Iterator[bytes
 
 
 def script_within(lines: Iterable[bytes], most: int) -> Optional[bytes]:
-    """A script of these lines, None where it has more bytes than that."""
+    """Returns a script of these lines, or None if it has more than `most` bytes."""
     out, size = [], 0
     for line in lines:
         size += len(line)

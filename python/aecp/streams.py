@@ -1,4 +1,4 @@
-"""Coded streams: edited by a script, coded in pieces, and decoded in pieces."""
+"""Coded streams: editing by a script, coding in pieces, decoding in pieces."""
 
 from __future__ import annotations
 
@@ -11,17 +11,19 @@ from aecp.faults import NO_ROOM, fault_of
 from aecp.library import LIBRARY, Coder, EditReply, Reader, Reply, c_options, text_of
 from aecp.options import Options
 
-SPARE = 4096  # bytes that an edited stream may take beside those of the stream and of the script
+SPARE = 4096  # bytes that are tried for an edited stream, beyond those of the stream and the script
 
 
 def edit(coded: Any, count: Optional[int], script: Union[str, Any], options: Options) -> tuple[bytes, int]:
-    """Applies a script of edits to the first `count` samples of coded bytes, or to all with count None. Returns the edited stream, and its
+    """Applies a script of edits to the first `count` samples of a stream, or to all with count None. Returns the edited stream and its
     number of samples. All lines apply, or none.
 
-    script: text, or what has a buffer of bytes: lines such as `insert 100 7 8 9`, `append V..`, `overwrite FIRST V..`,
-    `remove FIRST LEN` and `truncate COUNT`. Places count from 0, in the result of the lines above.
-    Raises ScriptRefused with the `line` that is no edit; what decode_bytes raises; and for an edit that is refused a RangeRefused,
-    SampleRefused, LimitPassed or NoMemory with its `line`.
+    coded: the stream, in a contiguous buffer.
+    script: text, or a contiguous buffer. Its lines are such as `insert 100 7 8 9`, `append V..`, `overwrite FIRST V..`, `remove FIRST
+    LEN` and `truncate COUNT`. Places count from 0, in the result of the lines above.
+
+    Raises ScriptRefused if a `line` is no edit; what decode_bytes raises; RangeRefused, SampleRefused, LimitPassed or NoMemory, with its
+    `line`, if an edit is refused.
     """
     source, text = Source(coded, "coded"), Source(script.encode() if isinstance(script, str) else script, "script", "text or bytes")
     given, number, edited = c_options(options), number_of(count), EditReply()
@@ -37,14 +39,14 @@ def edit(coded: Any, count: Optional[int], script: Union[str, Any], options: Opt
 
 
 class Alone:
-    """What holds memory of the library that no copy can share."""
+    """An object that holds memory of the library. It can't be copied or pickled."""
 
     def __reduce__(self) -> Any:
         raise TypeError(f"{type(self).__name__} objects can't be copied or pickled")
 
 
 class Encoder(Alone):
-    """Codes samples that come in pieces. However they are cut, the bytes are together those of one `encode` of all samples.
+    """Codes samples in pieces. Together, the returned bytes are those of one `encode` of all samples, wherever the samples were cut.
 
         coder = aecp.Encoder(options)
         for piece in pieces:
@@ -64,12 +66,15 @@ class Encoder(Alone):
 
     @property
     def count(self) -> int:
-        """How many whole samples were fed."""
+        """The number of whole samples that were fed."""
         return self._bytes // self.options.storage
 
     def feed(self, samples: Any) -> bytes:
-        """Takes samples, as encode does, and returns the bytes that are complete: those of whole intervals. In bytes a sample may be cut
-        in two. Raises what encode does, and after that the same each time."""
+        """Codes more samples, given as for encode; in bytes, a sample may be cut in two. Returns the bytes of the intervals that became
+        complete.
+
+        Raises what encode raises. After a Fault each later feed raises it again; after finish a feed raises a Fault with the number 19.
+        """
         source, reply = Source(native(samples, self.options), "samples"), Reply()
         with self._lock:
             judge(LIBRARY.aecp_coder_feed(self._coder, source.at, source.size, reply), reply)
@@ -77,7 +82,11 @@ class Encoder(Alone):
             return self._take(reply.len)
 
     def finish(self) -> bytes:
-        """Ends the stream and returns its last bytes. The encoder takes no more then."""
+        """Ends the stream. Returns its last bytes. An incomplete sample is dropped.
+
+        Raises the fault of an earlier feed, or NoMemory; then the samples of the last interval are lost. After finish, also a failed
+        one, feed and finish raise a Fault with the number 19.
+        """
         reply = Reply()
         with self._lock:
             judge(LIBRARY.aecp_coder_finish(self._coder, reply), reply)
@@ -96,14 +105,14 @@ class Encoder(Alone):
 
 
 class Decoder(Alone):
-    """Decodes the first `count` samples of coded bytes, or all with count None, interval by interval: an iterator over arrays, as decode
-    returns them. It keeps a copy of the coded bytes, and the samples of one interval.
+    """Decodes the first `count` samples of a stream, or all with count None, interval by interval. It is an iterator over numpy arrays
+    as decode returns them, one for each interval. It holds a copy of the stream, and the samples of one interval.
 
         for samples in aecp.Decoder(coded, count, options):
             ...
 
-    Raises what decode does, where it comes to the fault; the earlier samples were returned then. Any number of threads may call, and
-    each interval goes to one of them.
+    Raises what decode raises, but a fault of the stream only when its interval is reached, after the arrays before it. Any number of
+    threads may call: each interval is returned to one of them.
     """
 
     def __init__(self, coded: Any, count: Optional[int], options: Options) -> None:
@@ -119,7 +128,7 @@ class Decoder(Alone):
         return self
 
     def __next__(self) -> Array:
-        # What these raise, they raise before the reader moves.
+        # If these raise, the reader has not moved yet.
         numpy, dtype = needed_numpy(), self.options.dtype
         stored = self.next_bytes()
         if not stored:
@@ -128,7 +137,8 @@ class Decoder(Alone):
         return samples
 
     def next_bytes(self) -> bytearray:
-        """The stored samples of the next interval; none after the last one. Needs no numpy."""
+        """Returns the stored samples of the next interval as a bytearray, empty after the last interval. Needs no numpy. Raises
+        StreamRefused or LimitPassed, and the decoder stays where it was."""
         reply = Reply()
         with self._lock:
             target = Target(self._room)
@@ -136,8 +146,9 @@ class Decoder(Alone):
             return bytearray(target.view[: reply.len])
 
     def go_to(self, interval: int) -> int:
-        """Goes to the start of an interval, counted from 0, or to the end if there are fewer. Returns the number of samples before
-        there. Raises what decode does, and is then where it was."""
+        """Goes to the start of an interval, counted from 0, or to the end if there are fewer. Returns the number of samples before that
+        place. Reads all intervals on the way; to go back, all from the first. Raises what next_bytes raises, and the decoder stays where
+        it was."""
         reply = Reply()
         with self._lock:
             judge(LIBRARY.aecp_reader_go_to(self._reader, place(interval, "interval"), reply), reply)
@@ -149,6 +160,6 @@ class Decoder(Alone):
 
 
 def judge(number: int, reply: Reply) -> None:
-    """Raises the fault of a reply, if it is one."""
+    """Raises the exception for a reply, if `number` is a fault."""
     if number:
         raise fault_of(number, reply.place, text_of(reply))

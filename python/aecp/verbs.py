@@ -1,4 +1,4 @@
-"""What each verb of the command does. The functions return the status."""
+"""The verbs of the command. The functions do_.. return the status."""
 
 from __future__ import annotations
 
@@ -27,7 +27,7 @@ R = TypeVar("R")
 
 
 def refusing(path: str, work: Callable[[], int]) -> int:
-    """The status of a piece of work on a file; what it refuses is said with the file's name."""
+    """Returns the status of a piece of work on a file. If the work is refused, prints why, with the file's name."""
     try:
         return work()
     except Refused as refusal:
@@ -44,7 +44,7 @@ def refusing(path: str, work: Callable[[], int]) -> int:
 
 
 def options_of(asked: argparse.Namespace) -> Options:
-    """The options that the words give."""
+    """Returns the options that the words give. Raises Refused if the format has no such options."""
     given = {name: getattr(asked, name) for name in NUMBERS + FLAGS}
     for name, value in USUAL.items():
         given[name] = value if given[name] is None else given[name]
@@ -54,12 +54,12 @@ def options_of(asked: argparse.Namespace) -> Options:
 
 
 def usage(asked: argparse.Namespace, text: str) -> int:
-    """Says that the words are wrong."""
+    """Prints that the words are wrong. Returns the status."""
     return complain(f"{text}; `aecp {asked.verb} --help` tells more", 2)
 
 
 def input_of(path: str) -> bytes:
-    """The bytes of a file; - is standard input."""
+    """Returns the bytes of a file; - is standard input."""
     if path == "-":
         return sys.stdin.buffer.read()
     with open(path, "rb") as file:
@@ -67,13 +67,14 @@ def input_of(path: str) -> bytes:
 
 
 def leave_stops() -> None:
-    """In a process of a pool: the first process is told of stops, and lets what is begun end."""
+    """Ignores signals to stop, in a process of a pool. The first process handles them, and lets the pool finish what it has
+    begun."""
     for number in (signal.SIGINT, signal.SIGTERM, signal.SIGHUP):
         signal.signal(number, signal.SIG_IGN)
 
 
 def spread(work: Callable[[list[T]], list[R]], items: list[T], jobs: Optional[int]) -> Iterator[R]:
-    """What work gives for all items, by so many processes."""
+    """Yields the results of `work` for all items, from `jobs` processes, or from one for each core."""
     count = jobs or len(os.sched_getaffinity(0))
     chunks = [items[i : i + A_CHUNK] for i in range(0, len(items), A_CHUNK)]
     if min(count, len(chunks)) < 2:
@@ -89,7 +90,7 @@ def spread(work: Callable[[list[T]], list[R]], items: list[T], jobs: Optional[in
 
 
 def with_progress(parts: Any, total: Optional[int] = None) -> Any:
-    """The parts, with progress on a terminal where tqdm is installed."""
+    """Returns the parts. On a terminal they come with progress if tqdm is installed."""
     if not sys.stderr.isatty():
         return parts
     try:
@@ -147,7 +148,7 @@ def do_check(asked: argparse.Namespace) -> int:
 
 
 def pair_of(path: str, mend: bool = True) -> Pair:
-    """The pair of a stream, once what a stopped run left is finished and said."""
+    """Returns the pair of a stream. With `mend`, first finishes what a stopped run left, and says so."""
     pair = Pair(checking.stream_of(path) if os.path.basename(path) != STREAM else path)
     if not os.path.lexists(pair.path) and not os.path.lexists(pair.note_path):
         raise Refused("it is a folder: name a file in it" if os.path.isdir(path) else "there is no such file")
@@ -184,7 +185,7 @@ def do_back(asked: argparse.Namespace) -> int:
 
 
 def under_lock(path: str, work: Callable[[Pair], str]) -> int:
-    """Changes a pair that no other run is changing."""
+    """Does a piece of work on a pair that no other run is changing, and prints its text. Returns the status."""
 
     def locked() -> int:
         pair = pair_of(path, mend=False)
@@ -218,7 +219,7 @@ def do_log(asked: argparse.Namespace) -> int:
         if asked.script is not None:
             reading.write_out("-", editing.script_in(note, asked.script))
             return 0
-        print("\n".join(editing.log_lines(note) or ["no history: the note is of keep.sh"]))
+        print("\n".join(editing.log_lines(note) or ["no history: the note was written by the older keep.sh"]))
         return 0
 
     return refusing(asked.file, work)
@@ -282,7 +283,7 @@ def do_fit(asked: argparse.Namespace) -> int:
             raise Refused("it is empty")
         if asked.bits is None:
             guess = fitting.guessed_bits(data)
-            print(f"-n isn't given; the front of the file is shortest as samples of {guess.bits} bits{' with -m' if guess.msb_first else ''}")
+            print(f"-n isn't given; the start of the file takes the fewest bytes as samples of {guess.bits} bits{' with -m' if guess.msb_first else ''}")
             asked.bits, asked.msb_first = guess.bits, guess.msb_first
         options = options_of(asked)
         piece = data if asked.all else data[: fitting.PIECE]
@@ -290,12 +291,12 @@ def do_fit(asked: argparse.Namespace) -> int:
         return 0
 
     if asked.stream is not None and (asked.stream < 1 or asked.msb_first or asked.three_byte or asked.signed):
-        return usage(asked, "--stream needs a count; -m and -3 change nothing in a stream, and -s is tried by itself")
+        return usage(asked, "--stream needs a count; -m and -3 change nothing in a stream, and both signs are tried anyway")
     return refusing(asked.file, work)
 
 
 def noted(path: str) -> Any:
-    """The note of a stream, None where there is none or a bad one."""
+    """Returns the note of a stream, or None if there is none or a bad one."""
     try:
         return Pair(path).note()
     except Damaged:

@@ -15,23 +15,23 @@ from aecp.options import Options, whole
 from aecp.samples import Held, Samples, several
 
 SHOWN = 6  # samples that repr shows
-FIRST_ROOM = 1 << 16  # bytes for a stream whose length isn't known yet
+FIRST_ROOM = 1 << 16  # bytes of the first buffer for a stream
 
 
 class Workspace(MutableSequence[int]):
-    """Samples in coded form. Each edit codes as few intervals as it can, and one that is refused changes nothing.
+    """A list of whole numbers in coded form. An edit codes as few intervals as it can. A refused edit changes no sample.
 
         with aecp.Workspace(options, range(100)) as work:
             work[10:13] = [7, 8, 9]
             del work[:5]
             coded, count = work.tobytes(), len(work)
 
-    It is a list of whole numbers. Samples come as numbers in any iterable, an array of the module array or a numpy array of
-    integers; `append`, `insert` and `overwrite` also take a single number. Bytes, text, bools, floats and arrays with a mask raise
-    TypeError. Iteration, `index` and `count` decode all samples once.
+    Samples are given as an iterable of numbers, an array of the module array or a numpy array of integers; to `append`, `insert` and
+    `overwrite` also as a single number. Bytes, text, bools, floats and masked arrays raise TypeError. The constructor raises
+    OptionsRefused, and what append raises. Iteration, `in`, `index` and `count` decode all samples once.
 
-    Any number of threads may use a workspace: its calls run one after the other. A copy, also by pickle, has samples of its own.
-    After close, which the end of the block calls, it has length 0 and its edits raise a Fault.
+    Any number of threads may use a workspace: its calls run one after the other. A copy, also by pickle, has samples of its own. After
+    close, which the end of the `with` block calls, the length is 0, and edits raise a Fault with the number 19.
     """
 
     __hash__ = None  # type: ignore[assignment]
@@ -50,13 +50,13 @@ class Workspace(MutableSequence[int]):
 
     @classmethod
     def of_coded(cls, coded: Any, count: Optional[int], options: Options) -> Workspace:
-        """A workspace with the first `count` samples of coded bytes, or all with count None. Raises what decode_bytes does."""
+        """Returns a workspace with the first `count` samples of a stream, or all with count None. Raises what decode_bytes raises."""
         work, source = cls(options), Source(coded, "coded")
         work._call("aecp_load", c_options(options), number_of(count), source.at, source.size, front=True)
         return work
 
     def _call(self, name: str, *words: Any, front: bool = False) -> int:
-        """The length that a call returns. With `front` the words come before the handle."""
+        """Makes a call of the library. Returns the length in its reply. With `front`, the words come before the handle."""
         reply = Reply()
         with self._lock:
             words = (*words, self._handle) if front else (self._handle, *words)
@@ -65,33 +65,35 @@ class Workspace(MutableSequence[int]):
             raise fault_of(number, reply.place, text_of(reply))
         return reply.len
 
-    # Edits. Each returns how many intervals it has coded.
+    # Edits.
 
     def append(self, samples: Samples) -> int:  # type: ignore[override]
-        """Adds a sample, or several, after the last one. Raises SampleRefused, LimitPassed, NoMemory; OverflowError for a number past 64 bits."""
+        """Adds a sample, or several, after the last one. Returns the number of intervals coded. Raises SampleRefused, LimitPassed,
+        NoMemory; OverflowError if a number doesn't fit 64 bits."""
         held = Held(samples)
         return self._call("aecp_append", held.at, held.len)
 
     def truncate(self, count: int) -> int:
-        """Keeps the first `count` samples. Raises RangeRefused, NoMemory."""
+        """Keeps the first `count` samples. Returns the number of intervals coded. Raises RangeRefused, NoMemory."""
         return self._call("aecp_truncate", place(count, "count"))
 
     def remove(self, first: int, length: Optional[int] = None) -> int:  # type: ignore[override]
-        """Takes out `length` samples from place `first` on. Raises RangeRefused, NoMemory. With one argument, as a list does, takes out
-        the first sample that equals it; ValueError where there is none."""
+        """Removes `length` samples, from place `first` on. Returns the number of intervals coded. Raises RangeRefused, NoMemory. With one
+        argument, as in a list, removes the first sample that equals it, or raises ValueError if there is none."""
         with self._lock:
             if length is None:
                 first, length = self.index(first), 1
             return self._call("aecp_remove", place(first, "first"), place(length, "length"))
 
     def overwrite(self, first: int, samples: Samples) -> int:
-        """Replaces the samples from place `first` on by as many. Raises RangeRefused, SampleRefused, NoMemory."""
+        """Writes samples over those from place `first` on. The length stays. Returns the number of intervals coded. Raises RangeRefused,
+        SampleRefused, NoMemory; OverflowError if a number doesn't fit 64 bits."""
         held = Held(samples)
         return self._call("aecp_overwrite", place(first, "first"), held.at, held.len)
 
     def insert(self, first: int, samples: Samples) -> int:  # type: ignore[override]
-        """Puts a sample, or several, before the one at place `first`, or after the last. As in a list, a negative place counts from the
-        end, and one outside the samples means the nearer end. Raises what append raises."""
+        """Inserts a sample, or several, before place `first`. As in a list, a negative place counts from the end, and a place outside the
+        samples means the nearer end. Returns the number of intervals coded. Raises what append raises."""
         held, first = Held(samples), whole(first, "first")
         with self._lock:
             count = len(self)
@@ -99,29 +101,29 @@ class Workspace(MutableSequence[int]):
             return self._call("aecp_insert", first, held.at, held.len)
 
     def extend(self, samples: Iterable[int]) -> None:
-        """Adds the samples of an iterable after the last one. TypeError for a single number."""
+        """Adds the samples of an iterable after the last one. Raises what append raises; TypeError for a single number."""
         self.append(several(samples))
 
     def clear(self) -> None:
-        """Takes out all samples."""
+        """Removes all samples."""
         self.truncate(0)
 
     def pop(self, index: int = -1) -> int:
-        """Takes out the sample at a place, and returns it."""
+        """Removes the sample at a place, and returns it. Raises IndexError if there is none."""
         with self._lock:
             sample = self[index]
             del self[index]
         return sample
 
     def reverse(self) -> None:
-        """Turns the order of all samples round."""
+        """Reverses the order of all samples."""
         with self._lock:
             self.overwrite(0, self[::-1])
 
     # Reading.
 
     def read(self, first: int, length: int) -> "array[int]":
-        """`length` samples from place `first` on, as an array('q'). Raises RangeRefused, NoMemory."""
+        """Returns `length` samples, from place `first` on, as an array('q'). Raises RangeRefused, NoMemory."""
         first, length = place(first, "first"), place(length, "length")
         with self._lock:
             out = array("q", [0]) * min(length, len(self))
@@ -129,7 +131,7 @@ class Workspace(MutableSequence[int]):
         return out
 
     def tobytes(self) -> bytes:
-        """The stream of all samples; decode reads it with their number."""
+        """Returns the stream of all samples. Keep their number too: decoding needs it. Raises NoMemory."""
         reply = Reply()
         with self._lock:
             while True:
@@ -142,12 +144,12 @@ class Workspace(MutableSequence[int]):
                 self._room = reply.len
 
     def calls(self) -> int:
-        """How many intervals have been coded so far."""
+        """Returns how many intervals were coded so far, also by edits that were refused for NoMemory."""
         with self._lock:
             return int(LIBRARY.aecp_calls(self._handle))
 
     def index(self, value: Any, start: int = 0, stop: Optional[int] = None) -> int:
-        """The first place of a sample from `start` on and before `stop`. ValueError where there is none."""
+        """Returns the first place of a sample, from `start` on and before `stop`. Raises ValueError if there is none."""
         with self._lock:
             first, end, _ = slice(start, stop).indices(len(self))
             samples = self.read(first, max(end - first, 0))
@@ -157,17 +159,17 @@ class Workspace(MutableSequence[int]):
             raise ValueError(f"{value!r} is not among the samples") from None
 
     def count(self, value: Any) -> int:
-        """How many samples equal a value."""
+        """Returns how many samples equal a value."""
         return self[:].count(value)
 
     def copy(self) -> Workspace:
-        """Another workspace with the same samples."""
+        """Returns another workspace with the same samples."""
         made = self.__reduce__()
         work: Workspace = made[0](*made[1])
         return work
 
     def __reduce__(self) -> tuple[Callable[..., Any], tuple[Any, ...]]:
-        """A copy is made of the code. Raises a Fault where the workspace is closed."""
+        """Makes copies and pickles from the stream. Raises a Fault with the number 19 if the workspace is closed."""
         with self._lock:
             return type(self).of_coded, (self.tobytes(), len(self), self.options)
 
@@ -210,7 +212,7 @@ class Workspace(MutableSequence[int]):
         return f"{type(self).__name__}({self.options}, [{', '.join(map(str, front))}{more}])"
 
     def __array__(self, dtype: Any = None, copy: Optional[bool] = None) -> Any:
-        """All samples as a numpy array of 64-bit numbers."""
+        """Returns all samples as a numpy array of 64-bit numbers, or of `dtype`."""
         numpy = numpy_if_there()
         samples = numpy.frombuffer(self[:], numpy.int64)
         return samples if dtype is None else samples.astype(dtype)
@@ -224,7 +226,7 @@ class Workspace(MutableSequence[int]):
     def __getitem__(self, key: slice) -> "array[int]": ...
 
     def __getitem__(self, key: Union[SupportsIndex, slice]) -> Union[int, "array[int]"]:
-        """The sample at a place, or those of a slice, as an array('q')."""
+        """Returns the sample at a place, or those of a slice as an array('q')."""
         with self._lock:
             if not isinstance(key, slice):
                 return self.read(self._place(key), 1)[0]
@@ -233,8 +235,9 @@ class Workspace(MutableSequence[int]):
         return samples[::step] if step != 1 else samples
 
     def __setitem__(self, key: Union[SupportsIndex, slice], samples: Any) -> None:
-        """Replaces the sample at a place by a number, or those of a slice by the samples of an iterable: with steps by as many, else by
-        any number of them."""
+        """Replaces the sample at a place by a number, or the samples of a slice by those of an iterable. A slice with a step needs the
+        same number of samples. If the length changes, this can take two edits. If memory is too short for the second and for undoing the
+        first, samples stay changed."""
         with self._lock:
             if not isinstance(key, slice):
                 held = Held([samples])
@@ -252,7 +255,7 @@ class Workspace(MutableSequence[int]):
             self._call("aecp_overwrite", first, Held(part).at, len(part))
 
     def __delitem__(self, key: Union[SupportsIndex, slice]) -> None:
-        """Takes out the sample at a place, or those of a slice."""
+        """Removes the sample at a place, or those of a slice."""
         with self._lock:
             if not isinstance(key, slice):
                 self.remove(self._place(key), 1)
@@ -266,14 +269,14 @@ class Workspace(MutableSequence[int]):
             self._replace(first, length, Held(part))
 
     def _place(self, key: SupportsIndex) -> int:
-        """The place that an index names. IndexError where there is none."""
+        """Returns the place that an index names. Raises IndexError if there is none."""
         try:
             return range(len(self))[key]
         except IndexError:
             raise IndexError(f"there is no place {key} among {len(self)} samples") from None
 
     def _part(self, key: slice) -> tuple[int, int, int]:
-        """The first place and the length of the part that a slice lies in, and its step within that part."""
+        """Returns the first place and the length of the part that contains a slice, and the step of the slice within that part."""
         places = range(len(self))[key]
         if not places:
             return places.start if places.step == 1 else 0, 0, places.step
@@ -283,7 +286,8 @@ class Workspace(MutableSequence[int]):
     def _replace(self, first: int, length: int, new: Held) -> None:
         """Replaces a part by any number of samples. Samples out of range are refused before anything is changed.
 
-        Another number of samples takes two edits. If the second fails, the first is undone, which memory may be too short for.
+        Another number of samples takes up to two edits. If the second fails, the first is undone. That can fail too, if memory is too
+        short.
         """
         if new.len == length:
             if length:

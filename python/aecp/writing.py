@@ -1,4 +1,5 @@
-"""New files: written under hidden names, and on the disk before they get another."""
+"""New files: written under hidden names, and synced to the disk before they get their final
+names."""
 
 from __future__ import annotations
 
@@ -9,7 +10,8 @@ from typing import Any
 
 
 def write_synced(path: str, data: Any) -> None:
-    """Writes a file anew, so that it outlives a loss of power once it has another name."""
+    """Writes a file anew and syncs it, so that it survives a loss of power once it has another
+    name."""
     file = os.open(path, os.O_WRONLY | os.O_CREAT | os.O_TRUNC | os.O_CLOEXEC, 0o666)
     try:
         rest = memoryview(data)
@@ -24,14 +26,14 @@ def write_synced(path: str, data: Any) -> None:
 
 
 def remove_all(paths: Iterable[str]) -> None:
-    """Removes files, those that are there."""
+    """Removes files. Those that can't be removed are skipped."""
     for path in paths:
         with contextlib.suppress(OSError):
             os.unlink(path)
 
 
 def sync_folder(folder: str) -> None:
-    """Makes the names in a folder outlive a loss of power, where the file system does that."""
+    """Makes the names in a folder survive a loss of power, if the file system supports that."""
     with contextlib.suppress(OSError):
         file = os.open(folder, os.O_RDONLY | os.O_CLOEXEC)
         try:
