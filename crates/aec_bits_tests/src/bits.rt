@@ -1,4 +1,4 @@
-//! Bits, their readers, devices and codecs.
+//! Tests of lists of bits, their readers, devices and codecs.
 
 mod bits;
 mod codecs;

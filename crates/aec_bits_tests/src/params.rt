@@ -1,4 +1,4 @@
-//! Parameters, samples as they are stored, edits and the texts of refusals.
+//! Tests of parameters, stored samples, limits, edits and the texts of faults.
 
 mod faults;
 mod parameters;

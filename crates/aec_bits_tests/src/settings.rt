@@ -1,8 +1,7 @@
-//! Settings that differ from the usual ones in a field or two.
+//! Settings that differ from the usual ones in a few fields.
 
 use aec_params::Settings;
 
-/// So many bits per sample.
 pub(crate) const fn width(bits: u32, signed: bool) -> Settings {
     Settings {
         bits,
@@ -11,7 +10,7 @@ pub(crate) const fn width(bits: u32, signed: bool) -> Settings {
     }
 }
 
-/// The restricted set of codes, with so many bits per sample.
+/// Returns settings with the restricted set of options and `bits` bits per sample.
 pub(crate) const fn restricted(bits: u32) -> Settings {
     Settings {
         restricted: true,
@@ -19,7 +18,7 @@ pub(crate) const fn restricted(bits: u32) -> Settings {
     }
 }
 
-/// Samples of 17 to 24 bits in three bytes.
+/// Returns settings that store samples of 17 to 24 bits in three bytes.
 pub(crate) const fn three_byte(bits: u32, signed: bool) -> Settings {
     Settings {
         three_byte: true,
@@ -27,7 +26,7 @@ pub(crate) const fn three_byte(bits: u32, signed: bool) -> Settings {
     }
 }
 
-/// With the flag for even block sizes.
+/// Returns the settings with the flag for even block sizes.
 pub(crate) const fn even_blocks(settings: Settings) -> Settings {
     Settings {
         even_blocks: true,
@@ -35,7 +34,6 @@ pub(crate) const fn even_blocks(settings: Settings) -> Settings {
     }
 }
 
-/// The most significant byte first.
 pub(crate) const fn msb_first(settings: Settings) -> Settings {
     Settings {
         msb_first: true,

@@ -1,4 +1,4 @@
-//! Worked values, and the choice against lengths that are computed plainly.
+//! The choice of an option: worked values, and a comparison with the lengths by FORMAT.md's table.
 
 ghost use Rattle.std.specs.Prelude.{◌≡◌, ◌<◌, ◌^◌, true};
 ghost use Rattle.std.specs.Bool.{OnTrue};
@@ -16,7 +16,7 @@ use std::alloc::Global;
 use std::process::Abort;
 use std::test::Fail;
 
-/// A block of the values behind the reference place.
+/// Returns a block of the values, after the reference place if there is one.
 fn block_of(alloc: Global, reference: Option<u32>, values: &[u32]) -> Block {
     let mut block = Block::new(alloc, reference);
     for v in values {
@@ -33,7 +33,7 @@ fn all_below(values: &[u32], limit: u64) -> bool
     values.iter().all(|v| u64::from(*v) < limit)
 }
 
-/// Whether a number stands as a reference sample.
+/// Returns whether a reference sample, if any, fits the bits per sample.
 pub(crate) fn fits_reference(params: &Params, reference: Option<u32>) -> bool
     ensures { OnTrue result (FitsReference params.now reference) }
 {
@@ -43,7 +43,7 @@ pub(crate) fn fits_reference(params: &Params, reference: Option<u32>) -> bool
     }
 }
 
-/// Whether the settings have a block.
+/// Returns whether a block is full and fits the settings.
 fn is_full(params: &Params, block: &Block) -> bool
     ensures { OnTrue result (IsFull params.now block.now) }
 {
@@ -86,8 +86,8 @@ fn maps_by_the_table(rt: HostRuntime) -> Result<(), Fail> {
     Ok(())
 }
 
-/// The choice for the block of these values behind the reference sample 0, and what is written by
-/// it.
+/// Checks the choice for a block of the reference sample 0 and these values, and the bits that both
+/// writers append.
 fn expect_written(
     rt: &impl Abort,
     alloc: Global,
@@ -133,7 +133,7 @@ fn chooses_and_writes_the_shortest(rt: HostRuntime) -> Result<(), Fail> {
 
 #[test]
 fn takes_the_first_of_equal_lengths(rt: HostRuntime) -> Result<(), Fail> {
-    // No compression has the length of the second extension.
+    // No compression and the second extension have equal lengths.
     let narrow = Params::new(Settings {
         bits: 2,
         interval: 1,
@@ -151,7 +151,7 @@ fn takes_the_first_of_equal_lengths(rt: HostRuntime) -> Result<(), Fail> {
         },
     );
 
-    // The second extension has the length of splitting with k = 0.
+    // The second extension and splitting with k = 0 have equal lengths.
     let params = Params::new(Settings::USUAL)?;
     let block = block_of(rt.alloc(), Some(0), &[0, 0, 0, 1, 1, 0, 0]);
     holds(&rt, is_full(&params, &block));
@@ -206,7 +206,8 @@ fn adds_up_values_of_32_bits(rt: HostRuntime) -> Result<(), Fail> {
     Ok(())
 }
 
-/// A value of a fixed block: zeros, ones, a ramp, a spike, extremes, or noise of some width.
+/// Returns a value of a fixed block: zeros, ones, a ramp, a spike, greatest values, or noise of
+/// some width.
 fn fixed_value(case: u32, place: u32, most: u32) -> u32 {
     let seed = case.wrapping_mul(0x9E37_79B9) ^ place.wrapping_mul(0x85EB_CA6B);
     let noise = (seed ^ (seed >> 15)).wrapping_mul(0x2C1B_3C6D);
@@ -237,7 +238,7 @@ fn fixed_block(alloc: Global, params: &Params, case: u32) -> Block {
     block
 }
 
-/// The length of a spelling by the table of lengths. No sum of it wraps.
+/// Returns the length of a spelling by FORMAT.md's table of lengths. No sum wraps.
 fn plain_length(params: &Params, block: &Block, coding: Coding) -> u128 {
     let head = u128::from(params.id_len());
     let n = u128::from(params.bits());
@@ -295,7 +296,7 @@ fn plain_choice(params: &Params, block: &Block) -> (Coding, u128) {
     best
 }
 
-/// Reads the bits as one coded data set, which stands for the block.
+/// Checks that the bits are one coded data set, and that it is read as the block.
 fn expect_block(
     rt: &impl Abort,
     alloc: Global,
@@ -315,8 +316,8 @@ fn expect_block(
     Ok(())
 }
 
-/// Compares the choice for each fixed block with the one by plain lengths, and the bits that are
-/// written by it with those of the code that is compiled for the number of values.
+/// Compares the choice for each fixed block with that of `plain_choice`, reads the written bits
+/// back, and compares them with those of the compiled code.
 fn compare_choices(
     rt: &impl Abort,
     alloc: Global,

@@ -8,8 +8,8 @@ use std::alloc::Global;
 use std::process::Abort;
 use std::test::Fail;
 
-/// A block without a reference sample, or with this one, stands at the bits' start and ends at
-/// `end`.
+/// Checks that the bits begin with a block of this reference sample, if any, and these values, up
+/// to bit `end`.
 fn expect_block(
     rt: &impl Abort,
     alloc: Global,
@@ -31,7 +31,7 @@ fn expect_block(
     same(rt, reader.pos(), end);
 }
 
-/// A run stands at the bits' start and ends at `end`.
+/// Checks that the bits begin with a run of length `want`, up to bit `end`.
 fn expect_run(
     rt: &impl Abort,
     alloc: Global,
@@ -53,7 +53,7 @@ fn expect_run(
     same(rt, reader.pos(), end);
 }
 
-/// The fault at place `start`, where the reader stays.
+/// Checks that reading at bit `start` fails with `want`, and the reader stays there.
 fn expect_fault(
     rt: &impl Abort,
     alloc: Global,
@@ -86,7 +86,7 @@ fn reads_reference_blocks(rt: HostRuntime) -> Result<(), Fail> {
         &[0, 1, 2, 2, 2, 2, 2, 2],
         31,
     );
-    // The first pair is (1, 0), and 1 is no value.
+    // The first pair is (1, 0), and its 1 is ignored.
     let pairs = BitBuf::from_bytes(rt.alloc(), &[0x10, 0x07, 0x80])?;
     expect_block(&rt, rt.alloc(), &params, &pairs, Some(0), &[0; 8], 17);
     // One zero block.
@@ -132,7 +132,7 @@ fn reads_the_greatest_values(rt: HostRuntime) -> Result<(), Fail> {
     Ok(())
 }
 
-/// The second extension with a first pair of a number and three pairs of zeros.
+/// Returns a second extension: a pair with this number, then three pairs of zeros.
 fn one_pair(alloc: Global, reference: Option<u32>, number: u64) -> Result<BitBuf, Fault> {
     let mut bits = BitBuf::new(alloc);
     bits.push_bits(1, 4)?;
@@ -169,7 +169,7 @@ fn judges_the_members_of_pairs(rt: HostRuntime) -> Result<(), Fail> {
         false,
         Fault::ValueTooLarge { bit: 0 },
     );
-    // The pairs (5, 0), (256, 0) and (0, 256) of a reference block.
+    // In a reference block, the first pairs (5, 0), (256, 0) and (0, 256).
     let ignored = one_pair(rt.alloc(), Some(0), 15)?;
     expect_block(&rt, rt.alloc(), &params, &ignored, Some(0), &[0; 8], 31);
     let large_ignored = one_pair(rt.alloc(), Some(0), 32_896)?;
@@ -225,7 +225,7 @@ fn judges_values_behind_the_last_bit(rt: HostRuntime) -> Result<(), Fail> {
         preprocess: false,
         ..Settings::USUAL
     })?;
-    // k = 5: eight ones, and a 2 among them.
+    // k = 5: eight values of 1; then a block whose first value is 2.
     let ones = BitBuf::from_bytes(rt.alloc(), &[0xDF, 0xE1, 0x08, 0x42, 0x10, 0x84, 0x20])?;
     expect_block(&rt, rt.alloc(), &params, &ones, None, &[1; 8], 51);
     let two = BitBuf::from_bytes(rt.alloc(), &[0xDF, 0xE2, 0x08, 0x42, 0x10, 0x84, 0x20])?;
@@ -284,8 +284,8 @@ fn refuses_each_cut(rt: HostRuntime) -> Result<(), Fail> {
     Ok(())
 }
 
-/// Bits per sample, whether the set is restricted, the bits of an identifier, and how many
-/// splitting options there are.
+/// Bits per sample, whether the set of options is restricted, bits of an identifier, and how many
+/// values k has.
 const CODE_SETS: [(u32, bool, u32, u32); 5] = [
     (1, true, 1, 0),
     (3, true, 2, 2),
@@ -303,14 +303,14 @@ fn unprocessed(bits: u32, restricted: bool) -> Result<Params, Fault> {
     })
 }
 
-// Appends a number in so many bits, which it fits.
+// Checks that a number fits `width` bits, and appends it.
 fn push_number(rt: &impl Abort, bits: &mut BitBuf, value: u64, width: u32) -> Result<(), Fault> {
     holds(rt, width < 64);
     holds(rt, value < 1 << width);
     bits.push_bits(value, width)
 }
 
-// A run up to its segment's end, behind an identifier of so many bits.
+// Checks the remainder code after the identifier of a zero block, which has `len + 1` bits.
 fn knows_runs(rt: &impl Abort, alloc: Global, params: &Params, len: u32) -> Result<(), Fault> {
     let mut run = BitBuf::new(alloc);
     push_number(rt, &mut run, 0, len.saturating_add(1))?;
@@ -320,7 +320,7 @@ fn knows_runs(rt: &impl Abort, alloc: Global, params: &Params, len: u32) -> Resu
     Ok(())
 }
 
-// Pairs of ones, by the second extension.
+// Checks four pairs of ones by the second extension.
 fn knows_pairs(rt: &impl Abort, alloc: Global, params: &Params, len: u32) -> Result<(), Fault> {
     let mut pairs = BitBuf::new(alloc);
     push_number(rt, &mut pairs, 1, len.saturating_add(1))?;
@@ -332,7 +332,7 @@ fn knows_pairs(rt: &impl Abort, alloc: Global, params: &Params, len: u32) -> Res
     Ok(())
 }
 
-// The greatest values of n bits, uncoded.
+// Checks the greatest values of `n` bits by no compression.
 fn knows_uncoded(
     rt: &impl Abort,
     alloc: Global,
@@ -363,7 +363,7 @@ fn knows_each_identifier(rt: HostRuntime) -> Result<(), Fail> {
     Ok(())
 }
 
-// Eight values of 1, or of 0 where k is 0, by the splitting option k.
+// Checks eight values of 1, or of 0 if k is 0, by sample splitting with k.
 fn knows_splitting(
     rt: &impl Abort,
     alloc: Global,
@@ -376,7 +376,7 @@ fn knows_splitting(
     push_number(rt, &mut split, u64::from(k + 1), len)?;
     split.push_bits(0xFF, 8)?;
     if k > 0 {
-        // 1 in k bits.
+        // The value 1 in k bits.
         for _ in 0..8 {
             push_number(rt, &mut split, 1, k)?;
         }

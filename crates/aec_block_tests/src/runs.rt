@@ -1,4 +1,4 @@
-//! Runs of zero blocks: worked values, and their lengths beside those of their parts.
+//! Runs of zero blocks: worked values, and a comparison of their lengths with those of their parts.
 
 ghost use Rattle.std.specs.Prelude.{◌-◌, ◌≤◌, if◌then◌else◌};
 ghost use Rattle.aec_params.specs.Runs.{segment_len};
@@ -34,8 +34,8 @@ fn writes_runs(rt: HostRuntime) -> Result<(), Fail> {
 
 #[test]
 fn writes_the_zero_block_of_each_code_set(rt: HostRuntime) -> Result<(), Fail> {
-    // The identifier is zeros, one more than the others have bits, and a run of one block is a
-    // single one.
+    // The identifier is all zeros, one bit more than L in FORMAT.md. A run of one block is then a
+    // single 1 bit.
     for (bits, restricted, len, byte) in [
         (1, true, 3, 0x20),
         (3, true, 4, 0x10),
@@ -55,7 +55,7 @@ fn writes_the_zero_block_of_each_code_set(rt: HostRuntime) -> Result<(), Fail> {
     Ok(())
 }
 
-/// How many bits the coded data set of a run has.
+/// Returns the number of bits of a run's coded data set.
 fn run_len(
     alloc: Global,
     params: &Params,
@@ -72,7 +72,7 @@ fn run_len(
     Ok(out.len())
 }
 
-/// No run has more bits than two runs that stand for the same zero blocks.
+/// Checks that no run has more bits than two runs that stand for the same zero blocks.
 fn expect_no_shorter_splits(
     rt: &impl Abort,
     alloc: Global,

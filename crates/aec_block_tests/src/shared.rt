@@ -1,10 +1,10 @@
-//! What bits are compared with.
+//! Comparisons of bits with bytes and with other bits.
 
 use crate::asserts::{holds, same, same_at};
 use aec_bits::BitBuf;
 use std::process::Abort;
 
-/// Compares bits with those of bytes, of which the last is filled with zeros.
+/// Checks the number of bits, and the bytes that the bits fill. Zeros fill up the last byte.
 pub(crate) fn expect_bits(rt: &impl Abort, bits: &BitBuf, len: u64, bytes: &[u8]) {
     same(rt, bits.len(), len);
     same(rt, bits.byte_len(), bytes.len() as u64);
@@ -14,7 +14,6 @@ pub(crate) fn expect_bits(rt: &impl Abort, bits: &BitBuf, len: u64, bytes: &[u8]
     }
 }
 
-/// Whether two lists have the same bits.
 pub(crate) fn have_same_bits(bits: &BitBuf, wanted: &BitBuf) -> bool {
     if bits.len() != wanted.len() || bits.byte_len() != wanted.byte_len() {
         return false;

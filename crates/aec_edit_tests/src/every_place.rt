@@ -1,5 +1,5 @@
-//! Insertions and removals at each place of short lists, beside a plain list, over octets, four in
-//! an interval.
+//! Insertions and removals at each place of short lists, compared with a plain list. The codec is
+//! that of octets, four in an interval.
 
 use crate::asserts::{holds_at, same_at};
 use crate::octets::{are_bytes_of, workspace};
@@ -12,7 +12,7 @@ use std::alloc::{AllocError, Global};
 use std::process::Abort;
 use std::test::Fail;
 
-/// The longest list, the most values, and both together.
+/// The greatest length of a list and of an insertion; the limit below is their sum.
 const COUNT: u64 = 13;
 
 const VALUES: u64 = 9;
@@ -26,7 +26,7 @@ const ROW: Row = Row {
     limit: 22,
 };
 
-/// So many samples, each one more than that before it.
+/// Returns `len` samples, the first one `first`, each next one greater by 1.
 fn rising(alloc: Global, first: u64, len: u64) -> Result<Vec<i64>, AllocError> {
     let mut values = Vec::new(alloc);
     for x in first..first.saturating_add(len) {
@@ -35,7 +35,6 @@ fn rising(alloc: Global, first: u64, len: u64) -> Result<Vec<i64>, AllocError> {
     Ok(values)
 }
 
-/// A workspace of a list.
 fn of_list(alloc: Global, list: &[i64]) -> Result<Workspace<Octets>, Fault> {
     let mut work = workspace(alloc, 0, ROW.limit);
     let values = Samples::new(list.to_vec(alloc)?);
@@ -43,7 +42,8 @@ fn of_list(alloc: Global, list: &[i64]) -> Result<Workspace<Octets>, Fault> {
     Ok(work)
 }
 
-/// The stream has the octets of the list, and each interval begins 32 bits after the one before.
+/// Checks that the stream is the octets of the list, and that each interval begins 32 bits after
+/// the one before.
 fn expect_list<R: Abort>(
     rt: &R,
     alloc: Global,
@@ -63,7 +63,7 @@ fn expect_list<R: Abort>(
     Ok(())
 }
 
-/// An edit of a list of so many samples.
+/// Checks an edit of a list of `count` samples.
 fn expect_edited<R: Abort>(rt: &R, alloc: Global, count: u64, edit: &Edit) -> Result<(), Fail> {
     let mut list = rising(alloc, 1, count)?;
     let mut work = of_list(alloc, &list)?;
@@ -71,7 +71,7 @@ fn expect_edited<R: Abort>(rt: &R, alloc: Global, count: u64, edit: &Edit) -> Re
     expect_list(rt, alloc, &work, &list, edit)
 }
 
-/// All insertions and removals at a place of a list of so many samples, and one removal that
+/// Checks all insertions and removals at a place of a list of `count` samples, and one removal that
 /// reaches past the end.
 fn expect_edits_at<R: Abort>(rt: &R, alloc: Global, count: u64, first: u64) -> Result<(), Fail> {
     for len in 0..VALUES + 1 {

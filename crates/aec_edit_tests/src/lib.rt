@@ -1,4 +1,4 @@
-//! Tests of workspaces: what no clause of `aec_edit` says, and worked values. Most are lines
+//! Tests of workspaces: what no clause of `aec_edit` says, and worked values. Most cases are lines
 //! of text tables.
 #![tactic(auto)]
 

@@ -1,5 +1,5 @@
-//! A stream of very many intervals by the real coder, each overwritten once. Its length is worked
-//! out by hand.
+//! A stream of 100,000 intervals by `AecCodec`, each overwritten once. Its length is worked out by
+//! hand.
 
 use crate::asserts::same;
 use aec_edit::Workspace;
@@ -8,14 +8,14 @@ use aec_params::{Edit, Fault, Params, Samples, Settings};
 use std::alloc::Global;
 use std::test::Fail;
 
-/// How many intervals, of one block of 8 samples each.
+/// The number of intervals, each of one block of 8 samples.
 const INTERVALS: u64 = 100_000;
 
-/// The bits of an interval of equal samples: an identifier of 4, the reference sample, and a run of
-/// one block.
+/// The bits of an interval of equal samples: 4 for the identifier, 8 for the reference sample, 1
+/// for a run of one block.
 const BITS: u64 = 13;
 
-/// A workspace of as many zeros as all intervals have.
+/// Returns a workspace whose intervals contain only zeros.
 fn of_zeros(alloc: Global) -> Result<Workspace<AecCodec>, Fault> {
     let params = Params::new(Settings {
         interval: 1,
@@ -28,7 +28,7 @@ fn of_zeros(alloc: Global) -> Result<Workspace<AecCodec>, Fault> {
     Ok(work)
 }
 
-/// Overwrites all samples of an interval by sevens.
+/// Overwrites all samples of an interval with sevens.
 fn put_sevens(alloc: Global, work: &mut Workspace<AecCodec>, index: u64) -> Result<u64, Fault> {
     work.apply(&Edit::Overwrite {
         first: index.saturating_mul(8),
@@ -43,7 +43,7 @@ fn many_coded_intervals_each_overwritten(rt: HostRuntime) -> Result<(), Fail> {
     for index in 0..INTERVALS {
         same(&rt, put_sevens(rt.alloc(), &mut work, index), Ok(1));
     }
-    // A wholly overwritten interval isn't decoded.
+    // An interval of which every sample is overwritten isn't decoded.
     same(&rt, (work.calls(), work.reads()), (2 * INTERVALS, 0));
     same(
         &rt,

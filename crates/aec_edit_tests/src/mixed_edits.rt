@@ -1,5 +1,5 @@
-//! Many edits over the coder itself, by a fixed rule. After each one the stream is the code of the
-//! samples that a plain list holds by then.
+//! Many generated edits with `AecCodec`. After each edit the stream must be the code of a plain
+//! list that was edited in the same way.
 
 use crate::asserts::{holds, holds_at, same, same_at};
 use crate::plain_lists::{Row, expect_edit};
@@ -91,7 +91,7 @@ const ROWS: [Row; 11] = [
         start: 0,
         limit: 160,
     },
-    // Some hundred samples around the end of an interval of 32,768.
+    // A few hundred samples around the end of the first interval, which has 32,768.
     Row {
         settings: Settings {
             bits: 12,
@@ -162,7 +162,7 @@ const ROWS: [Row; 11] = [
     },
 ];
 
-/// Numbers with no simple period.
+/// Returns the next pseudorandom number.
 fn next(seed: &mut u64) -> u64 {
     *seed = seed
         .wrapping_mul(6_364_136_223_846_793_005)
@@ -170,12 +170,12 @@ fn next(seed: &mut u64) -> u64 {
     *seed >> 31
 }
 
-/// A number below the bound.
 fn below(seed: &mut u64, bound: u64) -> u64 {
     next(seed).checked_rem(bound).unwrap_or(0)
 }
 
-/// So many values: all alike, near to each other, or anything. The last of few is no sample.
+/// Returns `len` values: all equal, near each other, or any. In one case of eight the last value is
+/// no sample.
 fn some_values(alloc: Global, seed: &mut u64, row: &Row, len: u64) -> Result<Vec<i64>, AllocError> {
     let all = row
         .high
@@ -199,7 +199,8 @@ fn some_values(alloc: Global, seed: &mut u64, row: &Row, len: u64) -> Result<Vec
     Ok(values)
 }
 
-/// A place near the end of so many samples or past it, any place, or where an interval begins.
+/// Returns a place near the end of `count` samples or past it, any place up to the end, or the
+/// beginning of an interval.
 fn some_place(seed: &mut u64, row: &Row, count: u64) -> u64 {
     let near = count.saturating_add(4).saturating_sub(below(seed, 40));
     let place = [near, below(seed, count.saturating_add(1))][below(seed, 2).min(1) as usize];
@@ -210,8 +211,8 @@ fn some_place(seed: &mut u64, row: &Row, count: u64) -> u64 {
     place
 }
 
-/// How many samples an edit puts in or takes out: any number of some two blocks, or whole intervals
-/// where these are short.
+/// Returns a number of samples for an edit: any up to about two intervals, at most 162, or, if
+/// intervals are short, that of whole ones.
 fn some_len(seed: &mut u64, row: &Row) -> u64 {
     let any = below(seed, row.most.min(80).saturating_mul(2).saturating_add(3));
     if row.most <= 128 && below(seed, 4) == 0 {
@@ -255,8 +256,8 @@ pub(crate) fn some_edit(
     })
 }
 
-/// The code of the first samples of a list: its bits, how many they are, and the bytes that they
-/// fill.
+/// Returns the code of the first `len` samples of a list: its number of bits, and the bytes that
+/// they fill.
 fn code_of(
     alloc: Global,
     params: &Params,
@@ -270,8 +271,8 @@ fn code_of(
     Ok((code.len(), sink.into_inner()))
 }
 
-/// The stream is the code of the list, and each interval begins where the code of the samples
-/// before it ends.
+/// Checks that the stream is the code of the list, and that each interval begins where the code of
+/// the samples before it ends.
 fn expect_code<R: Abort>(
     rt: &R,
     alloc: Global,
@@ -293,8 +294,8 @@ fn expect_code<R: Abort>(
     Ok(())
 }
 
-/// Two hundred edits, after a first one, beside a plain list. There are enough of each kind, made
-/// and refused.
+/// Makes a first edit and two hundred more, and compares each with that of a plain list. Checks
+/// that there are enough of each kind, made and refused.
 fn expect_edits<R: Abort>(rt: &R, alloc: Global, row: &Row) -> Result<(), Fail> {
     let params = Params::new(row.settings)?;
     let mut work = workspace(alloc, params, 0, row.limit);
@@ -315,7 +316,8 @@ fn expect_edits<R: Abort>(rt: &R, alloc: Global, row: &Row) -> Result<(), Fail> 
     Ok(())
 }
 
-/// Of each kind there are ten at least: refused for a value, as too many, as out of range; made.
+/// Checks that there are at least ten of each kind: refused for a value, as too many, as out of
+/// range; made.
 fn expect_each_kind(rt: &impl Abort, tally: u64) {
     let [
         bad,

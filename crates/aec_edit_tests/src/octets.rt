@@ -1,5 +1,4 @@
-//! Workspaces over a coder of octets, four in an interval, so that each stream can be read off its
-//! samples.
+//! Workspaces with the codec of octets, four in an interval: a stream is the bytes of its samples.
 
 use crate::asserts::{holds_at, same};
 use crate::mixed_edits::some_edit;
@@ -18,12 +17,12 @@ use std::io::Write;
 use std::process::Abort;
 use std::test::Fail;
 
-/// An empty workspace, whose codec counts on from so many calls.
+/// Returns an empty workspace whose codec's count begins at `calls`.
 pub(crate) fn workspace(alloc: Global, calls: u64, limit: u64) -> Workspace<Octets> {
     Workspace::new(alloc, Octets::new(alloc, calls), limit.min(1 << 32))
 }
 
-// The calls that a codec counts on from, the limit, and the steps from nothing on.
+// Where the codec's count begins, the limit, and the steps of a workspace that is empty at first.
 const TABLES: [(u64, u64, &str); 10] = [
     (
         0,
@@ -37,7 +36,7 @@ truncate 3       | 1 | 01 02 03 | 24 0 | 1
 overwrite 0 256  | sample 0 is out of range | 01 02 03 | 24 0 | 0
 append 1*6       | more than 8 samples | 01 02 03 | 24 0 | 0",
     ),
-    // Of each kind, edits that fit and edits that don't.
+    // Overwrites, appends and truncations that fit, and others that don't.
     (
         0,
         8,
@@ -54,7 +53,8 @@ overwrite 4      | 0 | 01 02 03 09 | 32 0 | 0
 truncate 3       | 1 | 01 02 03 | 24 0 | 1
 range 0 3        | 1 2 3 | 01 02 03 | 24 0 | 1",
     ),
-    // One call is left, and none. Edits that code nothing are made; the limit comes before calls.
+    // One call is left, then none. Edits that code nothing are made; the limit is judged before
+    // calls.
     (
         18446744073709551614,
         8,
@@ -67,7 +67,8 @@ truncate 4    | 0 | 01*4 | 32 0 | 0
 truncate 0    | 0 | | 0 | 0
 append 1*9    | more than 8 samples | | 0 | 0",
     ),
-    // The same with a sample that stays, and with more samples than have room behind those there.
+    // The same, with a truncation that keeps samples of an interval, and an append to a list that
+    // isn't empty.
     (
         18446744073709551614,
         8,
@@ -81,7 +82,7 @@ truncate 3    | coder calls are spent | 01*4 | 32 0 | 0
 append 1*9    | more than 8 samples | 01*4 | 32 0 | 0
 truncate 0    | 0 | | 0 | 0",
     ),
-    // The edges of lists of no samples, of six, of eight and of nine.
+    // Edits at the ends of lists of 0, 6, 8 and 9 samples.
     (
         0,
         10,
@@ -116,7 +117,7 @@ append 6 7    | 1 | 06 07 | 16 0 | 0",
         0,
         "append | 0 | | 0 | 0\nappend 1 | more than 0 samples | | 0 | 0\ntruncate 0 | 0 | | 0 | 0",
     ),
-    // The three intervals take the last calls; edits of no values need none, at each place.
+    // Three intervals take the last calls. Overwrites without values need none, at each place.
     (
         18446744073709551612,
         10,
@@ -174,8 +175,8 @@ insert 0 6   | 2 | 06 01 02 03 04 05 | 48 0 32 | 2
 remove 0 4   | 0 | 04 05 | 16 0 | 0
 remove 0 2   | 0 | | 0 | 0",
     ),
-    // Three calls are left, then one, then none: places come before the limit, that before values,
-    // and these before calls.
+    // Three calls are left, then one, then none. An edit's place is judged before the limit, the
+    // limit before the values, the values before calls.
     (
         18446744073709551612,
         16,
@@ -229,12 +230,11 @@ const ROW: Row = Row {
     limit: 40,
 };
 
-/// Whether bytes are the values of a list.
 pub(crate) fn are_bytes_of(bytes: &[u8], list: &[i64]) -> bool {
     bytes.len() == list.len() && bytes.iter().zip(list).all(|(b, x)| i64::from(*b) == *x)
 }
 
-// Counts one edit of the kind whose byte is 1.
+// Adds 1 for the kind of edit whose byte is 1.
 fn count(tally: &mut [u64; 8], became: u64) {
     for (sum, one) in tally.iter_mut().zip(became.to_be_bytes()) {
         *sum = sum.saturating_add(u64::from(one));
@@ -254,12 +254,12 @@ fn mixed_edits_leave_the_octets_of_a_plain_list(rt: HostRuntime) -> Result<(), F
         holds_at(&rt, are_bytes_of(&stream(alloc, &work)?, &list), &edit);
         count(&mut tally, became);
     }
-    // Refused for a value, as too many, as out of range; made, of each kind.
+    // More than 100 edits of each kind: refused for a value, as too many, as out of range; made.
     holds_at(&rt, tally.iter().all(|edits| *edits > 100), &tally);
     Ok(())
 }
 
-/// How many intervals are overwritten, each once.
+/// The number of intervals; each is overwritten once.
 const INTERVALS: u64 = 100_000;
 
 fn overwrite(alloc: Global, first: u64, value: i64) -> Result<Edit, AllocError> {
@@ -333,7 +333,7 @@ fn writes_what_edits_leave(rt: HostRuntime) -> Result<(), Fail> {
     Ok(())
 }
 
-/// Takes nothing.
+/// A writer that takes no bytes.
 #[derive(Drop)]
 struct Full;
 

@@ -1,5 +1,4 @@
-//! Edits of a workspace beside those of a plain list: what they leave, why they are refused, and
-//! what they cost.
+//! Edits of a workspace, compared with edits of a plain list: the result, the refusal and the cost.
 
 use crate::asserts::same_at;
 use crate::steps::{apply, calls, reads};
@@ -10,38 +9,36 @@ use std::alloc::{AllocError, Global};
 use std::process::Abort;
 use std::test::Fail;
 
-/// Settings, and what they say of lists.
+/// Settings, their samples and intervals, and the lengths of a list.
 #[derive(Clone, Copy)]
 pub(crate) struct Row {
     pub(crate) settings: Settings,
     // The least sample and the greatest.
     pub(crate) low: i64,
     pub(crate) high: i64,
-    // The samples of an interval.
+    // The number of samples in an interval.
     pub(crate) most: u64,
-    // How many samples there are before the first edit, and at most.
+    // The number of samples before the first edit, and the limit.
     pub(crate) start: u64,
     pub(crate) limit: u64,
 }
 
 impl Row {
-    /// The number of the interval that a place lies in.
+    /// Returns the number of the interval that contains a place.
     pub(crate) fn interval_of(&self, place: u64) -> u64 {
         place.checked_div(self.most).unwrap_or(0)
     }
 
-    /// How many intervals so many samples fill, wholly or in part.
+    /// Returns how many intervals `count` samples fill, the last one wholly or in part.
     pub(crate) fn intervals_of(&self, count: u64) -> u64 {
         self.interval_of(count.saturating_add(self.most.saturating_sub(1)))
     }
 
-    /// Whether an interval begins at a place.
     fn begins_at(&self, place: u64) -> bool {
         place.checked_rem(self.most) == Some(0)
     }
 }
 
-/// The values that an edit has.
 fn values_of(edit: &Edit) -> &[i64] {
     match edit {
         Edit::Overwrite { values, .. } => values.as_slice(),
@@ -51,8 +48,8 @@ fn values_of(edit: &Edit) -> &[i64] {
     }
 }
 
-/// From which place up to which one an edit of so many samples puts its values in place of what is
-/// there.
+/// Returns the first place and the end of the samples that an edit of `count` samples replaces by
+/// its values.
 fn places_of(count: u64, edit: &Edit) -> (u64, u64) {
     match edit {
         Edit::Overwrite { first, values } => (
@@ -66,7 +63,7 @@ fn places_of(count: u64, edit: &Edit) -> (u64, u64) {
     }
 }
 
-/// How many samples an edit that fits leaves of so many.
+/// Returns the number of samples after an edit that fits `count` samples.
 fn count_after(count: u64, edit: &Edit) -> u64 {
     let (first, stop) = places_of(count, edit);
     let values = values_of(edit).len() as u64;
@@ -75,7 +72,7 @@ fn count_after(count: u64, edit: &Edit) -> u64 {
         .saturating_add(values)
 }
 
-/// The place of the first value that is no sample.
+/// Returns the index of the first value that is no sample.
 fn first_unheld(row: &Row, values: &[i64]) -> Option<u64> {
     for (index, x) in values.iter().enumerate() {
         if *x < row.low || row.high < *x {
@@ -85,7 +82,7 @@ fn first_unheld(row: &Row, values: &[i64]) -> Option<u64> {
     None
 }
 
-/// Why an edit of a list of so many samples is refused.
+/// Returns why an edit of `count` samples is refused, if it is.
 fn refusal(row: &Row, count: u64, edit: &Edit) -> Option<Fault> {
     let (first, stop) = places_of(count, edit);
     if first > count || stop > count {
@@ -107,7 +104,7 @@ fn change(alloc: Global, list: &mut Vec<i64>, edit: &Edit) -> Result<(), AllocEr
     list.extend_from_slice(&behind)
 }
 
-/// How many intervals hold a place from `first` up to `stop`.
+/// Returns how many intervals contain a place from `first` on and before `stop`.
 fn touched(row: &Row, first: u64, stop: u64) -> u64 {
     if first == stop {
         return 0;
@@ -116,7 +113,7 @@ fn touched(row: &Row, first: u64, stop: u64) -> u64 {
         .saturating_sub(row.interval_of(first))
 }
 
-/// How many intervals an edit of so many samples has to code.
+/// Returns how many intervals an edit of `count` samples must code.
 fn needed(row: &Row, count: u64, edit: &Edit) -> u64 {
     let after = count_after(count, edit);
     match edit {
@@ -135,8 +132,8 @@ fn needed(row: &Row, count: u64, edit: &Edit) -> u64 {
     }
 }
 
-/// The same where the samples behind a place move by so many, with the count after it, and the
-/// number of whole intervals that come.
+/// Does the same if the samples from `first` on move by `moved`. `after` is the number of samples
+/// after the edit, `come` that of inserted whole intervals.
 fn needed_to_move(row: &Row, first: u64, moved: u64, after: u64, come: u64) -> u64 {
     if moved == 0 {
         return 0;
@@ -148,7 +145,7 @@ fn needed_to_move(row: &Row, first: u64, moved: u64, after: u64, come: u64) -> u
         .saturating_sub(row.interval_of(first))
 }
 
-/// How many intervals an edit of so many samples decodes.
+/// Returns how many intervals an edit of `count` samples decodes.
 fn opened(row: &Row, count: u64, edit: &Edit) -> u64 {
     match edit {
         Edit::Overwrite { .. } => keeping(row, count, edit, needed(row, count, edit)),
@@ -163,7 +160,7 @@ fn opened(row: &Row, count: u64, edit: &Edit) -> u64 {
     }
 }
 
-/// The same where the samples behind a place move by so many.
+/// Does the same if later samples move by `moved`.
 fn opened_to_move(row: &Row, count: u64, edit: &Edit, moved: u64) -> u64 {
     let (first, stop) = places_of(count, edit);
     if moved == 0 {
@@ -187,7 +184,8 @@ fn opened_to_move(row: &Row, count: u64, edit: &Edit, moved: u64) -> u64 {
     2
 }
 
-/// How many of so many intervals, from that of the edit's first place on, keep a sample.
+/// Returns how many of `intervals` intervals keep a sample. The first of them contains the edit's
+/// first place.
 fn keeping(row: &Row, count: u64, edit: &Edit, intervals: u64) -> u64 {
     let (first, stop) = places_of(count, edit);
     let mut kept = 0u64;
@@ -204,9 +202,10 @@ fn keeping(row: &Row, count: u64, edit: &Edit, intervals: u64) -> u64 {
     kept
 }
 
-/// Makes an edit of both, and answers a number with a one in the byte of what became of it: made,
-/// as an overwrite, an append, a truncate, an insertion or a removal; or refused as out of range,
-/// as too many, as no samples. The byte of overwrites is the last.
+/// Makes an edit of a workspace, checks its result and cost, and makes it of the list if it fits.
+/// Returns a number with a 1 in the byte of what happened. From the last byte on: made, as an
+/// overwrite, an append, a truncation, an insertion or a removal; refused, as out of range, as too
+/// many, as no sample.
 pub(crate) fn expect_edit<R: Abort, C: Codec>(
     rt: &R,
     alloc: Global,

@@ -1,4 +1,5 @@
-//! Edits of a workspace as a table, a step a line: what each one answers, and the stream after it.
+//! Tables of steps on a workspace, one a line: an edit or a range, its result, and the stream after
+//! it.
 
 use crate::asserts::{same, same_at};
 use crate::tables::{cell, spelled};
@@ -9,7 +10,8 @@ use std::alloc::Global;
 use std::process::Abort;
 use std::test::Fail;
 
-// The tests reach a workspace through these, so that its contracts stay out of their proofs.
+// The tests call a workspace through these functions, so that its contracts stay out of their
+// proofs.
 
 pub(crate) fn apply<C: Codec>(work: &mut Workspace<C>, edit: &Edit) -> Result<u64, Fault> {
     work.apply(edit)
@@ -32,34 +34,33 @@ pub(crate) fn reserve<C: Codec>(
     work.reserve(bits, intervals)
 }
 
-/// The bytes of the stream.
 pub(crate) fn stream<C: Codec>(alloc: Global, work: &Workspace<C>) -> Result<Vec<u8>, Fault> {
     let mut sink = WriteSink::new(Vec::new(alloc));
     work.write_to(&mut sink)?;
     Ok(sink.into_inner())
 }
 
-/// How many intervals have been coded.
+/// Returns how many intervals have been coded.
 pub(crate) fn calls<C: Codec>(work: &Workspace<C>) -> u64 {
     work.calls()
 }
 
-/// How often an interval has been decoded.
+/// Returns how often an interval has been decoded.
 pub(crate) fn reads<C: Codec>(work: &Workspace<C>) -> u64 {
     work.reads()
 }
 
-/// The numbers of samples, of intervals, and of bits in the stream.
+/// Returns the numbers of samples, of intervals, and of bits in the stream.
 pub(crate) fn counts<C: Codec>(work: &Workspace<C>) -> (u64, u64, u64) {
     (work.count(), work.intervals(), work.stream_bits())
 }
 
-/// Where an interval begins.
+/// Returns the bit where an interval begins, if it exists.
 pub(crate) fn start_of<C: Codec>(work: &Workspace<C>, i: u64) -> Option<u64> {
     work.offset(i)
 }
 
-// The values of a row. `0*48` is forty-eight of them.
+// Returns the values that a text spells. `0*48` is forty-eight zeros.
 fn values_of(alloc: Global, text: &str) -> Result<Samples, Fail> {
     let mut values = Vec::new(alloc);
     for word in text.split_whitespace() {
@@ -97,7 +98,7 @@ fn edit_of(alloc: Global, text: &str) -> Result<Edit, Fail> {
     }
 }
 
-// What became of an edit, as a row says it.
+// Returns the result of an edit, as a row spells it.
 fn answer_text(alloc: Global, answer: Result<u64, Fault>) -> Result<String, Fail> {
     match answer {
         Ok(coded) => Ok(format!(in alloc; "{coded}")?),
@@ -105,7 +106,7 @@ fn answer_text(alloc: Global, answer: Result<u64, Fault>) -> Result<String, Fail
     }
 }
 
-// What the samples of a range are, or why it is refused, as a row says it.
+// Returns the samples of a range, or why it is refused, as a row spells it.
 fn range_text<C: Codec>(
     alloc: Global,
     work: &mut Workspace<C>,
@@ -124,7 +125,8 @@ fn range_text<C: Codec>(
     Ok(text)
 }
 
-// What a step answers, as a row says it. The calls rise by what an edit has coded.
+// Makes a step, and returns its result as a row spells it. Checks that the calls rise by what an
+// edit coded.
 fn step_text<R: Abort, C: Codec>(
     rt: &R,
     alloc: Global,
@@ -143,7 +145,7 @@ fn step_text<R: Abort, C: Codec>(
     answer_text(alloc, answer)
 }
 
-// The bits of the stream, and where its intervals begin.
+// Returns the number of bits in the stream, and where its intervals begin.
 fn places_text<C: Codec>(alloc: Global, work: &Workspace<C>) -> Result<String, Fail> {
     let mut text = format!(in alloc; "{}", work.stream_bits())?;
     for i in 0..40u64 {
@@ -154,8 +156,8 @@ fn places_text<C: Codec>(alloc: Global, work: &Workspace<C>) -> Result<String, F
     Ok(text)
 }
 
-// A row: an edit or a range; its answer; the stream after it; the bits of that, and where its
-// intervals begin; how many intervals the step decodes.
+// Checks a row: an edit or a range; its result; the stream after it; the number of bits in the
+// stream, and where its intervals begin; how many intervals the step decodes.
 fn expect_step<R: Abort, C: Codec>(
     rt: &R,
     alloc: Global,
@@ -176,7 +178,7 @@ fn expect_step<R: Abort, C: Codec>(
     Ok(())
 }
 
-/// The steps of a table, one after the other.
+/// Checks the steps of a table, one after the other.
 pub(crate) fn expect_steps<R: Abort, C: Codec>(
     rt: &R,
     alloc: Global,
@@ -190,7 +192,7 @@ pub(crate) fn expect_steps<R: Abort, C: Codec>(
     Ok(())
 }
 
-// The edits of a table, and the lines of their answers.
+// Returns the edits of a table, and their expected results, one a line.
 fn edits_of(alloc: Global, table: &str) -> Result<(Vec<Edit>, String), Fail> {
     let (mut edits, mut answers) = (Vec::new(alloc), String::new(alloc));
     for row in table.lines() {
@@ -203,17 +205,18 @@ fn edits_of(alloc: Global, table: &str) -> Result<(Vec<Edit>, String), Fail> {
     Ok((edits, answers))
 }
 
-// The stream after the step of a row.
+// Returns the stream after a row's step, as the row spells it.
 fn stream_after(row: &str) -> &str {
     cell(cell(cell(row).1).1).0
 }
 
-// The stream after the last step of a table.
+// Returns the same for a table's last row.
 fn last_stream(table: &str) -> &str {
     stream_after(table.lines().last().unwrap_or(""))
 }
 
-// The lines of what became of the edits of a run, which stand behind an outcome that was there.
+// Makes a run of edits, and returns the outcomes, one a line. The first line is an outcome that was
+// in the list before.
 fn run_text<C: Codec>(
     alloc: Global,
     work: &mut Workspace<C>,
@@ -236,7 +239,7 @@ fn run_text<C: Codec>(
     Ok(text)
 }
 
-// How many intervals the edits have coded that answers say were made.
+// Returns how many intervals edits with these results have coded.
 fn coded_by(answers: &str) -> u64 {
     let mut coded = 0u64;
     for answer in answers.lines() {
@@ -245,7 +248,8 @@ fn coded_by(answers: &str) -> u64 {
     coded
 }
 
-/// The edits of a table in one run. The calls rise by what its edits have coded.
+/// Checks the edits of a table in one run. The calls rise by the number of intervals that they
+/// code.
 pub(crate) fn expect_run<R: Abort, C: Codec>(
     rt: &R,
     alloc: Global,
@@ -267,8 +271,8 @@ pub(crate) fn expect_run<R: Abort, C: Codec>(
     Ok(())
 }
 
-// What became of edits up to the first that was refused: its place among them and why, or that all
-// were made.
+// Makes edits up to the first one that is refused. Returns its place among them and its fault, or
+// `made` if all are made.
 fn stop_text<C: Codec>(
     alloc: Global,
     work: &mut Workspace<C>,
@@ -280,7 +284,7 @@ fn stop_text<C: Codec>(
     }
 }
 
-// The same as the lines of answers say it.
+// Returns the same text for the expected results.
 fn first_refusal(alloc: Global, answers: &str) -> Result<String, Fail> {
     for (place, answer) in answers.lines().enumerate() {
         if answer.parse::<u64>().is_err() {
@@ -290,19 +294,19 @@ fn first_refusal(alloc: Global, answers: &str) -> Result<String, Fail> {
     Ok(String::from_str(alloc, "made")?)
 }
 
-// Whether a row is a range, or an edit that is made.
+// Returns whether a row is a range, or an edit that is made.
 fn is_made(row: &str) -> bool {
     let (step, rest) = cell(row);
     step.starts_with("range ") || cell(rest).0.trim().parse::<u64>().is_ok()
 }
 
-// The stream before the first edit of a table that is refused.
+// Returns the stream before a table's first refused edit, as a row spells it.
 fn stream_before_refusal(table: &str) -> &str {
     let mut rows = table.lines().take_while(|row| is_made(row));
     stream_after(rows.last().unwrap_or(""))
 }
 
-/// The edits of a table, up to the first that is refused.
+/// Checks the edits of a table, up to the first one that is refused.
 pub(crate) fn expect_stop<R: Abort, C: Codec>(
     rt: &R,
     alloc: Global,

@@ -1,14 +1,14 @@
-//! Tables as texts, a case a line: a further case needs no further proof.
+//! Tables as texts, with one case a line: a new case needs no new proof.
 
 use std::alloc::Global;
 use std::test::Fail;
 
-/// A row up to its first bar, and what comes after that.
+/// Returns the part of a row before its first bar, and the part after it.
 pub(crate) fn cell(row: &str) -> (&str, &str) {
     row.split_once('|').unwrap_or((row, ""))
 }
 
-/// The bytes that a cell spells, each by two digits of base 16. `00*17` is seventeen of them.
+/// Returns the bytes that a cell spells, each by two digits of base 16. `00*17` is seventeen zeros.
 pub(crate) fn spelled(alloc: Global, cell: &str) -> Result<Vec<u8>, Fail> {
     let mut bytes = Vec::new(alloc);
     for word in cell.split_whitespace() {

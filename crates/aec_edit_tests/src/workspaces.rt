@@ -1,4 +1,4 @@
-//! Workspaces over the coder itself, edit by edit.
+//! Workspaces with `AecCodec`, step by step.
 
 use crate::asserts::same;
 use crate::steps::{calls, counts, expect_run, expect_steps, expect_stop};
@@ -8,7 +8,7 @@ use aec_params::{Params, Settings};
 use std::alloc::Global;
 use std::test::Fail;
 
-/// An empty workspace, whose codec counts on from so many calls.
+/// Returns an empty workspace whose codec's count begins at `calls`.
 pub(crate) fn workspace(
     alloc: Global,
     params: Params,
@@ -26,10 +26,10 @@ append 0*16   | 1 | 00 04 | 14 0 | 0
 overwrite 0 1 | coder calls are spent | 00 04 | 14 0 | 0
 truncate 0    | 0 | | 0 | 0";
 
-// The calls that a codec counts on from, the limit, and the steps from nothing on.
+// Where the codec's count begins, the limit, and the steps of a workspace that is empty at first.
 const TABLES: [(u64, u64, &str); 9] = [
-    // One of forty-eight zeros is changed; ranges around it, and past the end; all of its interval
-    // is zero again.
+    // One of 48 zeros is changed; ranges around it, and past the end; then zeros overwrite the
+    // whole interval.
     (
         0,
         48,
@@ -52,7 +52,8 @@ overwrite 0 256  | sample 0 is out of range        | 00 04 00 10 00 40 | 42 0 14
 overwrite 48     | 0                               | 00 04 00 10 00 40 | 42 0 14 28 | 0
 append 0         | more than 48 samples            | 00 04 00 10 00 40 | 42 0 14 28 | 0",
     ),
-    // The last block of five samples of 7 is filled up, and its filler must not stay.
+    // Five samples of 7, whose block is filled up. The filler must not stay when samples are
+    // appended.
     (
         0,
         4294967296,
@@ -62,8 +63,8 @@ append 7 7 7 8 | 1 | 00 78 8F | 24 0 | 1
 truncate 5     | 1 | 00 78    | 13 0 | 1",
     ),
     (18446744073709551614, 4294967296, ONE_CALL_LEFT),
-    // Four calls are left: three for the samples, and one. So an insertion is refused that needs
-    // three, but for its place before that.
+    // Four calls are left: three for the zeros, one for the overwrite. Then an insertion that needs
+    // three calls is refused; an insertion at a bad place is refused for its place.
     (
         18446744073709551611,
         65,
@@ -76,8 +77,8 @@ insert 33 1    | position outside the 32 samples | 10 0C 30 80 02 | 39 0 25 | 0
 truncate 16    | 0 | 10 0C 30 80          | 25 0       | 0
 insert 16      | 0 | 10 0C 30 80          | 25 0       | 0",
     ),
-    // What has no place in the list; then lists of one interval and of two, up to a place in them
-    // and up to their ends.
+    // Places outside an empty list; then edits of lists of one and of two intervals, within the
+    // list and up to its end.
     (
         0,
         40,
@@ -117,7 +118,7 @@ overwrite 0 0*8 | 1 | 00 08 | 13 0 | 0",
         0,
         "append 1 | more than 0 samples | | 0 | 0\nappend | 0 | | 0 | 0",
     ),
-    // Zeros are put in and taken out, by the interval and one by one.
+    // Zeros are inserted and removed, by whole intervals and one by one.
     (
         0,
         65,
@@ -138,8 +139,8 @@ insert 8 0*16  | 2 | 00 04 00 10 00 40 01       | 56 0 14 28 42    | 1
 remove 8 16    | 1 | 00 04 00 10 00 40          | 42 0 14 28       | 2
 range 47 1     | position outside the 47 samples | 00 04 00 10 00 40 | 42 0 14 28 | 0",
     ),
-    // A 1 among zeros, and all intervals behind it; then at the end, and in the one interval that
-    // there is.
+    // A 1 is inserted among zeros, which codes all intervals after it anew; then edits at the end,
+    // and of a list of one interval.
     (
         0,
         65,

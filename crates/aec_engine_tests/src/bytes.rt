@@ -1,4 +1,4 @@
-//! Bytes in memory.
+//! Coding, decoding and ranges of bytes in memory.
 
 use crate::asserts::{same, same_at};
 use aec_engine::{decode_bytes, encode_bytes, range_bytes};
@@ -12,7 +12,7 @@ const RAMP: [u8; 8] = [0, 1, 2, 3, 4, 5, 6, 7];
 // The code of the ramp, from the examples of FORMAT.md.
 const RAMP_CODED: [u8; 4] = [0x20, 0x09, 0x24, 0x92];
 
-// What is decoded, or why it isn't: the clauses stay out of the tests' proofs.
+// Calls `decode_bytes`, and keeps its clauses out of the tests' proofs.
 fn decoded(
     alloc: Global,
     params: &Params,
@@ -23,7 +23,7 @@ fn decoded(
     decode_bytes(alloc, params, limits, count, bytes)
 }
 
-// The ramp from its code, with this count, has so many samples.
+// Checks that the ramp's code with this count is decoded as the ramp's first `len` samples.
 fn expect_front(
     rt: &impl Abort,
     alloc: Global,
@@ -82,7 +82,7 @@ fn bytes_are_refused(rt: HostRuntime) -> Result<(), Fail> {
     Ok(())
 }
 
-// A part of the ramp from its code, which isn't longer than the limit.
+// Returns a range of the ramp, from its code. The limit is the length of the code, 4 bytes.
 fn cut(alloc: Global, first: u64, len: u64) -> Result<Vec<u8>, Fault> {
     let params = Params::new(Settings::USUAL)?;
     let limits = Limits::new(8, 4).unwrap();

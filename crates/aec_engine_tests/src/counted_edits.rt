@@ -1,5 +1,5 @@
-//! Scripts carried out over a codec that is given: how often it is called, and what is left where
-//! its calls don't suffice.
+//! Scripts with a codec that the test makes: how often it is called, and what remains if too few
+//! calls are left.
 
 use crate::asserts::{holds, same, same_at};
 use crate::devices::{After, Marked, Pieces};
@@ -12,14 +12,14 @@ use std::alloc::Global;
 use std::process::Abort;
 use std::test::Fail;
 
-// The stream of 48 zeros, and of these with a 1 at place 20.
+// Streams: 48 zeros; these with a 1 at place 20.
 const ZEROS: [u8; 6] = [0x00, 0x04, 0x00, 0x10, 0x00, 0x40];
 
 const ONE_CHANGED: [u8; 7] = [0x00, 0x04, 0x40, 0x30, 0xC2, 0x00, 0x08];
 
-// Behind the bytes `old` of a sink: begun there, and then written. The number of calls of the
-// coder: one for each of the three intervals of 48 zeros, and one for each interval that an edit
-// codes.
+// Edits 48 zeros by a script, into a sink that holds `old`, and returns the sink's bytes. Checks
+// that `begin` was called after `old`. Checks the codec's calls: one for each of the three
+// intervals of zeros, and one for each interval that an edit codes.
 fn counted<R: Abort>(rt: &R, alloc: Global, text: &str, calls: u64) -> Result<Vec<u8>, Fail> {
     let params = Params::new(Settings::USUAL)?;
     let limits = Limits::new(1 << 32, 1 << 40).ok_or("limits")?;
@@ -63,7 +63,7 @@ fn calls_of_a_script_are_counted(rt: HostRuntime) -> Result<(), Fail> {
     Ok(())
 }
 
-// A workspace of 48 zeros, whose codec has four calls left before them, and so one behind them.
+// Returns a workspace of 48 zeros. Its codec had four calls left before them, and has one left.
 fn with_one_call(alloc: Global) -> Result<Workspace<AecCodec>, Fault> {
     let codec = AecCodec::with_calls(alloc, Params::new(Settings::USUAL)?, u64::MAX - 4);
     let mut work = Workspace::new(alloc, codec, 65);
@@ -73,7 +73,7 @@ fn with_one_call(alloc: Global) -> Result<Workspace<AecCodec>, Fault> {
     Ok(work)
 }
 
-// What carrying out a script on a workspace answers.
+// Carries out a script on a workspace. Returns why it is refused, if it is.
 fn carried<R: Abort>(
     rt: &R,
     alloc: Global,
@@ -101,7 +101,7 @@ fn an_edit_without_calls_is_named_by_its_line(rt: HostRuntime) -> Result<(), Fai
         [0x10, 0x0C, 0x30, 0x80, 0x02].as_slice(),
     );
     same(&rt, work.calls(), u64::MAX);
-    // One that doesn't fit is refused for that, and one that codes nothing is made.
+    // An edit that doesn't fit is refused for that, and an edit that codes nothing is made.
     let fault = Fault::OutOfRange { count: 32 };
     let line = Some(EditFault::Line { line: 1, fault });
     same(&rt, carried(&rt, alloc, &mut work, "insert 33 0")?, line);

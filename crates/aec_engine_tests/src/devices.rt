@@ -1,4 +1,4 @@
-//! Sources and sinks that give, take and fail as a test says.
+//! Sources and sinks for which a test sets how much a call moves and when they fail.
 
 ghost use Rattle.std.specs.Prelude.{◌≤◌, length};
 
@@ -11,23 +11,23 @@ use std::alloc::Global;
 pub enum After {
     Ends,
     Fails,
-    /// Gives zeros for ever.
+    /// Returns zeros for ever.
     Zeros,
 }
 
-/// Gives bytes, at most `step` a call, and then does what `after` says.
+/// A source of bytes, at most `step` a call. After them it does what `after` says.
 #[derive(Drop)]
 pub struct Pieces<'a> {
     rest: &'a [u8],
     step: usize,
     after: After,
     failed: bool,
-    // How often it was asked.
+    // How often `take` was called.
     takes: u64,
 }
 
 impl<'a> Pieces<'a> {
-    /// Gives these bytes, of which none has been taken.
+    /// Returns a source of these bytes.
     pub fn of(bytes: &'a [u8], step: usize, after: After) -> Pieces<'a> {
         Pieces {
             rest: bytes,
@@ -38,7 +38,7 @@ impl<'a> Pieces<'a> {
         }
     }
 
-    /// How often it was asked for bytes.
+    /// Returns how often `take` was called.
     pub fn takes(&self) -> u64 {
         self.takes
     }
@@ -81,8 +81,8 @@ impl<'a> Source for Pieces<'a> {
     }
 }
 
-/// Keeps what it takes: at most `step` bytes a call, and `room` in all; then it fails. One that is
-/// shut fails at `begin`.
+/// A sink that keeps its bytes. It takes at most `step` bytes a call and `room` in all, and then
+/// fails. If it is shut, it fails at `begin`.
 #[derive(Drop)]
 pub struct Basin {
     pub bytes: Vec<u8>,
@@ -94,7 +94,7 @@ pub struct Basin {
 }
 
 impl Basin {
-    /// Takes at most `step` bytes a call, and `room` in all.
+    /// Returns a sink that takes at most `step` bytes a call, and `room` in all.
     pub fn of(alloc: Global, step: usize, room: usize) -> Basin {
         Basin {
             bytes: Vec::new(alloc),
@@ -106,7 +106,7 @@ impl Basin {
         }
     }
 
-    /// Fails at `begin`.
+    /// Returns a sink that fails at `begin`.
     pub fn shut(alloc: Global) -> Basin {
         Basin {
             shut: true,
@@ -156,7 +156,7 @@ impl Sink for Basin {
     }
 }
 
-/// Keeps what it takes behind what it held, and tells what that was when it was begun last.
+/// A sink that appends its bytes to `bytes`. `mark` is the number of bytes at the last `begin`.
 #[derive(Drop)]
 pub struct Marked {
     pub bytes: Vec<u8>,
@@ -167,7 +167,7 @@ pub struct Marked {
 }
 
 impl Marked {
-    /// It holds these bytes, and was never begun.
+    /// Returns a sink that holds these bytes and was never begun.
     pub fn behind(alloc: Global, bytes: &[u8]) -> Result<Marked, Fault> {
         Ok(Marked {
             bytes: bytes.to_vec(alloc)?,

@@ -1,4 +1,4 @@
-//! `decode_edited`: edits from nothing, coded and decoded.
+//! `decode_edited`: edits of an empty stream, coded and decoded.
 
 use crate::asserts::same;
 use aec_edit::Outcome;
@@ -13,8 +13,8 @@ fn appended(alloc: Global, values: &[i64]) -> Result<Edit, AllocError> {
     })
 }
 
-/// Five samples of 7, four samples more, and back to five; a cut to six in between is made, one to
-/// ten refused.
+/// Appends five samples of 7 and four more. A truncation to ten samples is refused; those to six
+/// and to five are made.
 #[test]
 fn edited_streams_are_decoded(rt: HostRuntime) -> Result<(), Fail> {
     let alloc = rt.alloc();

@@ -1,5 +1,5 @@
-//! Scripts carried out on streams: what is written, what is refused and named by which line, and
-//! what is left untaken.
+//! Streams edited by scripts: what is written, which line a refusal names, and what is read and
+//! written if a device fails.
 
 use crate::asserts::{holds, holds_at, same, same_at};
 use crate::devices::{After, Basin, Pieces};
@@ -10,8 +10,8 @@ use std::alloc::{Alloc, Global};
 use std::process::Abort;
 use std::test::Fail;
 
-// The streams of 48 zeros, of these with a 1 at place 20, of the bytes 0 to 7, of five samples of
-// 7, of these with 7, 7, 7 and 8 after them, of eight zeros, and of no samples.
+// Streams: 48 zeros; these with a 1 at place 20; the bytes 0 to 7; five samples of 7; these with 7,
+// 7, 7 and 8 after them; eight zeros.
 const ZEROS: [u8; 6] = [0x00, 0x04, 0x00, 0x10, 0x00, 0x40];
 
 const ONE_CHANGED: [u8; 7] = [0x00, 0x04, 0x40, 0x30, 0xC2, 0x00, 0x08];
@@ -27,12 +27,13 @@ const EIGHT_ZEROS: [u8; 2] = [0x00, 0x08];
 // The bytes 0 to 7 in another spelling.
 const FOREIGN_RAMP: [u8; 4] = [0x40, 0x15, 0x55, 0x80];
 
-// Far above what the tests take.
+// Limits far above what the tests need.
 fn ample() -> Result<Limits, Fail> {
     Ok(Limits::new(1 << 32, 1 << 40).ok_or("limits")?)
 }
 
-// What a script makes of a stream, and how often the sink was begun.
+// Edits a stream by a script. Returns the result, the bytes written, and how often `begin` was
+// called.
 fn edited(
     alloc: Global,
     text: &str,
@@ -104,7 +105,7 @@ fn scripts_are_carried_out(rt: HostRuntime) -> Result<(), Fail> {
     written(&rt, "append 0 0 0 0 0 0 0 0", &[], None, &EIGHT_ZEROS)
 }
 
-// Sixteen zeros more, and what is left of 48 zeros, of which one is 1, without the first sixteen.
+// Streams: 64 zeros; `ONE_CHANGED` without its first 16 samples.
 const MORE_ZEROS: [u8; 7] = [0x00, 0x04, 0x00, 0x10, 0x00, 0x40, 0x01];
 
 const FRONT_REMOVED: [u8; 5] = [0x10, 0x0C, 0x30, 0x80, 0x02];
@@ -123,7 +124,7 @@ fn samples_are_put_in_and_taken_out(rt: HostRuntime) -> Result<(), Fail> {
     written(&rt, "remove 5 4", &SEVENS_AND_EIGHT, Some(9), &SEVENS)
 }
 
-// Places and lengths past all samples, and sums past all numbers; a value that is none of 8 bits.
+// Places and lengths past all samples, sums above `u64::MAX`, and a value above 8 bits.
 #[test]
 fn insertions_and_removals_are_refused_by_their_line(rt: HostRuntime) -> Result<(), Fail> {
     let outside = Fault::OutOfRange { count: 8 };
@@ -235,8 +236,8 @@ fn scripts_are_refused_before_streams(rt: HostRuntime) -> Result<(), Fail> {
     refused(&rt, "", &RAMP, Some((1 << 32) + 1), EditFault::Plain(fault))
 }
 
-// What an edit with these devices answers; how often script, source and sink failed; how often the
-// sink was begun, and what it took.
+// Edits with these devices. Returns the result; how often script, source and sink failed, and how
+// often `begin` was called; and the bytes that the sink took.
 fn left(
     alloc: Global,
     mut script: Pieces<'_>,
@@ -263,8 +264,7 @@ fn left(
     Ok((answer, counts, sink.bytes))
 }
 
-// A script or a source that fails while it is read: nothing is begun, and these devices have
-// failed.
+// Checks that an edit with these devices fails with `Read`, and checks the counts of `left`.
 fn expect_unread(
     rt: &impl Abort,
     alloc: Global,
@@ -278,7 +278,7 @@ fn expect_unread(
     Ok(())
 }
 
-// The script fails behind so many bytes. The source would fail too, and isn't asked.
+// The script fails after `k` bytes. The source would fail too, but isn't read.
 #[test]
 fn scripts_of_an_edit_fail(rt: HostRuntime) -> Result<(), Fail> {
     for k in 0..9 {
@@ -290,7 +290,7 @@ fn scripts_of_an_edit_fail(rt: HostRuntime) -> Result<(), Fail> {
     Ok(())
 }
 
-// The source fails behind so many bytes.
+// The source fails after `k` bytes.
 #[test]
 fn streams_of_an_edit_fail(rt: HostRuntime) -> Result<(), Fail> {
     for k in 0..5 {
@@ -302,7 +302,7 @@ fn streams_of_an_edit_fail(rt: HostRuntime) -> Result<(), Fail> {
     Ok(())
 }
 
-// The sink takes so many of the seven bytes, one a call, and fails then; or when it is begun.
+// The sink takes some of the seven bytes, one a call, and then fails; or it fails at `begin`.
 #[test]
 fn sinks_of_an_edit_fail(rt: HostRuntime) -> Result<(), Fail> {
     for front in [
@@ -343,8 +343,8 @@ fn an_empty_edit_needs_a_sink_that_begins(rt: HostRuntime) -> Result<(), Fail> {
     Ok(())
 }
 
-// The limits of samples and of bytes, a script, and the line that is refused, or 0 where the script
-// is.
+// The limits of samples and of bytes, a script, the fault, and the refused line, or 0 if the script
+// is too long.
 const LIMITED: [(u64, u64, &str, Fault, u64); 5] = [
     (8, 8, "truncate 0", Fault::StreamTooLong { limit: 8 }, 0),
     (8, 8, "append 1", Fault::TooManySamples { limit: 8 }, 1),
@@ -372,7 +372,7 @@ fn limits_hold_for_scripts_streams_and_edits(rt: HostRuntime) -> Result<(), Fail
     Ok(())
 }
 
-// An edit of the bytes 0 to 7 within limits, which is refused.
+// Checks that an edit of the bytes 0 to 7 within these limits is refused, and nothing begun.
 fn expect_limited(
     rt: &impl Abort,
     alloc: Global,

@@ -9,7 +9,6 @@ use std::alloc::Global;
 use std::process::Abort;
 use std::test::Fail;
 
-// An engine, by its name.
 #[derive(Clone, Copy, Debug)]
 enum Engine {
     Encode,
@@ -17,7 +16,7 @@ enum Engine {
     Range,
 }
 
-// What an engine answers to zeros without an end; nothing is begun.
+// Returns the result of an engine for endless zeros. Checks that nothing is begun or written.
 fn answer(
     rt: &impl Abort,
     alloc: Global,

@@ -1,4 +1,4 @@
-//! Scripts, and the edits that their lines are read as.
+//! Scripts, and the edits that their lines stand for.
 
 use crate::asserts::{holds, same, same_at};
 use aec_engine::{Script, script};
@@ -7,7 +7,7 @@ use std::alloc::{AllocError, Global};
 use std::fmt::Write;
 use std::test::Fail;
 
-// Each edit with its line, as `LINE NAME NUMBER..;`.
+// Returns each edit with its line, as `LINE NAME NUMBER..;`.
 fn shown(alloc: Global, script: &Script) -> Result<String, Fail> {
     let mut text = String::new(alloc);
     for (edit, line) in script.edits.iter().zip(script.lines.iter()) {
@@ -40,7 +40,7 @@ fn show_values(text: &mut String, values: &[i64]) -> Result<(), Fail> {
     Ok(())
 }
 
-// Scripts, and the edits that they have.
+// Scripts, and their edits.
 const READ: [(&str, &str); 30] = [
     ("", ""),
     ("\n\n", ""),
@@ -104,8 +104,7 @@ const READ: [(&str, &str); 30] = [
     ),
 ];
 
-// What a script has, or why it is refused: `script` without its clauses, which callers would be
-// proved with.
+// Calls `script`, and keeps its clauses out of the callers' proofs.
 fn read(alloc: Global, text: &[u8]) -> Result<Script, Fault> {
     script(alloc, text)
 }
@@ -185,7 +184,6 @@ fn empty_lines_are_counted(rt: HostRuntime) -> Result<(), Fail> {
     Ok(())
 }
 
-// A text that many times.
 fn repeated(alloc: Global, text: &[u8], times: usize) -> Result<Vec<u8>, AllocError> {
     let mut bytes = Vec::new(alloc);
     for _ in 0..times {

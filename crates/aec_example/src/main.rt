@@ -1,7 +1,7 @@
-//! A program that edits a coded stream in memory: forty-eight zeros, of which one is replaced. It
-//! prints what became of a refused edit and of one that is made, the bytes of the stream, where its
-//! intervals begin, some samples read back out of it, and how many intervals all of it has coded
-//! and decoded.
+//! A program that edits a coded stream in memory: it replaces one of forty-eight zeros. It prints
+//! the result of a refused edit and of one that is made, the bytes of the stream, where its
+//! intervals begin, some samples that are read back, and how many intervals were coded and decoded
+//! in all.
 #![tactic(auto)]
 
 use aec_bits::WriteSink;
@@ -33,8 +33,8 @@ fn edit_and_print<R: Print>(rt: &R, alloc: Global) -> Result<(), Fault> {
     Ok(())
 }
 
-/// The code of 48 zeros, of which the one at place 20 is changed. An edit past their end is
-/// refused, and the others are made all the same.
+/// Returns a workspace of 48 zeros, with the one at place 20 changed. An edit past their end is
+/// refused, and the edit after it is made all the same.
 fn edited_zeros(alloc: Global, outcomes: &mut Vec<Outcome>) -> Result<Workspace<AecCodec>, Fault> {
     let params = Params::new(Settings::USUAL)?;
     let mut workspace = Workspace::new(alloc, AecCodec::new(alloc, params), 1 << 32);
@@ -50,7 +50,7 @@ fn edited_zeros(alloc: Global, outcomes: &mut Vec<Outcome>) -> Result<Workspace<
     Ok(workspace)
 }
 
-/// The bytes of a workspace's stream.
+/// Returns the bytes of a workspace's stream.
 fn stream(alloc: Global, workspace: &Workspace<AecCodec>) -> Result<Vec<u8>, Fault> {
     let mut sink = WriteSink::new(Vec::new(alloc));
     workspace.write_to(&mut sink)?;

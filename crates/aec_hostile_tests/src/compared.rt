@@ -1,4 +1,4 @@
-//! What the library reads, beside what the plain reader reads.
+//! What the library reads, compared with what the plain reader reads.
 
 ghost use Rattle.std.specs.Prelude.{◌≤◌, ◌^◌};
 
@@ -20,7 +20,7 @@ pub(crate) struct Stream<'a> {
     pub(crate) count: Option<u64>,
 }
 
-/// The bits of bytes, of each the most significant one first.
+/// Returns the bits of bytes, the most significant bit of each byte first.
 fn bits_of(alloc: Global, bytes: &[u8]) -> Result<Vec<bool>, Fault> {
     let mut bits = Vec::new(alloc);
     for byte in bytes {
@@ -31,7 +31,6 @@ fn bits_of(alloc: Global, bytes: &[u8]) -> Result<Vec<bool>, Fault> {
     Ok(bits)
 }
 
-/// What `decode_all` answers.
 fn read_by_library(alloc: Global, stream: &Stream, limit: u64) -> Result<Vec<i64>, Fault>
     requires { limit ≤ 2 ^ 32 }
 {
@@ -45,13 +44,12 @@ fn read_by_library(alloc: Global, stream: &Stream, limit: u64) -> Result<Vec<i64
     )
 }
 
-/// What the plain reader answers.
 fn read_by_bits(alloc: Global, stream: &Stream, limit: u64) -> Result<Vec<i64>, Fault> {
     let bits = bits_of(alloc, stream.bytes)?;
     read_plainly(alloc, stream.settings, &bits, stream.count, limit)
 }
 
-/// Both answer the same, samples or fault.
+/// Checks that both return the same samples or the same fault.
 pub(crate) fn expect_agreement(
     rt: &impl Abort,
     alloc: Global,
@@ -65,7 +63,7 @@ pub(crate) fn expect_agreement(
     same_at(rt, found, read_by_bits(alloc, stream, limit), case);
 }
 
-/// Both answer these samples or this fault.
+/// Checks that both return these samples or this fault.
 pub(crate) fn expect_answer(
     rt: &impl Abort,
     alloc: Global,

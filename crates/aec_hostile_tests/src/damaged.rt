@@ -1,4 +1,4 @@
-//! Streams of FORMAT.md, cut after each byte and with each bit turned.
+//! Streams, most of them from FORMAT.md, cut after each byte and with each bit inverted.
 
 ghost use Rattle.std.specs.Prelude.{◌≤◌, ◌^◌};
 
@@ -8,7 +8,6 @@ use std::alloc::Global;
 use std::process::Abort;
 use std::test::Fail;
 
-/// Bytes, and how they are read.
 fn stream(settings: Settings, bytes: &'static [u8], count: u64) -> Stream<'static> {
     Stream {
         settings,
@@ -61,14 +60,14 @@ const SIGNED: Settings = Settings {
     ..USUAL
 };
 
-/// The least and the greatest sample in turn, in 32 bits.
+/// The least and the greatest sample of 32 bits, alternating.
 const EXTREMES: [u8; 33] = [
     0xFC, 0x00, 0x00, 0x00, 0x07, 0xFF, 0xFF, 0xFF, 0xFF, 0xFF, 0xFF, 0xFF, 0xFF, 0xFF, 0xFF, 0xFF,
     0xFF, 0xFF, 0xFF, 0xFF, 0xFF, 0xFF, 0xFF, 0xFF, 0xFF, 0xFF, 0xFF, 0xFF, 0xFF, 0xFF, 0xFF, 0xFF,
     0xF8,
 ];
 
-/// Streams of worked examples, each with a number of samples.
+/// Returns streams of worked examples, each with a count.
 fn streams() -> [Stream<'static>; 21] {
     [
         stream(USUAL, &[0x00, 0x08], 8),
@@ -88,12 +87,13 @@ fn streams() -> [Stream<'static>; 21] {
             &[0xE0, 0x00, 0x20, 0x40, 0x60, 0x80, 0xA0, 0xC0, 0xE0],
             8,
         ),
-        // Refused as they are: a value of 2 in one bit, and a run of 3 in an interval of 2 blocks.
+        // Refused without damage: a value of 2 for samples of one bit, and a run of 3 in an
+        // interval of 2 blocks.
         stream(ONE_BIT, &[0x27, 0xF8], 8),
         stream(USUAL, &[0x00, 0x02], 8),
-        // As no coder of this project writes them: splitting with k = 1 where k = 0 is as short, a
-        // first member of a first pair that isn't 0, or that no sample has, ones as padding,
-        // splitting and no compression where another option is shorter.
+        // Not written by the coder of this project: splitting with k = 1 where k = 0 is as short; a
+        // first member of a first pair that isn't 0, or is too large; ones as padding; splitting
+        // and no compression where another option is shorter.
         stream(USUAL, &[0x40, 0x15, 0x55, 0x80], 8),
         stream(USUAL, &[0x10, 0x07, 0x80], 8),
         stream(RESTRICTED, &[0x60, 0x03, 0xC0], 8),
@@ -103,8 +103,8 @@ fn streams() -> [Stream<'static>; 21] {
     ]
 }
 
-/// Reads bytes as the stream is read, with its count and without one, under a limit that it keeps
-/// and under one that most streams pass.
+/// Checks that both readers agree on the bytes, with the count and without one, under limits of
+/// 4096 samples and of 20, which some streams exceed.
 fn expect_agreements(
     rt: &impl Abort,
     alloc: Global,
@@ -123,7 +123,7 @@ fn expect_agreements(
     }
 }
 
-/// Reads each front of a stream.
+/// Checks a stream cut after each byte.
 fn try_cuts(rt: &impl Abort, alloc: Global, number: usize, stream: &Stream) {
     for len in 0..=stream.bytes.len() {
         if let Some(front) = stream.bytes.get(..len) {
@@ -132,7 +132,7 @@ fn try_cuts(rt: &impl Abort, alloc: Global, number: usize, stream: &Stream) {
     }
 }
 
-/// A copy of bytes with one bit turned.
+/// Returns a copy of bytes with one bit inverted.
 fn turned(alloc: Global, bytes: &[u8], place: usize) -> Result<Vec<u8>, Fail> {
     let mut copy = Vec::from_slice(alloc, bytes)?;
     if let Some(byte) = copy.get_mut(place / 8) {
@@ -141,7 +141,7 @@ fn turned(alloc: Global, bytes: &[u8], place: usize) -> Result<Vec<u8>, Fail> {
     Ok(copy)
 }
 
-/// Reads a stream with each of its bits turned.
+/// Checks a stream with each of its bits inverted, one at a time.
 fn try_turns(rt: &impl Abort, alloc: Global, number: usize, stream: &Stream) -> Result<(), Fail> {
     for place in 0..stream.bytes.len().saturating_mul(8) {
         let bytes = turned(alloc, stream.bytes, place)?;

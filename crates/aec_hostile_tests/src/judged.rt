@@ -1,5 +1,5 @@
-//! Streams made to mislead a reader, and the answer that FORMAT.md has for each. The library and
-//! the plain reader have to give this answer.
+//! Streams made to mislead a reader, with the result that FORMAT.md demands for each. The library
+//! and the plain reader must both return this result.
 
 ghost use Rattle.std.specs.Prelude.{◌≤◌, ◌^◌};
 
@@ -9,10 +9,10 @@ use std::alloc::Global;
 use std::process::Abort;
 use std::test::Fail;
 
-/// The most samples that may be asked for.
+/// The greatest limit of samples.
 const MOST: u64 = 1 << 32;
 
-/// Expects so many zeros.
+/// Checks that both readers return `len` zeros.
 fn expect_zeros(
     rt: &impl Abort,
     alloc: Global,
@@ -26,7 +26,7 @@ fn expect_zeros(
     expect_answer(rt, alloc, stream, limit, Ok(&zeros))
 }
 
-/// Three intervals of zeros, cut after so many bytes and read with a count or without one.
+/// Returns three intervals of zeros, cut after `len` bytes, with a count or without one.
 fn three_intervals(len: usize, count: Option<u64>) -> Stream<'static> {
     let bytes: &'static [u8] = &[0x00, 0x04, 0x00, 0x10, 0x00, 0x40];
     Stream {
@@ -97,8 +97,8 @@ fn a_run_ends_with_its_segment(rt: HostRuntime) -> Result<(), Fail> {
     expect_answer(&rt, rt.alloc(), &run, MOST, past)
 }
 
-/// Reads a block of pairs whose first number has zeros up to bit 32,900 or so. `last` is the byte
-/// in which these zeros end and the other three pairs stand.
+/// Checks the result for a block of pairs. The number of the first pair ends at about bit 32,900,
+/// in the byte `last`, which also contains the other three pairs.
 fn expect_pairs(
     rt: &impl Abort,
     alloc: Global,

@@ -1,4 +1,4 @@
-//! Bits that are taken one by one from a list.
+//! A list of bits that are taken one by one.
 
 use aec_params::Fault;
 
@@ -7,12 +7,12 @@ use aec_params::Fault;
 pub(crate) struct PlainBits<'a> {
     bits: &'a [bool],
     place: usize,
-    /// The place at which the coded data set begins that is read now. A fault names it.
+    /// The place where the current coded data set begins. A fault names this place.
     start: usize,
 }
 
 impl<'a> PlainBits<'a> {
-    /// The first place of the list.
+    /// Returns the first place of a list.
     pub(crate) fn new(bits: &'a [bool]) -> PlainBits<'a> {
         PlainBits {
             bits,
@@ -21,17 +21,17 @@ impl<'a> PlainBits<'a> {
         }
     }
 
-    /// Begins a coded data set at this place.
+    /// Makes this place the beginning of a coded data set.
     pub(crate) fn begin(&mut self) {
         self.start = self.place;
     }
 
-    /// The place at which the coded data set begins.
+    /// Returns the place where the current coded data set begins.
     pub(crate) fn start(&self) -> u64 {
         self.start as u64
     }
 
-    /// Whether all bits that are left are zeros.
+    /// Returns whether all bits that are left are zeros.
     pub(crate) fn rest_is_zero(&self) -> bool {
         !self.bits.iter().skip(self.place).any(|bit| *bit)
     }
@@ -62,10 +62,10 @@ impl<'a> PlainBits<'a> {
         Ok(number)
     }
 
-    /// Takes a fundamental sequence: the number of zeros before the next one.
+    /// Takes a fundamental sequence. Returns the number of its zeros.
     pub(crate) fn fundamental(&mut self) -> Result<u64, Fault> {
         let mut zeros = 0u64;
-        // The list ends before so many bits are taken.
+        // The list has fewer bits than this loop has rounds.
         for _ in 0..=self.bits.len() {
             if self.bit()? {
                 break;

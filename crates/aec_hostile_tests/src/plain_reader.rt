@@ -31,7 +31,7 @@ pub(crate) fn read_plainly(
         place: 0,
         samples: Vec::new(alloc),
     };
-    // Each coded data set has a bit, so there are fewer of them than rounds.
+    // Each coded data set has at least one bit, so this loop has more rounds than there are sets.
     for _ in 0..=bits.len() {
         if !reader.wants_more() {
             break;
@@ -61,8 +61,8 @@ impl<'a> PlainReader<'a> {
         self.samples.len() as u64
     }
 
-    /// Whether a coded data set is read: with a count until there are so many samples, without one
-    /// until only zeros are left.
+    /// Returns whether another coded data set is read: with a count, until there are that many
+    /// samples; without one, until only zeros are left.
     fn wants_more(&self) -> bool {
         match self.count {
             Some(count) => self.samples_read() < count,
@@ -87,13 +87,13 @@ impl<'a> PlainReader<'a> {
         Ok(())
     }
 
-    /// How many blocks the segment has left.
+    /// Returns how many blocks the segment has left.
     fn blocks_left(&self) -> u64 {
         let interval = u64::from(self.settings.interval);
         (SEGMENT - self.place % SEGMENT).min(interval.saturating_sub(self.place))
     }
 
-    /// For how many blocks a coded data set stands, or why it is refused.
+    /// Returns how many blocks a coded data set stands for, or why it is refused.
     fn judge(&self, set: &CodedSet) -> Result<u64, Fault> {
         let bit = self.bits.start();
         let left = self.blocks_left();
@@ -114,8 +114,8 @@ impl<'a> PlainReader<'a> {
         Ok(blocks)
     }
 
-    /// Appends the sample of a value. The prediction is the sample before it, which every value of
-    /// a preprocessed interval has.
+    /// Appends the sample of a value. With preprocessing, the prediction is the sample before it,
+    /// which always exists.
     fn push_value(&mut self, value: u64) -> Result<(), Fault> {
         let next = match self.samples.last() {
             Some(prediction) if self.settings.preprocess => {
@@ -134,7 +134,7 @@ impl<'a> PlainReader<'a> {
         Ok(())
     }
 
-    /// Appends the samples of a run of zero blocks, but for the reference sample.
+    /// Appends the samples of a run of zero blocks, except the reference sample.
     fn push_zeros(&mut self, blocks: u64, is_reference: bool) -> Result<(), Fault> {
         let places = blocks.saturating_mul(u64::from(self.settings.block_size));
         for _ in 0..places.saturating_sub(u64::from(is_reference)) {
@@ -155,7 +155,7 @@ impl<'a> PlainReader<'a> {
     }
 }
 
-/// The blocks of a run by the number that is written for it.
+/// Returns how many blocks the number of a run stands for, with `left` blocks left in its segment.
 fn run_len(number: u64, left: u64) -> u64 {
     match number {
         0..=3 => number + 1,
@@ -164,12 +164,11 @@ fn run_len(number: u64, left: u64) -> u64 {
     }
 }
 
-/// How many patterns samples have.
 fn patterns(settings: &Settings) -> i64 {
     2i64.saturating_pow(settings.bits)
 }
 
-/// Whether a value is greater than each pattern.
+/// Returns whether a value is greater than each pattern.
 fn has_large_value(settings: &Settings, data: &Data) -> bool {
     let patterns = patterns(settings).cast_unsigned();
     match data {
@@ -178,7 +177,7 @@ fn has_large_value(settings: &Settings, data: &Data) -> bool {
     }
 }
 
-/// The least and the greatest sample.
+/// Returns the least and the greatest sample.
 fn range(settings: &Settings) -> (i64, i64) {
     let least = match settings.signed {
         true => 0i64.saturating_sub(patterns(settings) / 2),
@@ -190,7 +189,8 @@ fn range(settings: &Settings) -> (i64, i64) {
     )
 }
 
-/// The sample of a pattern: of signed samples the upper half of the patterns is negative.
+/// Returns the sample of a pattern. If samples are signed, the upper half of the patterns is
+/// negative.
 fn sample(settings: &Settings, pattern: u64) -> i64 {
     let (_, greatest) = range(settings);
     let number = pattern.cast_signed();
@@ -201,9 +201,9 @@ fn sample(settings: &Settings, pattern: u64) -> i64 {
     }
 }
 
-/// The sample whose mapped value this is. Up to the distance at which one side of the prediction
-/// has no samples left, values alternate between both sides: even ones stand for samples from the
-/// prediction up, odd ones for those below it. Beyond it they count on along the other side.
+/// Returns the sample with this mapped value. While both sides of the prediction have samples left,
+/// values alternate between the sides: even values mean samples from the prediction up, odd values
+/// samples below it. Greater values continue along the side that has samples left.
 fn unmapped(settings: &Settings, prediction: i64, value: u64) -> i64 {
     let mapped = value.cast_signed();
     let (least, greatest) = range(settings);

@@ -1,4 +1,4 @@
-//! One coded data set, read whole before anything of it is judged.
+//! A coded data set, which is read whole before any of it is judged.
 
 use crate::plain_bits::PlainBits;
 use aec_params::{Fault, Settings};
@@ -22,7 +22,6 @@ pub(crate) enum Data {
     Values(Vec<u64>),
 }
 
-/// A coded data set.
 #[derive(Drop)]
 pub(crate) struct CodedSet {
     /// The pattern of the reference sample of a reference block.
@@ -60,7 +59,7 @@ impl CodedSet {
     }
 }
 
-/// Bits of an identifier, but for the zero block and the second extension, which have one more.
+/// Returns the number of bits of an identifier. Zero block and second extension have one more.
 fn identifier_len(settings: &Settings) -> u32 {
     match (settings.bits, settings.restricted) {
         (1 | 2, true) => 1,
@@ -71,8 +70,8 @@ fn identifier_len(settings: &Settings) -> u32 {
     }
 }
 
-/// All zeros begin the identifiers of the zero block and of the second extension; all ones are no
-/// compression; any other number is one more than the k of sample splitting.
+/// Reads an identifier. All zeros begin the zero block and the second extension; all ones mean no
+/// compression; any other number is k + 1 for sample splitting with k.
 fn read_identifier(settings: &Settings, bits: &mut PlainBits) -> Result<CodeOption, Fault> {
     let len = identifier_len(settings);
     let ones = 2u32.saturating_pow(len).saturating_sub(1);
@@ -89,12 +88,12 @@ fn read_identifier(settings: &Settings, bits: &mut PlainBits) -> Result<CodeOpti
     }
 }
 
-/// How many values are written one by one: those of a block, without the reference place.
+/// Returns how many values are written one by one: those of a block, without the reference place.
 fn values_written(settings: &Settings, is_reference: bool) -> u32 {
     settings.block_size.saturating_sub(u32::from(is_reference))
 }
 
-/// No compression: each value in n bits.
+/// Reads no compression: each value in n bits.
 fn read_numbers(
     alloc: Global,
     settings: &Settings,
@@ -108,7 +107,7 @@ fn read_numbers(
     Ok(values)
 }
 
-/// The fundamental sequences of sample splitting.
+/// Reads the fundamental sequences of sample splitting.
 fn read_high_parts(
     alloc: Global,
     settings: &Settings,
@@ -122,7 +121,7 @@ fn read_high_parts(
     Ok(parts)
 }
 
-/// Sample splitting: the high parts of all values, then the k low bits of each.
+/// Reads sample splitting: the high parts of all values, then the k low bits of each.
 fn read_split(
     alloc: Global,
     settings: &Settings,
@@ -142,8 +141,8 @@ fn read_split(
     Ok(values)
 }
 
-/// The second extension: a number for each two values. In a reference block the first member of
-/// the first pair is ignored.
+/// Reads the second extension: a number for each two values. In a reference block the first member
+/// of the first pair is ignored.
 fn read_pairs(
     alloc: Global,
     settings: &Settings,
@@ -161,8 +160,8 @@ fn read_pairs(
     Ok(values)
 }
 
-/// The pair of a number. Pairs are numbered by their sum, and those of one sum by the second
-/// member: (0, 0), (1, 0), (0, 1), (2, 0), (1, 1), (0, 2) and so on.
+/// Returns the pair of a number. Pairs are numbered by their sum, and pairs of one sum by the
+/// second member: (0, 0), (1, 0), (0, 1), (2, 0), (1, 1), (0, 2) and so on.
 fn members(number: u64) -> (u64, u64) {
     let mut second = number;
     // No sum is greater than the number.

@@ -1,4 +1,4 @@
-//! Intervals coded by the codec, and decoded again.
+//! Intervals that an `AecCodec` codes and decodes.
 
 ghost use Rattle.std.specs.Prelude.{◌≡◌, ◌++◌, OnOk};
 ghost use Rattle.std.specs.Bool.{OnTrue};
@@ -15,14 +15,12 @@ use std::alloc::Global;
 use std::process::Abort;
 use std::test::Fail;
 
-/// Whether all numbers are samples.
 fn are_held<C: Codec>(codec: &C, samples: &[i64]) -> bool
     ensures { result ≡ list_all (C.format codec.now).holds samples.now }
 {
     samples.iter().all(|x| codec.holds(*x))
 }
 
-/// Whether a codec has these samples as an interval.
 fn is_interval<C: Codec>(codec: &C, samples: &[i64]) -> bool
     ensures { OnTrue result (IsInterval (C.format codec.now) samples.now) }
 {
@@ -30,7 +28,7 @@ fn is_interval<C: Codec>(codec: &C, samples: &[i64]) -> bool
     !samples.is_empty() && is_few && are_held(codec, samples)
 }
 
-/// Codes an interval behind some bits, and decodes it again.
+/// Appends the code of an interval to some bits, and decodes it again.
 fn there_and_back<C: Codec>(
     codec: &mut C,
     samples: &[i64],
@@ -45,7 +43,7 @@ fn there_and_back<C: Codec>(
     codec.decode(buf, start, samples.len() as u64, out)
 }
 
-/// The same for samples that the codec has as an interval.
+/// Checks that the samples are an interval, codes them, and decodes them again.
 fn coded_and_back(
     rt: &impl Abort,
     codec: &mut AecCodec,
@@ -57,7 +55,7 @@ fn coded_and_back(
     there_and_back(codec, samples, buf, out)
 }
 
-/// Codes an interval that the codec has as one.
+/// Checks that the samples are an interval, and codes them.
 fn code(
     rt: &impl Abort,
     codec: &mut AecCodec,
@@ -68,7 +66,7 @@ fn code(
     codec.code(samples, buf)
 }
 
-/// Codes an interval behind the bits `101`, compares the bits, and decodes it again.
+/// Appends the code of an interval to the bits `101`, checks the bits, and decodes it again.
 fn expect_interval(
     rt: &impl Abort,
     alloc: Global,
@@ -101,9 +99,9 @@ fn codes_intervals_behind_other_bits(rt: HostRuntime) -> Result<(), Fail> {
     expect_interval(&rt, rt.alloc(), Settings::USUAL, &[7; 5], 16, &[0xA0, 0x0F])
 }
 
-// So many samples from 128 to 254 in intervals of 4096 blocks. Without preprocessing each block is
-// coded by no compression, in 3 bits and 8 a sample: splitting at the greatest k, 5, takes at least
-// 10 bits a sample.
+// Checks that `count` samples from 128 to 254 are coded in `len` bits and decoded again. Without
+// preprocessing each block is coded by no compression, in 3 bits and 8 a sample: splitting with the
+// greatest k, 5, takes at least 10 bits a sample.
 fn expect_uncompressed(
     rt: &impl Abort,
     alloc: Global,
@@ -128,7 +126,7 @@ fn expect_uncompressed(
     Ok(())
 }
 
-// As many samples as an interval can have, and as many as one of blocks of 62.
+// The longest interval of all, and the longest with blocks of 62 samples.
 #[test]
 fn codes_the_longest_interval(rt: HostRuntime) -> Result<(), Fail> {
     let longest = Settings {
@@ -139,7 +137,7 @@ fn codes_the_longest_interval(rt: HostRuntime) -> Result<(), Fail> {
     expect_uncompressed(&rt, rt.alloc(), even_blocks(62, 4096), 253_952, 2_043_904)
 }
 
-// Intervals of 16, of eight and of two samples.
+// Three intervals, of 16, 8 and 2 samples.
 const THREE_INTERVALS: [i64; 26] = [
     9, 9, 9, 9, 9, 9, 9, 9, 9, 9, 9, 9, 9, 9, 9, 9, 0, 1, 2, 3, 4, 5, 6, 7, 1, 3,
 ];

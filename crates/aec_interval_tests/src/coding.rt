@@ -1,4 +1,4 @@
-//! Samples coded, and read back.
+//! Samples that are coded and read back.
 
 use crate::asserts::{fails, same};
 use crate::settings::even_blocks;
@@ -9,8 +9,8 @@ use std::alloc::Global;
 use std::process::Abort;
 use std::test::Fail;
 
-// Whether samples are preprocessed; samples; how long their code is in bits; and the code. The last
-// sample fills a block up, and a zero block is one of mapped zeros.
+// A row: whether samples are preprocessed; the samples; the number of bits of their code; the code.
+// Copies of the last sample fill up a block. A zero block is one whose mapped values are 0.
 const ONE_INTERVAL: [(bool, &[i64], u64, &[u8]); 7] = [
     (true, &[], 0, &[]),
     (true, &[0; 8], 13, &[0x00, 0x08]),
@@ -67,7 +67,7 @@ fn codes_other_widths(rt: HostRuntime) -> Result<(), Fail> {
         restricted: true,
         ..Settings::USUAL
     };
-    // No compression has the length of the second extension.
+    // No compression and the second extension have equal lengths.
     let spike = [0, 0, 0, 0, 0, 0, 0, 3];
     expect_code(&rt, rt.alloc(), narrow, &spike, 17, &[0x80, 0x01, 0x80])?;
     let twelve = Settings {
@@ -101,8 +101,8 @@ fn codes_blocks_of_ten(rt: HostRuntime) -> Result<(), Fail> {
     expect_code(&rt, rt.alloc(), even_blocks(10, 1), &ramp, 37, &bytes)
 }
 
-/// Compares the code of so many zero blocks in an interval of 4096 blocks; of other blocks behind
-/// them there is one, of seven zeros and a one, or none.
+/// Checks the code of `blocks` zero blocks in an interval of 4096 blocks. If `has_other`, a block
+/// of seven zeros and a one comes after them.
 fn expect_zeros(
     rt: &impl Abort,
     alloc: Global,

@@ -1,4 +1,4 @@
-//! Samples that come in pieces.
+//! Samples that are fed to a `StreamCoder` in pieces.
 
 ghost use Rattle.std.specs.Prelude.{◌<◌, ◌≤◌, length};
 
@@ -13,8 +13,8 @@ use std::alloc::Global;
 use std::process::Abort;
 use std::test::Fail;
 
-/// A piece that is fed, the answer, the samples that are held then where that is said, and the bits
-/// so far.
+/// A piece to feed, the result, how many samples are then held (`None`: any number below an
+/// interval), and the number of bits so far.
 #[derive(Clone, Copy)]
 struct Call<'a> {
     piece: &'a [u8],
@@ -23,7 +23,7 @@ struct Call<'a> {
     bits: u64,
 }
 
-/// Feeds pieces one after the other, then finishes, and compares each answer and the bits.
+/// Feeds the pieces one after the other, finishes, and checks each result and the bits.
 fn expect_calls(
     rt: &impl Abort,
     alloc: Global,
@@ -50,7 +50,6 @@ fn expect_calls(
     Ok(())
 }
 
-/// A piece that is taken.
 fn taken(piece: &[u8], held: u64, bits: u64) -> Call<'_> {
     Call {
         piece,
@@ -60,7 +59,6 @@ fn taken(piece: &[u8], held: u64, bits: u64) -> Call<'_> {
     }
 }
 
-/// A piece that is refused.
 fn refused(piece: &[u8], fault: Fault, bits: u64) -> Call<'_> {
     Call {
         piece,
@@ -83,7 +81,7 @@ fn codes_each_interval_when_it_is_complete(rt: HostRuntime) -> Result<(), Fail> 
     let all = [0x00, 0x04, 0x00, 0x20];
     expect_calls(&rt, alloc, s, 17, &begun, Ok(()), 27, &all)?;
     expect_calls(&rt, alloc, s, 17, &[], Ok(()), 0, &[])?;
-    // A byte that is half a sample is ignored at the end.
+    // Half a sample at the end is ignored.
     let wide = width(16, false);
     let halves = [taken(&[0], 0, 0), taken(&[0, 0], 1, 0)];
     expect_calls(
@@ -111,7 +109,7 @@ fn answers_a_refusal_for_good(rt: HostRuntime) -> Result<(), Fail> {
         refused(&[0; 40], many, 14),
     ];
     expect_calls(&rt, alloc, s, 17, &past, Err(many), 14, &[0x00, 0x04])?;
-    // The second half of a sample is refused, not the first.
+    // A sample past the limit is refused at its second byte, not at its first.
     let one = Fault::TooManySamples { limit: 1 };
     let halves = [
         taken(&[0, 0, 0], 1, 0),
@@ -147,9 +145,9 @@ fn answers_a_refusal_for_good(rt: HostRuntime) -> Result<(), Fail> {
     )
 }
 
-// A bad sample in each place of two pieces of 10 bytes. The code of the 16 samples of an interval
-// in front of it is the zero block's identifier, the reference sample and a run of two blocks: 4, 5
-// and 2 bits.
+// A bad sample at each place of two pieces of 10 bytes. If an interval of 16 samples comes before
+// it, the code of these is the zero block's identifier, the reference sample and a run of two
+// blocks: 4, 5 and 2 bits.
 #[test]
 fn names_the_bad_sample_of_all_pieces(rt: HostRuntime) -> Result<(), Fail> {
     let alloc = rt.alloc();
@@ -178,7 +176,7 @@ fn names_the_bad_sample_of_all_pieces(rt: HostRuntime) -> Result<(), Fail> {
     Ok(())
 }
 
-/// Codes bytes in pieces of so many, and compares the bits.
+/// Codes the bytes in pieces of 1, 2, 3, 7 and 64 bytes, and checks the bits.
 fn expect_in_pieces(
     rt: &impl Abort,
     alloc: Global,
@@ -221,7 +219,7 @@ fn codes_the_same_in_pieces_of_any_size(rt: HostRuntime) -> Result<(), Fail> {
     )
 }
 
-/// The code of samples that come in three pieces.
+/// Returns the code of samples that are fed in three pieces.
 fn coded_in_three(alloc: Global, params: Params, pieces: [&[u8]; 3]) -> Result<BitBuf, Fault> {
     let mut coder = StreamCoder::new(alloc, params, MOST);
     let mut out = BitBuf::new(alloc);
@@ -232,7 +230,7 @@ fn coded_in_three(alloc: Global, params: Params, pieces: [&[u8]; 3]) -> Result<B
     Ok(out)
 }
 
-/// The bytes of the code of all samples at once, and its length in bits.
+/// Codes all samples at once. Returns the bytes of the code, and its length in bits.
 fn coded_at_once(alloc: Global, params: &Params, bytes: &[u8]) -> Result<(Vec<u8>, u64), Fault> {
     let samples = read_samples(alloc, params, bytes)?;
     let all = encode_all(alloc, params, &samples)?;
@@ -241,7 +239,7 @@ fn coded_at_once(alloc: Global, params: &Params, bytes: &[u8]) -> Result<(Vec<u8
     Ok((coded.into_inner(), all.len()))
 }
 
-/// Wherever the bytes are cut in three, their code is that of all at once.
+/// Checks that the bytes, cut into three pieces anywhere, have the same code as all at once.
 fn expect_any_cut(rt: &impl Abort, alloc: Global, settings: Settings) -> Result<(), Fail> {
     let params = Params::new(settings)?;
     let mut bytes = [0u8; 40];

@@ -1,4 +1,4 @@
-//! The way back to where an interval begins.
+//! `StreamReader::go_back`, to where an interval begins.
 
 use crate::asserts::same;
 use crate::streams::MOST;
@@ -7,8 +7,8 @@ use aec_interval::StreamReader;
 use aec_params::{Fault, Params, Settings};
 use std::test::Fail;
 
-/// Goes over the next interval, back to where it begins, and reads it. How many samples were gone
-/// over.
+/// Skips the next interval, goes back to its beginning, and reads it. Returns how many samples were
+/// skipped.
 fn read_again(reader: &mut StreamReader, samples: &mut Vec<i64>) -> Result<Option<u64>, Fault> {
     let place = reader.place();
     let len = reader.skip()?;
@@ -17,7 +17,7 @@ fn read_again(reader: &mut StreamReader, samples: &mut Vec<i64>) -> Result<Optio
     Ok(len)
 }
 
-/// Three intervals of two blocks: of zeros, of zeros but for a 1 at the fifth place, and of zeros.
+/// Three intervals of two blocks: zeros; zeros with a 1 at the fifth place; zeros.
 const ONE_AT_20: [u8; 7] = [0x00, 0x04, 0x40, 0x30, 0xC2, 0x00, 0x08];
 
 #[test]

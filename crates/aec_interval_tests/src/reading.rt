@@ -10,7 +10,7 @@ fn reads_what_the_count_asks_for(rt: HostRuntime) -> Result<(), Fail> {
     let s = Settings::USUAL;
     expect_read(&rt, rt.alloc(), s, &[0x00, 0x78], Some(5), &[7; 5])?;
     expect_read(&rt, rt.alloc(), s, &[0x00, 0x78], None, &[7; 8])?;
-    // What stands behind the last coded data set that is needed is not read.
+    // Bits after the last coded data set that is needed are not read.
     expect_read(&rt, rt.alloc(), s, &[0x00, 0x78], Some(0), &[])?;
     expect_read(&rt, rt.alloc(), s, &[0xFF], Some(0), &[])?;
     expect_read(&rt, rt.alloc(), s, &[0x00, 0x7F, 0xFF], Some(8), &[7; 8])?;
@@ -30,7 +30,7 @@ fn ends_at_a_rest_of_zeros(rt: HostRuntime) -> Result<(), Fail> {
 
 #[test]
 fn reads_runs_to_the_end_of_their_segment(rt: HostRuntime) -> Result<(), Fail> {
-    // The remainder code, where fewer than five blocks are left.
+    // The remainder code, with fewer than five blocks left.
     expect_zeros(
         &rt,
         rt.alloc(),
@@ -39,10 +39,10 @@ fn reads_runs_to_the_end_of_their_segment(rt: HostRuntime) -> Result<(), Fail> {
         None,
         16,
     )?;
-    // At the end of an interval inside a segment.
+    // The remainder code at the end of intervals of 8 blocks.
     let eight = unprocessed(8);
     expect_zeros(&rt, rt.alloc(), eight, &[0x00, 0x80, 0x40], None, 128)?;
-    // A run has to fit its segment, not the need: of 63 blocks one is asked for.
+    // A run must fit its segment, but may be longer than needed: of 63 blocks the count needs one.
     let long = [0, 0, 0, 0, 0, 0, 0, 0, 0, 0x10];
     expect_zeros(&rt, rt.alloc(), with_interval(64), &long, Some(8), 8)
 }
@@ -50,7 +50,7 @@ fn reads_runs_to_the_end_of_their_segment(rt: HostRuntime) -> Result<(), Fail> {
 #[test]
 fn reads_other_spellings(rt: HostRuntime) -> Result<(), Fail> {
     let ramp = [0, 1, 2, 3, 4, 5, 6, 7];
-    // Splitting with k = 1 has the length of k = 0, which is written.
+    // Splitting with k = 1 is as long as with k = 0, which the coder writes.
     expect_read(
         &rt,
         rt.alloc(),
@@ -73,7 +73,7 @@ fn reads_other_spellings(rt: HostRuntime) -> Result<(), Fail> {
 fn skips_padding(rt: HostRuntime) -> Result<(), Fail> {
     let s = padded();
     expect_zeros(&rt, rt.alloc(), s, &[0x00, 0x04, 0x00, 0x08], None, 24)?;
-    // What is skipped is not read: ones behind a full interval.
+    // The skipped bits after a full interval may be ones.
     expect_zeros(&rt, rt.alloc(), s, &[0x00, 0x07], None, 16)?;
     expect_zeros(&rt, rt.alloc(), s, &[0x00, 0x07, 0x00, 0x08], None, 24)
 }

@@ -1,4 +1,4 @@
-//! Bytes that are refused, and the bit at which.
+//! Bytes that are refused, with the fault and its bit.
 
 use crate::settings::{unprocessed, with_interval};
 use crate::streams::{MOST, expect_refusal, expect_zeros};
@@ -14,7 +14,7 @@ fn refuses_cut_streams(rt: HostRuntime) -> Result<(), Fail> {
     expect_refusal(&rt, rt.alloc(), s, &[0x00], Some(8), MOST, at_start)?;
     let behind = Fault::Truncated { bit: 13 };
     expect_refusal(&rt, rt.alloc(), s, &[0x00, 0x78], Some(9), MOST, behind)?;
-    // Behind the 64 blocks of the remainder code.
+    // After the 64 blocks of the remainder code.
     let wide = with_interval(64);
     let rest = Fault::Truncated { bit: 17 };
     expect_refusal(
@@ -29,7 +29,7 @@ fn refuses_cut_streams(rt: HostRuntime) -> Result<(), Fail> {
     // Without padding nothing is skipped.
     let ones = Fault::Truncated { bit: 14 };
     expect_refusal(&rt, rt.alloc(), s, &[0x00, 0x07], None, MOST, ones)?;
-    // The fundamental sequence of a run that would be too long has no end.
+    // A fundamental sequence without an end. If it had one, the run would be too long.
     expect_refusal(&rt, rt.alloc(), s, &[0x00; 20], Some(8), MOST, at_start)
 }
 
@@ -64,7 +64,7 @@ fn refuses_long_runs(rt: HostRuntime) -> Result<(), Fail> {
         MOST,
         past,
     )?;
-    // Two blocks behind the first one of two.
+    // Two blocks, after the first block of an interval of two.
     expect_refusal(
         &rt,
         rt.alloc(),

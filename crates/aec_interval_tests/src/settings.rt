@@ -1,8 +1,7 @@
-//! Settings that differ from the usual ones in a field or two.
+//! Settings that differ from the usual ones in a few fields.
 
 use aec_params::Settings;
 
-/// So many bits per sample.
 pub(crate) const fn width(bits: u32, signed: bool) -> Settings {
     Settings {
         bits,
@@ -11,7 +10,6 @@ pub(crate) const fn width(bits: u32, signed: bool) -> Settings {
     }
 }
 
-/// Intervals of so many blocks.
 pub(crate) const fn with_interval(interval: u32) -> Settings {
     Settings {
         interval,
@@ -19,7 +17,6 @@ pub(crate) const fn with_interval(interval: u32) -> Settings {
     }
 }
 
-/// No preprocessing, and intervals of so many blocks.
 pub(crate) const fn unprocessed(interval: u32) -> Settings {
     Settings {
         preprocess: false,
@@ -27,7 +24,7 @@ pub(crate) const fn unprocessed(interval: u32) -> Settings {
     }
 }
 
-/// Blocks of an even number of samples, and intervals of so many blocks.
+/// Returns settings with blocks of an even size, and intervals of `interval` blocks.
 pub(crate) const fn even_blocks(block_size: u32, interval: u32) -> Settings {
     Settings {
         block_size,
@@ -36,7 +33,6 @@ pub(crate) const fn even_blocks(block_size: u32, interval: u32) -> Settings {
     }
 }
 
-/// With padding.
 pub(crate) const fn padded() -> Settings {
     Settings {
         pad: true,

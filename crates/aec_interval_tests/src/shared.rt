@@ -1,10 +1,10 @@
-//! What bits are compared with.
+//! A comparison of bits with bytes.
 
 use crate::asserts::{holds, same, same_at};
 use aec_bits::BitBuf;
 use std::process::Abort;
 
-/// Compares bits with those of bytes, of which the last is filled with zeros.
+/// Checks the number of bits, and the bytes that the bits fill. Zeros fill up the last byte.
 pub(crate) fn expect_bits(rt: &impl Abort, bits: &BitBuf, len: u64, bytes: &[u8]) {
     same(rt, bits.len(), len);
     same(rt, bits.byte_len(), bytes.len() as u64);

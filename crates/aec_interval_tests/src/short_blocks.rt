@@ -1,5 +1,5 @@
-//! A short last block against the block that its last sample fills up. The first goes by the road
-//! for blocks of any size, the second by code compiled for that size.
+//! Short last blocks, compared with whole blocks that repeat the last sample. A short block takes
+//! the general path, a whole block the code compiled for its size.
 
 use crate::streams::expect_code;
 use aec_bits::WriteSink;
@@ -9,8 +9,7 @@ use std::alloc::Global;
 use std::process::Abort;
 use std::test::Fail;
 
-/// Intervals of two blocks, of the standard's sizes and of another one, with preprocessing and
-/// without.
+/// Intervals of two blocks: blocks of 8, 16, 64 and 10 samples with preprocessing, of 8 without.
 const SETTINGS: [Settings; 5] = [
     Settings::USUAL,
     Settings {
@@ -32,7 +31,7 @@ const SETTINGS: [Settings; 5] = [
     },
 ];
 
-/// Samples of a saw, whose values take several bits.
+/// Returns samples of a sawtooth, whose values need several bits.
 fn saw(alloc: Global, len: usize) -> Result<Vec<i64>, Fail> {
     let mut samples = Vec::new(alloc);
     for i in 0..len {
@@ -41,8 +40,8 @@ fn saw(alloc: Global, len: usize) -> Result<Vec<i64>, Fail> {
     Ok(samples)
 }
 
-/// Compares the code of so many samples with that of more, of which each further one repeats the
-/// last.
+/// Checks that `len` samples have the same code as `filled_len` samples, where the added ones
+/// repeat the last.
 fn expect_filled(
     rt: &impl Abort,
     alloc: Global,

@@ -1,4 +1,4 @@
-//! Intervals gone over without their samples.
+//! Intervals that are skipped without making their samples.
 
 use crate::asserts::{fails, holds, same};
 use crate::settings::padded;
@@ -10,7 +10,7 @@ use std::alloc::Global;
 use std::process::Abort;
 use std::test::Fail;
 
-/// Goes over bytes interval by interval, and compares how many samples each has.
+/// Skips the intervals of bytes one by one, and checks the number of samples in each.
 fn expect_lens(
     rt: &impl Abort,
     alloc: Global,
@@ -41,10 +41,10 @@ fn counts_the_samples_that_are_asked_for(rt: HostRuntime) -> Result<(), Fail> {
     expect_lens(&rt, rt.alloc(), s, &ZEROS, Some(33), &[16, 16, 1])?;
     expect_lens(&rt, rt.alloc(), s, &ZEROS, Some(32), &[16, 16])?;
     expect_lens(&rt, rt.alloc(), s, &ZEROS, Some(0), &[])?;
-    // An interval that ends where no more is wanted.
+    // An interval that ends before it is full, since no more is wanted.
     expect_lens(&rt, rt.alloc(), s, &[0x00, 0x78], None, &[8])?;
     expect_lens(&rt, rt.alloc(), s, &[0x00, 0x78], Some(5), &[5])?;
-    // Behind padding.
+    // After padding.
     expect_lens(
         &rt,
         rt.alloc(),

@@ -1,4 +1,4 @@
-//! What streams are compared with.
+//! Checks of whole streams: how they are read, refused and written.
 
 ghost use Rattle.std.specs.Prelude.{◌≤◌, ◌^◌};
 
@@ -11,10 +11,11 @@ use std::alloc::Global;
 use std::process::Abort;
 use std::test::Fail;
 
-/// The most samples that may be asked for.
+/// The greatest limit of samples.
 pub(crate) const MOST: u64 = 1 << 32;
 
-// They are asked through these, so that their clauses stay out of the loops' proofs.
+// The tests call readers through these functions, so that the readers' clauses stay out of the
+// loops' proofs.
 
 pub(crate) fn next(reader: &mut StreamReader, samples: &mut Vec<i64>) -> Result<bool, Fault> {
     reader.next(samples)
@@ -28,7 +29,7 @@ pub(crate) fn skip(reader: &mut StreamReader) -> Result<Option<u64>, Fault> {
     reader.skip()
 }
 
-/// The samples that a reader hands out, interval by interval.
+/// Returns the samples that a reader returns interval by interval.
 fn read_by_steps(alloc: Global, reader: &mut StreamReader) -> Result<Vec<i64>, Fault> {
     let mut all = Vec::new(alloc);
     let mut samples = Vec::new(alloc);
@@ -41,7 +42,7 @@ fn read_by_steps(alloc: Global, reader: &mut StreamReader) -> Result<Vec<i64>, F
     Ok(all)
 }
 
-/// The samples that a reader hands out, several intervals at a time where it does so.
+/// Returns the samples that a reader returns by `next_few`, which may read several short intervals.
 fn read_by_few(alloc: Global, reader: &mut StreamReader) -> Result<Vec<i64>, Fault> {
     let mut all = Vec::new(alloc);
     let mut samples = Vec::new(alloc);
@@ -54,7 +55,7 @@ fn read_by_few(alloc: Global, reader: &mut StreamReader) -> Result<Vec<i64>, Fau
     Ok(all)
 }
 
-/// How many samples a reader has that goes over the intervals.
+/// Returns how many samples a reader skips interval by interval.
 fn len_by_steps(reader: &mut StreamReader) -> Result<u64, Fault> {
     let mut all = 0u64;
     for _ in 0..MOST {
@@ -66,8 +67,8 @@ fn len_by_steps(reader: &mut StreamReader) -> Result<u64, Fault> {
     Ok(all)
 }
 
-/// Reads bytes with a count or without one, at once, twice in steps and without the samples, and
-/// compares.
+/// Reads bytes, with a count or without one, and checks the samples: at once, twice by intervals,
+/// and by `next_few`. Checks their number by skipping.
 pub(crate) fn expect_read(
     rt: &impl Abort,
     alloc: Global,
@@ -92,7 +93,7 @@ pub(crate) fn expect_read(
     Ok(())
 }
 
-/// Reads bytes with a count or without one, and compares the samples with so many zeros.
+/// Reads bytes, with a count or without one, and checks that the samples are `len` zeros.
 pub(crate) fn expect_zeros(
     rt: &impl Abort,
     alloc: Global,
@@ -106,8 +107,8 @@ pub(crate) fn expect_zeros(
     expect_read(rt, alloc, settings, bytes, count, &zeros)
 }
 
-/// The samples of bits that are read in steps, or their refusal, which comes again where the step
-/// is made again.
+/// Reads bits interval by interval, and returns the samples. If a step fails, it is tried again,
+/// and the second result is returned.
 fn samples_by_steps(
     alloc: Global,
     params: Params,
@@ -124,8 +125,8 @@ fn samples_by_steps(
     }
 }
 
-/// How many samples bits have that are gone over in steps, or their refusal, which comes again
-/// where the step is made again.
+/// Skips intervals, and returns the number of their samples. If a step fails, it is tried again,
+/// and the second result is returned.
 fn len_without_samples(
     alloc: Global,
     params: Params,
@@ -142,7 +143,8 @@ fn len_without_samples(
     }
 }
 
-/// Reads bytes at once, in steps and without the samples, and compares the refusals.
+/// Reads bytes at once, interval by interval, and by skipping, and checks that each fails with
+/// `fault`.
 pub(crate) fn expect_refusal(
     rt: &impl Abort,
     alloc: Global,
@@ -170,7 +172,7 @@ pub(crate) fn expect_refusal(
     Ok(())
 }
 
-/// Codes samples, compares the bits, and reads them back with their count.
+/// Codes samples, checks the bits, and reads them back with their count.
 pub(crate) fn expect_code(
     rt: &impl Abort,
     alloc: Global,

@@ -5,7 +5,7 @@ use aec_bits::BitBuf;
 use aec_params::Fault;
 use std::alloc::Global;
 
-// A list of bits, and the bits 11 and 0110 that it is given.
+// A list of bits, and the bits 11 and 0110, which calls add to it.
 #[derive(Drop)]
 struct Bits {
     list: BitBuf,
@@ -28,13 +28,13 @@ impl Bits {
         })
     }
 
-    // Puts the bits 0110 in the place of the third to the seventh bit, as far as there are so many.
+    // Replaces the third to the seventh bit, as far as these exist, by the bits 0110.
     fn splice(&mut self) -> Result<(), Fault> {
         let stop = self.list.len().min(7);
         self.list.splice(stop.min(2), stop, &self.middle)
     }
 
-    // Fills up the first five bits.
+    // Keeps the first five bits, and pads them to a byte.
     fn fill_up(&mut self) -> Result<(), Fault> {
         let len = self.list.len().min(5);
         self.list.truncate(len);
@@ -77,7 +77,7 @@ const WITH_ROOM: [(usize, &str); 8] = [
     (7, "BitBuf::from_bytes"),
 ];
 
-/// Lists of bits with room that was reserved and with none.
+/// Makes the calls on a list with reserved room, and on lists without room.
 pub fn try_bits<R: Print + Eprint>(rt: &R, alloc: Global) -> Result<(), Fault> {
     try_calls(rt, &WITH_ROOM, &mut Bits::new(alloc)?);
     for call in &WITH_ROOM[1..6] {

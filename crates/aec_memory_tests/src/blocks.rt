@@ -1,4 +1,4 @@
-//! A block and a run of zero blocks, each written by itself.
+//! Calls that write a block or a run of zero blocks.
 
 ghost use Rattle.std.specs.Prelude.{◌<◌, ◌^◌};
 ghost use Rattle.std.specs.Bool.{OnTrue};
@@ -24,7 +24,7 @@ fn all_below(values: &[u32], limit: u64) -> bool
     values.iter().all(|v| u64::from(*v) < limit)
 }
 
-// Whether a number stands as a reference sample.
+// Returns whether a reference sample, if any, fits the bits per sample.
 fn fits_reference(params: &Params, reference: Option<u32>) -> bool
     ensures { OnTrue result (FitsReference params.now reference) }
 {
@@ -34,7 +34,7 @@ fn fits_reference(params: &Params, reference: Option<u32>) -> bool
     }
 }
 
-// Whether the settings have a block.
+// Returns whether a block is full and fits the settings.
 fn is_full(params: &Params, block: &Block) -> bool
     ensures { OnTrue result (IsFull params.now block.now) }
 {
@@ -72,7 +72,7 @@ impl Trial for Written {
     }
 }
 
-// The block of the samples 0 to 7, of which the first is the reference sample.
+// Returns the block of the samples 0 to 7. The first one is the reference sample.
 fn ramp(alloc: Global) -> Block {
     let mut block = Block::new(alloc, Some(0));
     for value in [1, 2, 2, 2, 2, 2, 2] {
@@ -83,7 +83,7 @@ fn ramp(alloc: Global) -> Block {
     block
 }
 
-/// Each of them into a list with no room.
+/// Makes each call with a list without room.
 pub fn try_blocks<R: Print + Eprint>(rt: &R, alloc: Global) -> Result<(), Fault> {
     for call in [
         (0, "write_block"),

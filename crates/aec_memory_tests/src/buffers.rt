@@ -1,4 +1,4 @@
-//! Coded bytes decoded into a buffer.
+//! Calls that decode bytes into a buffer.
 
 use crate::trial::{Trial, print_bytes, try_calls};
 use aec_engine::{decode_into, range_into};
@@ -6,7 +6,7 @@ use aec_params::{Fault, Limits, Params, Settings};
 use std::alloc::Global;
 use std::mem;
 
-// A buffer of ten bytes, how many of them a call may fill, and how many bytes its answer takes.
+// A buffer of ten bytes, how many of them a call may fill, and the number of bytes of its result.
 #[derive(Drop)]
 struct Buffers {
     params: Params,
@@ -42,7 +42,7 @@ impl Trial for Buffers {
     }
 }
 
-// A call, and the room for its answer.
+// A call, and the room for its result.
 const CALLS: [(usize, &str, usize); 6] = [
     (0, "decode_into", 9),
     (0, "decode_into", 7),
@@ -52,7 +52,7 @@ const CALLS: [(usize, &str, usize); 6] = [
     (3, "range_into", 9),
 ];
 
-/// Each call of the table, on a buffer of its own.
+/// Makes each call of the table, with a buffer of its own.
 pub fn try_buffers<R: Print + Eprint>(rt: &R, alloc: Global) -> Result<(), Fault> {
     let params = Params::new(Settings::USUAL)?;
     let Some(limits) = Limits::new(1 << 32, 1 << 40) else {

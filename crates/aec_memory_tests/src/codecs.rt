@@ -1,4 +1,4 @@
-//! Codecs: intervals coded and decoded.
+//! Calls of codecs that code and decode intervals.
 
 ghost use Rattle.std.specs.Prelude.{◌≡◌, ◌++◌, length, OnOk};
 ghost use Rattle.std.specs.Bool.{OnTrue};
@@ -12,7 +12,7 @@ use aec_interval::AecCodec;
 use aec_params::{Fault, Params, Settings};
 use std::alloc::Global;
 
-// The place of the first number that a codec has not as a sample.
+// Returns the index of the first number that is no sample of the codec.
 fn first_unheld<C: Codec>(codec: &C, samples: &[i64]) -> Option<u64>
     ensures { result ≡ first_unheld_of (C.format codec.now).holds 0 samples.now }
 {
@@ -24,7 +24,6 @@ fn first_unheld<C: Codec>(codec: &C, samples: &[i64]) -> Option<u64>
     None
 }
 
-// Whether a codec has these samples as an interval.
 #[tactic(auto, using(crate::proofs::CodecLemmas::interval_of_held))]
 fn is_interval<C: Codec>(codec: &C, samples: &[i64]) -> bool
     ensures { OnTrue result (IsInterval (C.format codec.now) samples.now) }
@@ -53,7 +52,7 @@ fn print_left<R: Print, C: Codec>(
     let _ = rt.println("");
 }
 
-// Codes an interval, once more where memory was wanting.
+// Codes an interval, once more if this failed with `Memory`.
 fn code<R: Print + Eprint, C: Codec>(
     rt: &R,
     codec: &mut C,
@@ -77,7 +76,7 @@ fn code<R: Print + Eprint, C: Codec>(
     answer
 }
 
-// Decodes an interval, once more where memory was wanting.
+// Decodes an interval, once more if this failed with `Memory`.
 fn decode<R: Print + Eprint, C: Codec>(
     rt: &R,
     codec: &mut C,
@@ -101,7 +100,7 @@ fn decode<R: Print + Eprint, C: Codec>(
     answer
 }
 
-// Codes an interval behind some bits, and decodes it again.
+// Appends the code of an interval to some bits, and decodes it again.
 fn try_codec<R: Print + Eprint, C: Codec>(
     rt: &R,
     codec: &mut C,
@@ -129,7 +128,7 @@ fn try_octets<R: Print + Eprint>(rt: &R, alloc: Global, mut bits: BitBuf) -> Res
     try_codec(rt, &mut octets, &[1, 2, 3], &mut bits, &mut Vec::new(alloc))
 }
 
-/// The coder of intervals and octets, behind some bits and where there are none.
+/// Codes and decodes by `AecCodec` and by `Octets`, after other bits and after none.
 pub fn try_codecs<R: Print + Eprint>(rt: &R, alloc: Global) -> Result<(), Fault> {
     let mut bits = BitBuf::new(alloc);
     bits.push_bits(5, 3)?;

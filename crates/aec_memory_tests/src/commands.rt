@@ -1,4 +1,4 @@
-//! The command and the jobs that its words ask for.
+//! Calls that make the command, and the jobs that its words ask for.
 
 use crate::trial::{Trial, try_calls};
 use aec_cli::{Job, Usage, command, parse, settings};
@@ -6,7 +6,7 @@ use aec_params::Fault;
 use clap::{ArgMatches, Command};
 use std::alloc::{AllocError, Global};
 
-// The refusal of a job whose words break no rule of the actions.
+// Returns the fault of a refusal; `Script` for broken rules of actions, which no row has.
 fn refusal_of(usage: Usage) -> Fault {
     match usage {
         Usage::Memory => Fault::Memory,
@@ -60,7 +60,7 @@ impl<'a> Trial for Jobs<'a> {
     }
 }
 
-/// The words behind the name of a call, and the name of the program before them.
+/// Returns the words after the name of a call, with the program's name before them.
 pub fn words_of(alloc: Global, call: &str) -> Result<Vec<String>, AllocError> {
     let mut words = Vec::new(alloc);
     words.push(String::from_str(alloc, "aec")?)?;
@@ -70,7 +70,7 @@ pub fn words_of(alloc: Global, call: &str) -> Result<Vec<String>, AllocError> {
     Ok(words)
 }
 
-// Calls by their words.
+// Names of calls, each with its words.
 const JOBS: [&str; 5] = [
     "settings a b",
     "settings -d --count 8 b c",
@@ -92,7 +92,7 @@ fn try_job<R: Print + Eprint>(rt: &R, alloc: Global, call: &str) -> Result<(), F
     Ok(())
 }
 
-/// The command, and the job of each row of the table.
+/// Makes the command, and the job of each row of the table.
 pub fn try_commands<R: Print + Eprint>(rt: &R, alloc: Global) -> Result<(), Fault> {
     let mut commands = Commands { made: None, alloc };
     try_calls(rt, &[(0, "command")], &mut commands);

@@ -1,4 +1,4 @@
-//! Workspaces over the coder of intervals, and scripts.
+//! Calls of workspaces over `AecCodec`, and of `script`.
 
 use crate::trial::{Trial, print_bytes, print_samples, try_calls};
 use aec_bits::WriteSink;
@@ -26,8 +26,8 @@ fn print_work<R: Print>(rt: &R, alloc: Global, work: &Workspace<AecCodec>) {
     let _ = print!(rt; ", calls {}, reads {},", work.calls(), work.reads());
 }
 
-// A workspace, edits of it, how many intervals the last one coded, and the range of places 19 to
-// 21. Room is taken for 1,000 bits and 9 intervals.
+// A workspace, edits of it, how many intervals the last edit coded, and the samples at places 19 to
+// 21.
 #[derive(Drop)]
 struct Edits {
     work: Workspace<AecCodec>,
@@ -114,7 +114,7 @@ impl Trial for Runs {
     }
 }
 
-// A script, and the edits and lines that were read of it.
+// A script, and the edits and lines that were read from it.
 #[derive(Drop)]
 struct Scripts<'a> {
     text: &'a str,
@@ -166,8 +166,8 @@ overwrite 48
 append 0
 overwrite 20 1";
 
-// Forty-eight zeros and sixteen more between these; one zero, so that four intervals are coded;
-// then a removal of whole intervals, and one of less.
+// Forty-eight zeros, and sixteen more between them; one zero, so that four intervals are coded; one
+// zero too many; then removals of sixteen samples, of three, and of the first interval.
 const MOVED_ZEROS: &str = "\
 append 0 0 0 0 0 0 0 0 0 0 0 0 0 0 0 0 0 0 0 0 0 0 0 0 0 0 0 0 0 0 0 0 0 0 0 0 0 0 0 0 0 0 0 0 0 0 0 0
 insert 16 0 0 0 0 0 0 0 0 0 0 0 0 0 0 0 0
@@ -219,7 +219,7 @@ const LINES: &str = "# p\noverwrite 20 1 -2\nappend\ntruncate 5";
 
 const MOVING_LINES: &str = "insert 3 1 -2\nremove 4 5\ninsert 0";
 
-/// Edits one by one, a range, a run, and scripts.
+/// Makes edits one by one, a range, a run of edits, and scripts.
 pub fn try_edits<R: Print + Eprint>(rt: &R, alloc: Global) -> Result<(), Fault> {
     try_calls(rt, &ZEROS_EDITED, &mut Edits::new(alloc, 48, ZEROS)?);
     try_calls(rt, &EDITED[..3], &mut Edits::new(alloc, 48, SEVENS)?);

@@ -1,4 +1,4 @@
-//! The engines over bytes in memory, into a sink that has room for all.
+//! Calls of the engines, from bytes in memory into a sink that has room for all.
 
 use crate::trial::{Trial, print_bytes, try_calls};
 use aec_bits::{ReadSource, Sink, WriteSink};
@@ -34,7 +34,7 @@ fn given(number: usize) -> &'static [u8] {
     }
 }
 
-// The refusal, by whichever line it is.
+// Returns the fault of an edit, without its line.
 fn plainly(fault: EditFault) -> Fault {
     match fault {
         EditFault::Plain(fault) | EditFault::Line { fault, .. } => fault,
@@ -88,7 +88,7 @@ impl Trial for Engines {
     }
 }
 
-/// Each engine, from nothing written.
+/// Calls each engine, each with an empty sink.
 pub fn try_engines<R: Print + Eprint>(rt: &R, alloc: Global) -> Result<(), Fault> {
     let params = Params::new(Settings::USUAL)?;
     let plain = Params::new(Settings {

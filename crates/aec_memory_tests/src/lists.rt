@@ -1,4 +1,4 @@
-//! Samples from stored bytes, and bytes in memory coded and decoded.
+//! Calls that read stored samples, and calls that code and decode bytes in memory.
 
 use crate::trial::{Trial, print_bytes, print_samples, try_calls};
 use aec_engine::{decode_bytes, encode_bytes};
@@ -63,7 +63,7 @@ fn try_stored<R: Print + Eprint>(rt: &R, alloc: Global) -> Result<(), Fault> {
     Ok(())
 }
 
-// Bytes, and what they are coded or decoded to.
+// The bytes of the last call: a code, or what is decoded from it.
 #[derive(Drop)]
 struct InMemory {
     params: Params,
@@ -103,7 +103,7 @@ fn try_in_memory<R: Print + Eprint>(rt: &R, alloc: Global) -> Result<(), Fault> 
     Ok(())
 }
 
-/// Samples behind those of another list, and seventeen zeros there and back.
+/// Reads stored samples, and codes and decodes seventeen zeros.
 pub fn try_lists<R: Print + Eprint>(rt: &R, alloc: Global) -> Result<(), Fault> {
     try_stored(rt, alloc)?;
     try_in_memory(rt, alloc)

@@ -1,5 +1,5 @@
-//! A program for tests: it makes most library calls that can lack memory, and prints their results
-//! and the state after them.
+//! A program for tests: it makes most library calls that can run out of memory, and prints their
+//! results and the state after them.
 #![tactic(auto)]
 
 mod bits;
@@ -29,7 +29,7 @@ fn main(rt: HostRuntime) -> ExitCode {
     }
 }
 
-// Want of memory where something is made ready for the calls.
+// Makes all calls. Fails if something that the calls need can't be made.
 fn try_all(rt: &HostRuntime) -> Result<(), Fault> {
     let alloc = rt.alloc();
     bits::try_bits(rt, alloc)?;

@@ -1,4 +1,4 @@
-//! Samples that come in pieces.
+//! Calls that feed samples to a `StreamCoder` in pieces.
 
 use crate::trial::{Trial, print_bits, try_calls};
 use aec_bits::BitBuf;
@@ -6,8 +6,8 @@ use aec_interval::StreamCoder;
 use aec_params::{Fault, Params, Settings};
 use std::alloc::Global;
 
-// A coder that takes at most 17 samples, none where it has finished, the bits of what it was fed,
-// and all that it is fed.
+// All bytes that are fed, a coder of at most 17 samples (`None` after it has finished), and the
+// bits so far.
 #[derive(Drop)]
 struct Pieces {
     all: &'static [u8],
@@ -35,7 +35,7 @@ impl Pieces {
         }
     }
 
-    // Where it has finished, a new one is fed all.
+    // Finishes the coder. If it has already finished, all bytes are first fed to a new one.
     fn finish(&mut self) -> Result<(), Fault> {
         if self.coder.is_none() {
             *self = Pieces::new(self.alloc, self.params, self.all);
@@ -71,7 +71,7 @@ const CALLS: [(usize, &str); 3] = [
     (2, "StreamCoder::finish"),
 ];
 
-/// Seventeen zeros in two pieces, and five in one.
+/// Feeds seventeen zeros in two pieces, and five in one.
 pub fn try_pieces<R: Print + Eprint>(rt: &R, alloc: Global) -> Result<(), Fault> {
     let params = Params::new(Settings::USUAL)?;
     try_calls(rt, &CALLS, &mut Pieces::new(alloc, params, &[0; 17]));

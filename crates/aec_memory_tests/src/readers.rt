@@ -1,4 +1,4 @@
-//! Samples handed out interval by interval.
+//! Calls that read samples interval by interval.
 
 use crate::trial::{Trial, print_samples, try_calls};
 use aec_bits::BitBuf;
@@ -27,7 +27,7 @@ const ZEROS: [u8; 6] = [0x00, 0x04, 0x00, 0x10, 0x00, 0x40];
 
 const NEXT: (usize, &str) = (0, "StreamReader::next");
 
-/// The intervals of 33 zeros, and what comes behind them.
+/// Reads the three intervals of 33 zeros, and then the end.
 pub fn try_readers<R: Print + Eprint>(rt: &R, alloc: Global) -> Result<(), Fault> {
     let bits = BitBuf::from_bytes(alloc, &ZEROS)?;
     let params = Params::new(Settings::USUAL)?;

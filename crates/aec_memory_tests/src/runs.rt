@@ -1,4 +1,4 @@
-//! Whole runs of the program `aec` on files, each of which is made before its run.
+//! Whole runs of the program `aec` on files, which are written before each run.
 
 use crate::commands::words_of;
 use crate::trial::{Trial, print_bytes, try_calls};
@@ -8,7 +8,7 @@ use std::alloc::{Alloc, Global};
 use std::fs;
 use std::rt::Files;
 
-// Prints text where there is one.
+// Prints a text, if it isn't empty.
 fn print_text<R: Print>(rt: &R, bytes: &[u8]) {
     if let Ok(text) = str::from_utf8(bytes) {
         if !text.is_empty() {
@@ -17,8 +17,8 @@ fn print_text<R: Print>(rt: &R, bytes: &[u8]) {
     }
 }
 
-// The words for each run that is still to be made, and what the last one left: its status, and the
-// line that it printed. There is room for a line, so that want of memory cuts none.
+// The words for each run that is still to be made, and of the last run the status, the standard
+// output and the line on standard error. Both have room, so that a refused growth cuts no line.
 #[derive(Drop)]
 struct Runs<'a, F: Files + Alloc<A = Global>> {
     rt: &'a F,
@@ -75,7 +75,7 @@ const ZEROS: [u8; 6] = [0x00, 0x04, 0x00, 0x10, 0x00, 0x40];
 
 const EIGHT_ZEROS: [u8; 2] = [0x00, 0x08];
 
-// Calls by their words, and what SOURCE and the script hold.
+// Names of calls, each with its words, the bytes of SOURCE, and the script.
 const RUNS: [(&str, &[u8], &str); 7] = [
     ("perform source dest", &RAMP, ""),
     ("perform -d source dest", &RAMP_CODED, ""),
@@ -120,7 +120,7 @@ fn try_run<R: Print + Eprint + Files + Alloc<A = Global>>(
     Ok(())
 }
 
-/// Each row of the table.
+/// Makes the run of each row of the table.
 pub fn try_runs<R: Print + Eprint + Files + Alloc<A = Global>>(rt: &R) -> Result<(), Fault> {
     for (call, source, script) in RUNS.iter() {
         try_run(rt, call, source, script)?;

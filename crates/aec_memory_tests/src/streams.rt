@@ -1,4 +1,4 @@
-//! Whole lists of samples, coded and decoded.
+//! Calls that code and decode whole lists of samples.
 
 use crate::trial::{Trial, print_bits, print_samples, try_calls};
 use aec_bits::BitBuf;
@@ -45,7 +45,7 @@ const RAMP: [i64; 8] = [0, 1, 2, 3, 4, 5, 6, 7];
 
 const TURNS: [i64; 8] = [LEAST, MOST, LEAST, MOST, LEAST, MOST, LEAST, MOST];
 
-// The settings, and the samples: so many zeros, and these.
+// The settings, and the samples: a number of zeros, and then these.
 const CODED: [(Settings, usize, &[i64]); 13] = [
     (USUAL, 0, &[]),
     (USUAL, 8, &[]),
@@ -176,7 +176,7 @@ fn try_decoding<R: Print + Eprint>(
     Ok(())
 }
 
-/// Each row of the tables.
+/// Makes the call of each row of both tables.
 pub fn try_streams<R: Print + Eprint>(rt: &R, alloc: Global) -> Result<(), Fault> {
     for (settings, zeros, rest) in CODED.iter() {
         try_coding(rt, alloc, *settings, *zeros, rest)?;

@@ -1,29 +1,28 @@
-//! Calls that are made one after the other. On standard error stands where growths may be refused:
-//! within the calls alone.
+//! Calls that are made one after the other. Lines on standard error mark where an allocation may be
+//! refused: only within the calls.
 
 use aec_bits::BitBuf;
 use aec_params::Fault;
 
-/// Something, and calls that change it.
+/// A state, and calls that change it.
 pub trait Trial {
     /// Makes the call with this number.
     fn call(&mut self, number: usize) -> Result<(), Fault>;
 
-    /// Prints what is there now.
+    /// Prints the state.
     fn show<R: Print>(&self, rt: &R);
 }
 
-/// From here on growths may be refused.
+/// Prints that from here on an allocation may be refused.
 pub fn refuse<R: Eprint>(rt: &R) {
     let _ = rt.eprintln("refuse");
 }
 
-/// From here on none is refused.
+/// Prints that from here on no allocation is refused.
 pub fn grant<R: Eprint>(rt: &R) {
     let _ = rt.eprintln("grant");
 }
 
-/// Prints the name of a call, and what it answered.
 pub fn print_answer<R: Print>(rt: &R, name: &str, answer: Result<(), Fault>) {
     let _ = print!(rt; "{name}: ");
     let _ = match answer {
@@ -32,8 +31,8 @@ pub fn print_answer<R: Print>(rt: &R, name: &str, answer: Result<(), Fault>) {
     };
 }
 
-/// Prints what is there at first, and then for each call its answer and what is there after it. A
-/// call that lacked memory is made once more, with all growths granted.
+/// Prints the state, and then for each call its result and the state after it. A call that failed
+/// with `Memory` is made once more, with no allocation refused.
 pub fn try_calls<R: Print + Eprint, T: Trial>(rt: &R, calls: &[(usize, &str)], trial: &mut T) {
     print_line(rt, "new", Ok(()), trial);
     for (number, name) in calls {
@@ -66,7 +65,7 @@ pub fn print_bytes<R: Print>(rt: &R, bytes: &[u8]) {
     }
 }
 
-/// All values, or how often there is the same one.
+/// Prints all samples; of more than 16 equal ones, their number and one of them.
 pub fn print_samples<R: Print>(rt: &R, samples: &[i64]) {
     if let Some(first) = samples.first() {
         if samples.len() > 16 && samples.iter().all(|x| x == first) {

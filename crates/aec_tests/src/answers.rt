@@ -1,6 +1,6 @@
-//! Tables of what an engine answers to bytes in memory. A row: the options, which name the action
-//! too; the limits of samples and of bytes; what the source gives, and `!` where it fails then,
-//! `..` where it gives zeros for ever; and what is written, or the refusal.
+//! Tables of the results of engines for bytes in memory. A row: the options, with that of the
+//! action; the limits of samples and of bytes; the bytes of the source, then `!` if it fails after
+//! them, or `..` if it returns zeros for ever; and what is written, or the refusal.
 
 use crate::asserts::holds_at;
 use crate::shared::{Outcome, job_of, run_engine};
@@ -37,7 +37,7 @@ fn limits_of(cell: &str) -> Result<Limits, Fail> {
     Ok(Limits::new(samples.parse::<u64>()?, bytes.parse::<u64>()?).ok_or("limits")?)
 }
 
-// The bytes of a source, and what it does then.
+// Returns the bytes of a source, and what it does after them.
 fn given(cell: &str) -> (&str, After) {
     if let Some(bytes) = cell.strip_suffix("..") {
         return (bytes, After::Zeros);
@@ -48,13 +48,12 @@ fn given(cell: &str) -> (&str, After) {
     }
 }
 
-// The job of these options.
 fn job_with(alloc: Global, options: &str) -> Result<Job, Fail> {
     let words = format!(in alloc; "{options} in out")?;
     Ok(job_of(alloc, words.as_str())??)
 }
 
-// What the engine leaves.
+// Runs the engine of a row, and returns the outcome.
 fn tried(alloc: Global, row: Row<'_>) -> Result<Outcome, Fail> {
     let limits = limits_of(row.limits)?;
     let (cell, after) = given(row.source);
@@ -66,7 +65,8 @@ fn tried(alloc: Global, row: Row<'_>) -> Result<Outcome, Fail> {
     Ok(left)
 }
 
-// Whether that is what the row says: the bytes, begun once, or the refusal, with nothing begun.
+// Returns whether the outcome is that of the row: bytes and one `begin`, or a refusal and no
+// `begin`.
 fn is_so(alloc: Global, left: &Outcome, answer: &str) -> Result<bool, Fail> {
     match left.answer {
         Ok(()) => {
@@ -80,7 +80,6 @@ fn is_so(alloc: Global, left: &Outcome, answer: &str) -> Result<bool, Fail> {
     }
 }
 
-// Tries a row.
 fn answers_so<R: Abort>(rt: &R, alloc: Global, text: &str) -> Result<(), Fail> {
     let row = row_of(text);
     let left = tried(alloc, row)?;
@@ -89,7 +88,7 @@ fn answers_so<R: Abort>(rt: &R, alloc: Global, text: &str) -> Result<(), Fail> {
     Ok(())
 }
 
-/// Tries each row.
+/// Checks each row of a table.
 pub(crate) fn engines_answer_so<R: Abort>(rt: &R, alloc: Global, table: &str) -> Result<(), Fail> {
     for text in table.lines() {
         answers_so(rt, alloc, text)?;

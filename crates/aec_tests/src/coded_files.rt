@@ -3,8 +3,8 @@
 use crate::runs::runs_end_so;
 use std::test::Fail;
 
-// By the usual settings: no samples, and zero bits that are none; a zero block; a ramp; filler; two
-// intervals. The last file is coded into itself.
+// With the usual settings: no samples, and zero bits that stand for none; a zero block; a ramp;
+// filler; two intervals. In the last two rows SOURCE is also DEST.
 const USUAL: &str = "\
          in got |                         | 0 |
       -d in got |                         | 0 |
@@ -25,15 +25,19 @@ fn files_are_coded_and_decoded(rt: HostRuntime) -> Result<(), Fail> {
     runs_end_so(&rt, rt.alloc(), USUAL)
 }
 
-// Each option in both directions, where the answer is another one without it.
+// Each option in both directions. Without the option the result is another one.
 //
-// -n: two bytes a sample, of which a third byte is none. -m: the same bytes are another sample. -3:
-// samples of 17 bits. -s: the least and the greatest sample of 32 bits in turn, by no compression;
-// samples of 3 bits, read and written with copies of the sign. -N: 0 to 7 by splitting and by no
-// compression; a run of six zero blocks and one by the second extension. -j: a zero block of 16,
-// and 64 of 64. -r: a run to the end of a segment; a run of 64 and one of 1. -t: the second
-// extension where no compression is as long. -p: an interval begins at a byte; two set bits that
-// fill a byte are skipped.
+// -n: two bytes a sample; a third byte is ignored.
+// -m: the same bytes are another sample.
+// -3: samples of 17 bits.
+// -s: the least and the greatest sample of 32 bits, alternating, by no compression; samples of 3
+// bits, read and written with copies of the sign.
+// -N: 0 to 7 by splitting and by no compression; a run of six zero blocks, then a block by the
+// second extension.
+// -j: a zero block of 16 samples, and 64 zero blocks of 64.
+// -r: a run to the stream's end, read to its segment's end; a run of 64 and one of 1.
+// -t: no compression, which is as long as the second extension.
+// -p: an interval begins at a byte; two set bits that fill a byte are skipped.
 const OPTIONS: &str = "\
               -n 12 set got | 01 00 02                | 0 | 00 00 C0
            -d -n 12 set got | 00 00 C0                | 0 | 01 00 01 00 01 00 01 00 01 00 01 00 01 00 01 00
@@ -72,11 +76,11 @@ fn each_option_changes_a_run(rt: HostRuntime) -> Result<(), Fail> {
     runs_end_so(&rt, rt.alloc(), OPTIONS)
 }
 
-// Blocks that aren't whole eights, in both directions, one in an interval: a ramp by splitting with
-// k = 0, and read with k = 1; numbers from 128 on by no compression, of 12 bits too; from 8 on by
-// splitting with k = 3; by the second extension, of a reference block and restricted; padded zero
-// blocks. Then two in an interval, the first one zeros, and a run to the end of a segment. Last a
-// block of eight.
+// Block sizes that aren't multiples of 8, in both directions. One block in an interval: a ramp by
+// splitting with k = 0, and read with k = 1; 224 to 235 by no compression, and extremes of 12 bits
+// too; 8 to 21 by splitting with k = 3; the second extension, in a reference block and restricted
+// too; padded zero blocks. Then two blocks in an interval, the first one a zero block, and a run to
+// the end of a segment. Last, a block of eight.
 const EVEN_BLOCKS: &str = "\
        --even-blocks -j 10 -r 1 ten got | 00 01 02 03 04 05 06 07 08 09 | 0 | 20 09 24 92 48
     --even-blocks -j 10 -r 1 -d ten got | 20 09 24 92 48 | 0 | 00 01 02 03 04 05 06 07 08 09

@@ -1,10 +1,10 @@
-//! Streams that are cut, and streams that zero bits follow.
+//! Streams that are cut, and streams that end with zero bits.
 
 use crate::answers::engines_answer_so;
 use std::test::Fail;
 
-// Two blocks without compression, of 67 bits each: 0 to 7, and 255 down to 248. Cut after each
-// byte, without a count and with one.
+// Two blocks by no compression, of 67 bits each: 0 to 7, and 255 down to 248. They are cut after
+// each byte, and read without a count and with one.
 const UNCOMPRESSED: &str = "\
 -d -N | 5000 20 |  |
 -d -N | 5000 20 | E0 | coded data is cut short at bit 0
@@ -48,15 +48,15 @@ fn a_stream_is_cut_after_each_byte(rt: HostRuntime) -> Result<(), Fail> {
     engines_answer_so(&rt, rt.alloc(), UNCOMPRESSED)
 }
 
-// Cut in a block without compression; zero bits alone; cut after two of eight values.
+// A cut within a block by no compression; zero bits alone; a cut after two of seven written values.
 const NO_WHOLE_BLOCK: &str = "\
 -d -N | 9 9 | E0 00 | coded data is cut short at bit 0
 -d | 9 9 | 00    |
 -d | 9 9 | 20 09 | coded data is cut short at bit 0";
 
-// One coded data set of 4 bytes less the rest: twelve zero bits (identifier and reference sample),
-// and a fundamental sequence of 19 less the rest. The blocks that it stands for: the number itself,
-// but of 3 four, and of 4 all that the interval of 32 blocks has.
+// A coded data set of twelve zero bits (identifier and reference sample) and the fundamental
+// sequence of a number from 19 down; zero bits fill up the 4 bytes. The number is how many blocks
+// the run has, but 3 means four, and 4 means all 32 blocks of the interval.
 const ZERO_RESTS: &str = "\
 -d -r 32 | 152 4 | 00 00 00 01 | 00*152
 -d -r 32 | 152 4 | 00 00 00 02 | 00*144
@@ -82,10 +82,11 @@ fn a_rest_of_zeros_ends_a_stream(rt: HostRuntime) -> Result<(), Fail> {
     engines_answer_so(&rt, rt.alloc(), ZERO_RESTS)
 }
 
-// Cut after each byte, without a count and with one. Three intervals of zeros, of 14, 14 and 13
-// bits, and no cut is seen without a count: what is left of an interval is zero bits. The same with
-// a one at place 20: the second interval has bits 14 to 38, its second block the last five of them.
-// A ramp of 31 bits and a zero block: the cut between them isn't seen.
+// Streams that are cut after each byte, and read without a count and with one. Three intervals of
+// zeros, of 14 bits each: without a count no cut is seen, since what remains of an interval is zero
+// bits. Then with a 1 at place 20: the second interval has bits 14 to 38, its second block the last
+// five of them. Last, a ramp of 31 bits and a zero block: without a count the cut between them
+// isn't seen.
 const ZERO_BLOCKS: &str = "\
 -d | 99 9 |  |
 -d | 99 9 | 00 |
@@ -135,9 +136,9 @@ fn cuts_before_zero_bits_are_seen_by_a_count(rt: HostRuntime) -> Result<(), Fail
     engines_answer_so(&rt, rt.alloc(), ZERO_BLOCKS)
 }
 
-// Blocks of ten and fourteen: cut in the last values; more values than may be, or than are asked
-// for; the last value or the last member of a pair too large, by splitting with k = 0 and k = 5 and
-// by the second extension.
+// Blocks of 10 and 14 samples: a cut in the last values; more samples than the limit, or than the
+// count; a last value that is too large, by splitting with k = 0, as the last member of a pair, and
+// by splitting with k = 5.
 const EVEN_BLOCKS: &str = "\
 -d --even-blocks -j 10 -r 1 | 10 9 | 20 09 24 92 | coded data is cut short at bit 0
 -d --even-blocks -j 10 -r 1 | 9 9 | 20 09 24 92 48 | more than 9 samples

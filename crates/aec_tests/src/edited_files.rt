@@ -7,11 +7,11 @@ use std::process::Abort;
 use std::rt::Files;
 use std::test::Fail;
 
-// What the script `lines` holds, and a run by it. A 1 in the second of three intervals of zeros;
-// no edit, on a stream of another coder; a value that is no sample; the first interval removed.
-// With a count: a sample behind the five, and a place behind them. The first value of a line that
-// is no sample, and the first such line; a line that is no edit, which is named before the stream
-// is read; and a stream that is cut, which is named before an edit.
+// The text of the script `lines`, and a run by it. A 1 in the second of three intervals of zeros;
+// an empty script, for a stream of another coder; a value that is no sample; the first interval
+// removed. With a count of 5: an append, and a place past the end. Of several bad values the first
+// one of the first line is named. A line that is no edit is named before the stream is read, a cut
+// stream before a bad edit.
 const EDITS: [(&str, &str); 9] = [
     (
         "overwrite 20 1",
@@ -48,7 +48,6 @@ const EDITS: [(&str, &str); 9] = [
     ),
 ];
 
-// Tries a row.
 fn edits_so<R: Abort + Files + Alloc<A = Global>>(
     rt: &R,
     script: &str,
@@ -68,7 +67,7 @@ fn files_are_edited_by_scripts(rt: HostRuntime) -> Result<(), Fail> {
     Ok(())
 }
 
-// A script that isn't there, and a stream that isn't.
+// A script that doesn't exist, with a stream and without one.
 const MISSING: &str = "\
   --edit no_lines old new | 00 08 | 1 | aec: read failed
       --edit none none new | - | 1 | aec: read failed";

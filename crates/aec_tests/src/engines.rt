@@ -1,4 +1,4 @@
-//! The engines over devices in memory: what is written, and what is left where a device fails.
+//! The engines over devices in memory: what they write, also if a device fails.
 
 use crate::asserts::same;
 use crate::shared::{DEFAULTS, Outcome, engine_into, run_engine};
@@ -19,14 +19,14 @@ const PART: Action = Action::Range {
     count: None,
 };
 
-// Coding, decoding, cutting out: what is read, and what is written.
+// Coding, decoding and cutting out: what is read, and what is written.
 const WAYS: [(Action, &[u8], &[u8]); 3] = [
     (Action::Encode, &RAMP, &RAMP_CODED),
     (Action::Decode { count: None }, &RAMP_CODED, &RAMP),
     (PART, &RAMP_CODED, &[5, 6]),
 ];
 
-// Tries one way by the usual settings, under limits far above.
+// Checks the outcome of one way, with the usual settings and very high limits.
 fn leaves<R: Abort>(
     rt: &R,
     alloc: Global,
@@ -87,7 +87,7 @@ fn failed_sources_leave_nothing(rt: HostRuntime) -> Result<(), Fail> {
     Ok(())
 }
 
-// A sink that takes no byte or some, and one that fails when it is begun.
+// A sink that takes none or a part of the bytes, and one that fails at `begin`.
 #[test]
 fn failed_sinks_have_a_front(rt: HostRuntime) -> Result<(), Fail> {
     for (action, given, wanted) in WAYS.iter() {
@@ -120,7 +120,7 @@ fn failed_sinks_have_a_front(rt: HostRuntime) -> Result<(), Fail> {
     Ok(())
 }
 
-// Of nothing each makes nothing: only `begin` can show that the sink fails.
+// If the source is empty, each writes nothing: only `begin` can show that the sink fails.
 const OF_NOTHING: [Action; 3] = [
     Action::Encode,
     Action::Decode { count: None },
@@ -148,7 +148,7 @@ fn empty_answers_need_a_sink_that_begins(rt: HostRuntime) -> Result<(), Fail> {
     Ok(())
 }
 
-// Behind the bytes `old` of a sink: begun there, and then written.
+// Checks that an engine calls `begin` after the bytes `old` of a sink, and then writes.
 fn writes_behind<R: Abort>(
     rt: &R,
     alloc: Global,
@@ -174,8 +174,8 @@ fn sinks_are_begun_before_they_take(rt: HostRuntime) -> Result<(), Fail> {
     Ok(())
 }
 
-// Samples of 5 bits, of which 32 is none: how often the source is asked, what it gives a call and
-// of which bytes, the limit of samples, and the answer.
+// Samples of 5 bits, so that 32 is out of range: how often `take` is called, how many bytes it
+// returns at most, the source's bytes, the limit of samples, and the result.
 const FED: [(u64, usize, &[u8], u64, Result<(), Fault>); 6] = [
     (
         1,

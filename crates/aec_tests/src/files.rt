@@ -11,11 +11,11 @@ use std::process::Abort;
 use std::rt::Files;
 use std::test::Fail;
 
-// A row: the name of the file; what is asked of the source in turn; how often it has failed then.
-// `4=3:n..e` asks for 4 bytes and gets 3, after which the buffer, that all steps share, holds
-// `n..e`; `4!` asks for 4 and fails; `+abc` writes the file. A file in pieces; one that grows once
-// its end was found, by a call with room and by one without; one that is there only after it was
-// missed; and a folder.
+// A row: the name of the file; the steps; how often the source has then failed. `4=3:n..e` asks for
+// 4 bytes and gets 3, after which the buffer, which all steps share, holds `n..e`; `4!` asks for 4
+// and fails; `+abc` writes the file. The rows: a file in pieces; a file that grows after a call
+// with room has found its end; a file that grows after a call without room; a file that is created
+// after the first call; and a folder.
 const SOURCES: &str = "\
 taken | +seven.. 0=0:.... 4=4:seve 4=3:n..e 4=0:n..e | 0
 ended | +one 4=3:one. 4=0:one. +oneandmore 4=0:one. 0=0:one. | 0
@@ -23,7 +23,7 @@ open  | +one 4=3:one. 0=0:one. +oneand 4=3:and. 4=0:and. | 0
 late  | 4! +here 4! 0! | 1
 .     | 4! 4! | 1";
 
-// Whether the source does what a step says.
+// Returns whether the source does what a step says.
 fn gives<R: Source>(source: &mut R, buf: &mut [u8; 4], step: &str) -> Result<bool, Fail> {
     if let Some(len) = step.strip_suffix("!") {
         let len = len.parse::<usize>()?.min(4);
@@ -36,7 +36,7 @@ fn gives<R: Source>(source: &mut R, buf: &mut [u8; 4], step: &str) -> Result<boo
     Ok(source.take(&mut buf[..len]) == Ok(count) && buf.as_slice() == held.as_bytes())
 }
 
-// Tries a row of SOURCES.
+// Checks a row of `SOURCES`.
 fn source_goes_so<R: Abort + Files + Alloc<A = Global>>(rt: &R, row: &str) -> Result<(), Fail> {
     let (name, rest) = cell(row);
     let (steps, failures) = cell(rest);
@@ -63,11 +63,11 @@ fn sources_go_step_by_step(rt: HostRuntime) -> Result<(), Fail> {
     Ok(())
 }
 
-// A row: the name of the file; what is asked of the sink in turn; how often it has failed and begun
-// then; how it ends, or `-`. `abc=3` gives 3 bytes that are taken, `abc!` gives 3 and fails; `+abc`
-// writes the file, and `?abc` is what it holds. A file that is there and is emptied; a second
-// `begin`; bytes before `begin`; a file that can't be created; one that is full; one that can't be
-// synced; a sink that is not begun.
+// A row: the name of the file; the steps; how often the sink has then failed and begun; how it
+// ends, or `-` if it isn't finished. `abc=3` puts `abc`, of which 3 bytes are taken; `abc!` puts it
+// and fails; `+abc` writes the file, and `?abc` checks that it holds `abc`. The rows: a file that
+// exists and is emptied; a second `begin`; bytes before `begin`; a file that can't be created; a
+// full one; one that can't be synced; a sink without `begin`.
 const SINKS: &str = "\
 written        | +there-before ?there-before begin ? abc=3 =0 de=2 ?abcde | 0 1 | -
 kept           | begin abc=3 begin ?abc de=2 ?abcde | 0 2 | ends
@@ -77,7 +77,7 @@ no/such/folder | begin! abc! | 1 1 | fails
 /dev/null      | begin abc=3 | 0 1 | ends
 unbegun        | | 0 0 | ends";
 
-// Whether the sink does what a step says.
+// Returns whether the sink does what a step says.
 fn takes<W: Sink>(sink: &mut W, step: &str) -> Result<bool, Fail> {
     match step {
         "begin" => return Ok(sink.begin() == Ok(())),
@@ -91,7 +91,7 @@ fn takes<W: Sink>(sink: &mut W, step: &str) -> Result<bool, Fail> {
     Ok(sink.put(piece.as_bytes()) == Ok(count.parse::<usize>()?))
 }
 
-// Whether a step goes so, with the sink or with its file.
+// Makes a step, with the sink or with its file. Returns whether it goes as the step says.
 fn goes<F: Files + Alloc<A = Global>, W: Sink>(
     rt: &F,
     name: &str,
@@ -108,12 +108,12 @@ fn goes<F: Files + Alloc<A = Global>, W: Sink>(
     }
 }
 
-// How often the sink has failed and begun.
+// Returns how often the sink has failed and begun.
 fn counts_of<W: Sink>(alloc: Global, sink: &W) -> Result<String, AllocError> {
     format!(in alloc; "{} {}", sink.failures(), sink.begins())
 }
 
-// Whether the sink ends as a word says.
+// Returns whether the sink ends as a word says.
 fn ends<F: Files + Alloc<A = Global>>(sink: DestSink<'_, F>, word: &str) -> bool {
     match word {
         "-" => true,
@@ -122,7 +122,7 @@ fn ends<F: Files + Alloc<A = Global>>(sink: DestSink<'_, F>, word: &str) -> bool
     }
 }
 
-// Tries a row of SINKS.
+// Checks a row of `SINKS`.
 fn sink_goes_so<R: Abort + Files + Alloc<A = Global>>(
     rt: &R,
     alloc: Global,

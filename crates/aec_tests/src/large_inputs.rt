@@ -1,4 +1,5 @@
-//! Inputs far above a piece, a block, an interval: a body that lacked memory there would be proved.
+//! Inputs far longer than a piece, a block or an interval. For them a body that always returns
+//! `Memory` would be proved too.
 
 use crate::asserts::{holds_at, same, same_at};
 use crate::shared::{DEFAULTS, run_engine, run_of};
@@ -11,11 +12,11 @@ use std::process::Abort;
 use std::rt::Files;
 use std::test::Fail;
 
-// One sample more than fills 131,072 blocks of 8.
+// One sample more than 131,072 blocks of 8 contain.
 const SAMPLES: usize = (1 << 20) + 1;
 
-// Samples from 128 to 254. Without preprocessing no block of them is shorter by any option than by
-// no compression: splitting at the greatest k, 5, takes at least 10 bits a sample.
+// Returns samples from 128 to 254. Without preprocessing no option makes a block of them shorter
+// than no compression: splitting with the greatest k, 5, takes at least 10 bits a sample.
 fn high_samples(alloc: Global) -> Result<Vec<u8>, Fail> {
     let mut bytes = Vec::new(alloc);
     for index in 0..SAMPLES {
@@ -24,7 +25,7 @@ fn high_samples(alloc: Global) -> Result<Vec<u8>, Fail> {
     Ok(bytes)
 }
 
-// A run without a word, and what DEST holds then.
+// Checks that a run succeeds and prints nothing, and returns the bytes of DEST.
 fn written<R: Abort + Files + Alloc<A = Global>>(
     rt: &R,
     alloc: Global,
@@ -36,8 +37,8 @@ fn written<R: Abort + Files + Alloc<A = Global>>(
     Ok(fs::read(rt, dest)?)
 }
 
-// The words; how long the code is: of each block an identifier of 3 bits and its samples; how long
-// what is decoded.
+// The words of both runs; the length of the code, which is 3 bits of identifier and the samples of
+// each block; the length of what is decoded.
 const ROUND_TRIPS: [(&str, &str, usize, usize); 3] = [
     (
         "-N much.raw much.aec",
@@ -59,7 +60,7 @@ const ROUND_TRIPS: [(&str, &str, usize, usize); 3] = [
     ),
 ];
 
-// The samples coded and decoded again by these words: their lengths are these.
+// Codes the samples and decodes them by these words. Checks both lengths and the decoded samples.
 fn there_and_back<R: Abort + Files + Alloc<A = Global>>(
     rt: &R,
     samples: &[u8],

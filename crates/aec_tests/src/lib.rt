@@ -1,5 +1,5 @@
-//! Tests of the command: what no clause of `aec_engine` and `aec_cli` says of its jobs, and values
-//! from outside.
+//! Tests of the command: what no clause of `aec_engine` or `aec_cli` says of its jobs, and worked
+//! values.
 #![tactic(auto)]
 
 #[cfg(test)]

@@ -1,4 +1,4 @@
-//! Where the limits of the engines lie, and in which order samples are judged.
+//! The limits of the engines, and the order in which samples are judged.
 
 use crate::answers::engines_answer_so;
 use std::test::Fail;
@@ -25,8 +25,8 @@ fn limits_hold_to_the_last_sample(rt: HostRuntime) -> Result<(), Fail> {
     engines_answer_so(&rt, rt.alloc(), LIMITS)
 }
 
-// Samples of 5 bits, of which 32 is none, and of 12 bits, of two bytes each; a byte that is no
-// whole sample is left out.
+// Samples of 5 bits, so that 32 is out of range, and samples of 12 bits, of two bytes each. A last
+// byte that is no whole sample is ignored.
 const JUDGED: &str = "\
 -n 5 | 3 0 | 1F 1F 1F      | 0F C0
 -n 5 | 2 0 | 1F 1F 1F      | more than 2 samples

@@ -1,13 +1,14 @@
-//! Ranges and sample counts: what is cut out, what is refused, and what a count leaves unread.
+//! Ranges and sample counts: the samples that are cut out, the refusals, and what isn't read with a
+//! count.
 
 use crate::answers::engines_answer_so;
 use crate::runs::runs_end_so;
 use std::test::Fail;
 
-// Of the ramp from 0 to 7; of five samples of 7, read with a count and without one; of samples of
-// 12 bits. Then counts alone; and the stream of the ramp with set bits after it, a second block by
-// splitting, cut within its values: what comes after the last coded data set that a count needs is
-// never judged.
+// Ranges of the ramp from 0 to 7; of eight samples of 7, with counts of 5, 0 and 8; of samples of
+// 12 bits. Then decoding with counts, and without one. In the last three rows bits come after the
+// last coded data set that the count needs, and are never judged: `FF FF` is a block by splitting,
+// cut within its values.
 const PARTS: &str = "\
               --range 2:3 part cut | 20 09 24 92       | 0 | 02 03 04
               --range 0:8 part cut | 20 09 24 92       | 0 | 00 01 02 03 04 05 06 07
@@ -32,8 +33,8 @@ const PARTS: &str = "\
     --range 6:2 --count 8 part cut | 20 09 24 92 FF FF | 0 | 06 07
              -d --count 0 part cut | FF                | 0 |";
 
-// The samples of three intervals, of which place 20 alone holds a 1: at the edges of each interval,
-// and over them.
+// Ranges of three intervals of zeros with a 1 at place 20: at the edges of each interval, and
+// across them.
 const EDGES: &str = "\
               --range 0:20 part cut | 00 04 40 30 C2 00 08 | 0 | 00*20
              --range 15:6 part cut | 00 04 40 30 C2 00 08 | 0 | 00*5 01
@@ -57,8 +58,8 @@ fn ranges_and_counts_are_cut_out(rt: HostRuntime) -> Result<(), Fail> {
     runs_end_so(&rt, rt.alloc(), PARTS)
 }
 
-// Places outside the samples; streams that are broken after the range, the first of two blocks of
-// 67 bits; counts that a stream doesn't have, or that no run allows.
+// Places outside the samples; streams that are broken after the range, with -N in the second of two
+// blocks of 67 bits; counts above the number of samples, or above the limit.
 const REFUSED: &str = "\
               --range 6:3 none left | 20 09 24 92 | 1 | aec: position outside the 8 samples
               --range 0:9 none left | 20 09 24 92 | 1 | aec: position outside the 8 samples
@@ -83,7 +84,7 @@ fn parts_that_are_not_there_are_refused(rt: HostRuntime) -> Result<(), Fail> {
     runs_end_so(&rt, rt.alloc(), REFUSED)
 }
 
-// Over devices: nothing is begun where a range is refused.
+// Engines over devices: if a range is refused, `begin` isn't called.
 const UNBEGUN: &str = "\
 --range 7:2 | 4096 4 | 20 09 24 92       | position outside the 8 samples
 --range 7:2 | 4096 4 | 20 09             | coded data is cut short at bit 0

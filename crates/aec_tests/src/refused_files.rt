@@ -1,11 +1,11 @@
-//! Runs that are refused: what is printed, and that DEST is not made, or stays as it was.
+//! Runs that are refused: what they print, and that they neither create nor change DEST.
 
 use crate::asserts::holds;
 use crate::runs::runs_end_so;
 use std::fs;
 use std::test::Fail;
 
-// No such file; samples out of range; streams that are cut, or say what none may; no folder for
+// No such file; a sample out of range; streams that are cut, or have another fault; no folder for
 // DEST.
 const REFUSED: &str = "\
                         none kept | - | 1 | aec: read failed
@@ -25,8 +25,8 @@ fn broken_files_are_refused(rt: HostRuntime) -> Result<(), Fail> {
     Ok(())
 }
 
-// The first broken rule of the settings; the action before them; then words that the command
-// doesn't have.
+// The first broken rule of the settings is named, after the rules of actions. Last, words that the
+// argument parser refuses.
 const WRONG_WORDS: &str = "\
            -n 40 word same | 00 | 2 | aec: bits per sample must be 1 to 32
      -n 33 -j 10 word same | 00 | 2 | aec: bits per sample must be 1 to 32

@@ -1,6 +1,6 @@
-//! Tables of whole runs on files. A row: the words, of which the last two name SOURCE and DEST;
-//! what SOURCE holds, or `-` where it isn't there; the status; what DEST holds then or, with a
-//! status above 0, the line that is printed.
+//! Tables of whole runs on files. A row: the words, of which the last two name SOURCE and DEST; the
+//! bytes of SOURCE, or `-` if it doesn't exist; the status; the bytes of DEST after the run or,
+//! with a status above 0, the line that is printed.
 
 use crate::asserts::same_at;
 use crate::shared::run_of;
@@ -11,8 +11,8 @@ use std::process::Abort;
 use std::rt::Files;
 use std::test::Fail;
 
-// What a run leaves: its status, what it wrote to standard output and to standard error, and what
-// DEST holds, if it is there.
+// The outcome of a run: its status, what it wrote to standard output and to standard error, and the
+// bytes of DEST, if it exists.
 #[derive(Debug, PartialEq, Eq, Drop)]
 struct Ended {
     status: u8,
@@ -41,7 +41,7 @@ fn row_of(text: &str) -> Row<'_> {
     }
 }
 
-// The names of SOURCE and DEST.
+// Returns the names of SOURCE and DEST.
 fn names(words: &str) -> [&str; 2] {
     let mut last = ["", ""];
     for word in words.split_whitespace() {
@@ -50,7 +50,7 @@ fn names(words: &str) -> [&str; 2] {
     last
 }
 
-// What was printed; of a text of the argument parser its first word.
+// Returns what was printed; of a text of the argument parser, the first word.
 fn said(alloc: Global, err: Vec<u8>) -> Result<Vec<u8>, Fail> {
     if err.starts_with(b"error: ") {
         return Ok(b"error:\n".to_vec(alloc)?);
@@ -58,7 +58,7 @@ fn said(alloc: Global, err: Vec<u8>) -> Result<Vec<u8>, Fail> {
     Ok(err)
 }
 
-// What DEST holds, once these bytes are written to it where they can be.
+// Writes these bytes to DEST if that is possible, and returns what DEST then holds.
 fn placed<F: Files + Alloc<A = Global>>(
     rt: &F,
     row: Row<'_>,
@@ -71,7 +71,7 @@ fn placed<F: Files + Alloc<A = Global>>(
     fs::read(rt, dest).ok()
 }
 
-// The run of a row. Afterwards neither file is there.
+// Runs a row, and returns the outcome. Removes both files afterwards.
 fn tried<F: Files + Alloc<A = Global>>(rt: &F, alloc: Global, row: Row<'_>) -> Result<Ended, Fail> {
     let [source, dest] = names(row.words);
     if row.source != "-" {
@@ -89,7 +89,7 @@ fn tried<F: Files + Alloc<A = Global>>(rt: &F, alloc: Global, row: Row<'_>) -> R
     })
 }
 
-// What the row says that its run leaves, where DEST holds this before it.
+// Returns the outcome that the row expects if DEST holds `before`.
 fn expected(alloc: Global, row: Row<'_>, before: Option<Vec<u8>>) -> Result<Ended, Fail> {
     let mut err = Vec::new(alloc);
     if row.status != "0" {
@@ -108,7 +108,7 @@ fn expected(alloc: Global, row: Row<'_>, before: Option<Vec<u8>>) -> Result<Ende
     })
 }
 
-// Tries a row where DEST holds these bytes before it, or isn't there.
+// Checks a row. DEST holds these bytes before the run, or doesn't exist.
 fn ends_so<R: Abort + Files + Alloc<A = Global>>(
     rt: &R,
     alloc: Global,
@@ -121,7 +121,7 @@ fn ends_so<R: Abort + Files + Alloc<A = Global>>(
     Ok(())
 }
 
-/// Tries each row twice: where DEST isn't there, and where it holds more than most rows write.
+/// Checks each row twice: without DEST, and with more bytes in DEST than most rows write.
 pub(crate) fn runs_end_so<R: Abort + Files + Alloc<A = Global>>(
     rt: &R,
     alloc: Global,

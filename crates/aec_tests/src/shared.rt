@@ -11,14 +11,15 @@ use std::test::Fail;
 /// The settings of a run with no options.
 pub(crate) const DEFAULTS: Settings = Settings::USUAL;
 
-/// The job that the words ask for, or why there is none. The first word is the name of the program.
+/// Returns the job that the words ask for, or why there is none. The first word is the program's
+/// name.
 pub(crate) fn job_by(alloc: Global, words: &[&str]) -> Result<Result<Job, Usage>, Fail> {
     let command = command(alloc)?;
     let matches = command.try_get_matches_from(words)?;
     Ok(settings(alloc, &matches))
 }
 
-/// The same for the words of a text, without that name.
+/// Returns the same for the words of a text, which don't begin with that name.
 pub(crate) fn job_of(alloc: Global, words: &str) -> Result<Result<Job, Usage>, Fail> {
     let mut list = Vec::new(alloc);
     list.push("aec")?;
@@ -28,8 +29,8 @@ pub(crate) fn job_of(alloc: Global, words: &str) -> Result<Result<Job, Usage>, F
     job_by(alloc, list.as_slice())
 }
 
-/// What an engine leaves: its answer, what was written, how often it began, and how often source
-/// and sink failed.
+/// The outcome of an engine: its result, what it wrote, how often it called `begin`, and how often
+/// source and sink failed.
 #[derive(Debug, PartialEq, Eq, Drop)]
 pub(crate) struct Outcome {
     pub(crate) answer: Result<(), Fault>,
@@ -38,7 +39,7 @@ pub(crate) struct Outcome {
     pub(crate) failures: [u64; 2],
 }
 
-/// Does what is asked for with what the source gives, and writes to the sink.
+/// Does an action by its engine, from the source to the sink.
 pub(crate) fn engine_into<W: Sink>(
     alloc: Global,
     params: &Params,
@@ -53,12 +54,12 @@ pub(crate) fn engine_into<W: Sink>(
         Action::Range { first, len, count } => {
             range(alloc, params, limits, *count, *first, *len, source, sink)
         }
-        // It takes a script too, and no row asks for it: `edits` has its tests.
+        // No row asks for an edit, which needs a script: `edits` of `aec_engine_tests` tests it.
         Action::Edit { .. } => Err(Fault::Script { line: 0 }),
     }
 }
 
-/// The same, and what it leaves.
+/// Does an action by its engine, and returns the outcome.
 pub(crate) fn run_engine(
     alloc: Global,
     params: &Params,
@@ -78,7 +79,7 @@ pub(crate) fn run_engine(
     }
 }
 
-/// The words of a command, the name of the program before them.
+/// Returns the words of a command, with the program's name before them.
 pub(crate) fn words_of(alloc: Global, words: &str) -> Result<Vec<String>, AllocError> {
     let mut list = Vec::new(alloc);
     list.push(String::from_str(alloc, "aec")?)?;
@@ -88,7 +89,8 @@ pub(crate) fn words_of(alloc: Global, words: &str) -> Result<Vec<String>, AllocE
     Ok(list)
 }
 
-/// A run of the program: its status, and what it wrote to standard output and to standard error.
+/// Runs the program. Returns its status, and what it wrote to standard output and to standard
+/// error.
 pub(crate) fn run_of<F: Files>(
     rt: &F,
     alloc: Global,

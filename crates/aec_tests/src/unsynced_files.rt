@@ -1,4 +1,4 @@
-//! Files that take all bytes and then can't be synced, and files whose calls are interrupted.
+//! Files that take all bytes but can't be synced, and files whose calls are interrupted.
 
 use crate::asserts::{same, same_at};
 use crate::shared::run_of;
@@ -10,8 +10,8 @@ use std::process::Abort;
 use std::test::Fail;
 use std::{fs, io};
 
-// The files of another runtime. Their syncs all fail so, if at all. Where they are interrupted, of
-// the reads, writes and syncs of a file the first is, the third, and so on.
+// The files of another runtime. If there is a `kind`, each sync fails with it. If `interrupted`,
+// every second read, write or sync of a file is interrupted, from the first one on.
 #[derive(Drop)]
 struct Unsynced<'a, F: Files> {
     rt: &'a F,
@@ -141,7 +141,8 @@ impl<'a, F: Files> Files for Unsynced<'a, F> {
     }
 }
 
-// A run whose syncs end so has this status and this text, and DEST holds the coded ramp.
+// Checks the status and the text of a run whose syncs end like this, and that DEST holds the coded
+// ramp.
 fn ends_so<R: Abort + Files + Alloc<A = Global>>(
     rt: &R,
     kind: Option<ErrorKind>,
@@ -164,11 +165,11 @@ fn ends_so<R: Abort + Files + Alloc<A = Global>>(
     Ok(())
 }
 
-// How a run ends whose syncs end so.
+// How syncs end, and the status and the text of the run.
 const ENDS: [(Option<ErrorKind>, u8, &str); 8] = [
     (None, 0, ""),
-    // The errors of a full disk, of a quota, of a broken disk (EIO), of one that can only be read
-    // and of one that is gone.
+    // The errors of a full disk, of a quota, of a broken disk (EIO), of a read-only disk, and of a
+    // network disk that is gone.
     (Some(ErrorKind::StorageFull), 1, "aec: write failed\n"),
     (Some(ErrorKind::QuotaExceeded), 1, "aec: write failed\n"),
     (Some(ErrorKind::Uncategorized), 1, "aec: write failed\n"),
@@ -182,7 +183,7 @@ const ENDS: [(Option<ErrorKind>, u8, &str); 8] = [
         1,
         "aec: write failed\n",
     ),
-    // Those of files that have nothing to sync.
+    // The errors of files that have nothing to sync.
     (Some(ErrorKind::InvalidInput), 0, ""),
     (Some(ErrorKind::Unsupported), 0, ""),
 ];

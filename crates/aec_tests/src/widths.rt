@@ -1,4 +1,4 @@
-//! Samples of every storage, coded and decoded.
+//! Samples of each storage size and byte order, coded and decoded.
 
 use crate::asserts::same_at;
 use crate::shared::{DEFAULTS, run_engine};
@@ -10,7 +10,7 @@ use std::alloc::{Alloc, Global};
 use std::process::Abort;
 use std::test::Fail;
 
-// Bits of a sample; bytes of a stored one; whether there is a sign; ten samples; their code.
+// Bits of a sample; bytes of a stored sample; `s` if samples are signed; ten samples; their code.
 const WIDTHS: &str = "\
  1 | 1 | - | 1 0 0 1 1 1 0 1 0 0             | FA 62 F0
  1 | 1 | s | 0 -1 -1 0 0 0 -1 0 -1 -1        | EA 62 F0
@@ -31,7 +31,7 @@ FF*8 F8 00*3 08 00*3 18 00*3 0F FF*3 F0 00*3 10 00*3 07 40 00 7F FF*3 F8 00*2 01
 32 | 4 | s | 2147483647 -2147483648 -2147483647 -2147483645 -2147483646 2147483646 2147483647 2147483647 -2147483648 -2147483646 | \
 FB FF*7 F8 00*3 08 00*3 18 00*3 0F FF*3 F0 00*3 10 00*3 07 40 00 7F FF*3 F8 00*2 01 00*22";
 
-// The bytes of the samples of a cell, each of so many bytes.
+// Returns the bytes of the samples of a cell, each stored in `len` bytes.
 fn stored(alloc: Global, cell: &str, len: usize, msb_first: bool) -> Result<Vec<u8>, Fail> {
     let mut bytes = Vec::new(alloc);
     for word in cell.split_whitespace() {
@@ -47,7 +47,7 @@ fn stored(alloc: Global, cell: &str, len: usize, msb_first: bool) -> Result<Vec<
     Ok(bytes)
 }
 
-// Codes the samples of a row and decodes their code, in one storage.
+// Checks that these bytes are coded as `coded`, and that `coded` is decoded as these bytes.
 fn both_ways<R: Abort>(
     rt: &R,
     alloc: Global,
@@ -67,7 +67,7 @@ fn both_ways<R: Abort>(
     Ok(())
 }
 
-// The samples of a row in this storage, coded and decoded.
+// Checks the samples of a row, stored in this way, in both directions.
 fn row_both_ways<R: Abort + Alloc<A = Global>>(
     rt: &R,
     row: &str,
@@ -95,7 +95,7 @@ fn row_both_ways<R: Abort + Alloc<A = Global>>(
     both_ways(rt, rt.alloc(), settings, &bytes, &coded)
 }
 
-// The same in both orders of bytes, with the three-byte flag and without it.
+// Each row in both byte orders, with the three-byte flag and without it.
 #[test]
 fn samples_of_each_width_are_coded_and_decoded(rt: HostRuntime) -> Result<(), Fail> {
     for row in WIDTHS.lines() {

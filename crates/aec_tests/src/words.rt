@@ -1,4 +1,4 @@
-//! Words, the jobs that they ask for, and texts.
+//! Words, the jobs that they ask for, and printed texts.
 
 use crate::asserts::{holds, holds_at, same, same_at};
 use crate::shared::{DEFAULTS, job_by, job_of, run_of, words_of};
@@ -98,7 +98,7 @@ fn each_option_has_its_setting(rt: HostRuntime) -> Result<(), Fail> {
     Ok(())
 }
 
-// Words, and what they ask to be done with `in` and `out`, by the usual settings.
+// Words with the usual settings, and the action that they ask for, from `in` to `out`.
 const ACTIONS: [(&str, Action); 8] = [
     ("-d in out", Action::Decode { count: None }),
     ("in -d out", Action::Decode { count: None }),
@@ -163,7 +163,6 @@ const EDITS: [(&str, &str, Option<u64>); 4] = [
     ("--count=0 -n 8 in out --edit out", "out", Some(0)),
 ];
 
-// Whether an action is an edit by that script, with that count.
 fn is_edit(action: &Action, name: &str, given: Option<u64>) -> bool {
     match action {
         Action::Edit { script, count } => script.as_str() == name && *count == given,
@@ -214,7 +213,7 @@ fn a_range_is_two_numbers_and_a_colon(rt: HostRuntime) -> Result<(), Fail> {
     Ok(())
 }
 
-// Failures, their texts and the statuses that they end with.
+// Failures, their texts, and the statuses of runs that end with them.
 const FAILURES: [(Failure, &str, u8); 10] = [
     (
         Failure::Usage(Usage::Setting(Fault::BlockSize)),
@@ -319,7 +318,7 @@ fn the_version_goes_to_standard_output(rt: HostRuntime) -> Result<(), Fail> {
     Ok(())
 }
 
-// A stream that takes nothing.
+// A stream on which every write fails.
 #[derive(Drop)]
 struct Broken;
 

@@ -9,7 +9,7 @@ use std::alloc::Global;
 use std::process::Abort;
 use std::test::Fail;
 
-/// The bytes that bits fill, one by one.
+/// Returns the bytes that the bits fill, read one by one.
 pub(crate) fn bytes(alloc: Global, buf: &BitBuf) -> Result<Vec<u8>, Fault> {
     let mut bytes = Vec::new(alloc);
     for i in 0..buf.byte_len() {
@@ -18,7 +18,6 @@ pub(crate) fn bytes(alloc: Global, buf: &BitBuf) -> Result<Vec<u8>, Fault> {
     Ok(bytes)
 }
 
-/// Bits from a slice of them.
 pub(crate) fn bits(alloc: Global, list: &[bool]) -> Result<BitBuf, Fault> {
     let mut buf = BitBuf::new(alloc);
     for bit in list {
@@ -27,12 +26,12 @@ pub(crate) fn bits(alloc: Global, list: &[bool]) -> Result<BitBuf, Fault> {
     Ok(buf)
 }
 
-/// The bits of bytes.
 pub(crate) fn bits_in(alloc: Global, bytes: &[u8]) -> Result<BitBuf, Fault> {
     BitBuf::from_bytes(alloc, bytes)
 }
 
-/// Appends a number: the clauses of a literal's many bits stay out of the tests' proofs.
+/// Appends a number, but has no `ensures`: the many bits of a literal stay out of the tests'
+/// proofs.
 fn push(buf: &mut BitBuf, value: u64, width: u32) -> Result<(), Fault>
     requires width { width ≤ 64 }
     requires fits { value < 2 ^ width }
@@ -44,7 +43,7 @@ fn push_fs(buf: &mut BitBuf, v: u64) -> Result<(), Fault> {
     buf.push_fs(v)
 }
 
-/// Whether the bits are those of a slice.
+/// Returns whether the bits equal those of a slice.
 fn are(buf: &BitBuf, list: &[bool]) -> bool {
     if buf.len() != list.len() as u64 {
         return false;
@@ -57,7 +56,7 @@ fn are(buf: &BitBuf, list: &[bool]) -> bool {
     true
 }
 
-/// Bits with no simple period, at most 200 of them.
+/// Returns `len` bits, at most 200, with a period of 7.
 fn sample_list(alloc: Global, len: usize, step: usize) -> Result<Vec<bool>, Fault> {
     let mut list = Vec::new(alloc);
     for i in 0..len.min(200) {
@@ -66,7 +65,7 @@ fn sample_list(alloc: Global, len: usize, step: usize) -> Result<Vec<bool>, Faul
     Ok(list)
 }
 
-/// Whether a splice leaves what it leaves of a plain list.
+/// Returns whether a splice of bits has the same result as a splice of a plain list.
 fn splices(
     alloc: Global,
     list: &[bool],
@@ -180,7 +179,7 @@ fn gives_bytes_back(rt: HostRuntime) -> Result<(), Fail> {
     Ok(())
 }
 
-/// Bytes with no simple period.
+/// Returns `len` bytes with a period of 251.
 pub(crate) fn sample_bytes(alloc: Global, len: usize) -> Result<Vec<u8>, Fault> {
     let mut bytes = Vec::new(alloc);
     for i in 0..len {
@@ -189,7 +188,7 @@ pub(crate) fn sample_bytes(alloc: Global, len: usize) -> Result<Vec<u8>, Fault> 
     Ok(bytes)
 }
 
-// Bytes behind bits leave those bits, and behind them the bits of each byte.
+// Appends `count` bytes to `front` bits, and checks that the bits of each byte follow these bits.
 fn expect_appended<R: Abort>(
     rt: &R,
     alloc: Global,
@@ -220,7 +219,7 @@ fn appends_bytes_anywhere(rt: HostRuntime) -> Result<(), Fail> {
     Ok(())
 }
 
-// Such a list as the bits and as a list, where the places are in order and within it.
+// Checks a splice if `places` (start, stop, number of new bits) are in order and within the list.
 fn expect_splice<R: Abort>(
     rt: &R,
     alloc: Global,

@@ -1,4 +1,4 @@
-//! The interface of a coder, over octets.
+//! The trait `Codec`, with the codec of octets.
 
 ghost use Rattle.std.specs.Prelude.{◌≡◌, ◌++◌, OnOk};
 ghost use Rattle.aec_bits.specs.Codec.{IsInterval};
@@ -10,7 +10,7 @@ use aec_bits::{BitBuf, Codec};
 use aec_params::Fault;
 use std::test::Fail;
 
-/// Codes an interval behind some bits, and decodes it again.
+/// Appends the code of an interval to some bits, and decodes it again.
 fn there_and_back<C: Codec>(
     codec: &mut C,
     samples: &[i64],

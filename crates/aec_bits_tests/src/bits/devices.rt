@@ -10,7 +10,7 @@ use std::io::{ErrorKind, Read, Write};
 use std::process::Abort;
 use std::test::Fail;
 
-/// Takes nothing.
+/// A writer that takes no bytes.
 #[derive(Drop)]
 struct Full;
 
@@ -24,7 +24,7 @@ impl Write for Full {
     }
 }
 
-/// Takes one byte a call, so many in all, and is interrupted then.
+/// A writer that takes one byte a call. After `left` bytes each call is interrupted.
 #[derive(Drop)]
 struct Slow {
     bytes: Vec<u8>,
@@ -50,7 +50,8 @@ impl Write for Slow {
     }
 }
 
-/// Gives one byte a call, so many in all, is interrupted once, and would go on then.
+/// A reader that returns one byte a call. It is interrupted once, after `stop` bytes, and would
+/// then go on.
 #[derive(Drop)]
 struct Torn {
     given: u8,
@@ -86,7 +87,7 @@ fn writes_whole_bytes(rt: HostRuntime) -> Result<(), Fail> {
     Ok(())
 }
 
-// The bytes of bits that end within one byte go to a sink as they are.
+// Checks that a sink gets just the bytes that the bits were made from.
 fn expect_written<R: Abort>(rt: &R, alloc: Global, count: usize) -> Result<(), Fail> {
     let given = sample_bytes(alloc, count)?;
     let buf = bits_in(alloc, &given)?;
@@ -161,7 +162,7 @@ fn a_source_fails_for_good(rt: HostRuntime) {
     }
 }
 
-/// Takes from any source.
+/// Calls `take` of any type of source.
 fn taken<R: Source>(source: &mut R, buf: &mut [u8]) -> Result<usize, Fault> {
     source.take(buf)
 }

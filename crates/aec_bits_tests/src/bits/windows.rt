@@ -1,4 +1,4 @@
-//! Several codewords read at once: within a byte, at the end of the list, and past it.
+//! Reads of several codewords at once: within a byte, at the end of the list, and past it.
 
 ghost use Rattle.std.specs.Prelude.{◌≤◌};
 
@@ -8,7 +8,7 @@ use aec_bits::{BitBuf, BitReader};
 use aec_params::Fault;
 use std::test::Fail;
 
-/// A reader at a place, or at the start where the list is shorter.
+/// Returns a reader at a place, or at the start if the list is shorter.
 fn reader_at(buf: &BitBuf, place: u64) -> BitReader<'_> {
     let mut reader = BitReader::new(buf);
     if place <= buf.len() {
@@ -17,12 +17,12 @@ fn reader_at(buf: &BitBuf, place: u64) -> BitReader<'_> {
     reader
 }
 
-/// The next sequences: the clauses of literal lists stay out of the tests' proofs.
+/// Reads sequences, but has no `ensures`: clauses of literal lists stay out of the tests' proofs.
 fn read_sequences(reader: &mut BitReader, numbers: &mut [u32]) -> bool {
     reader.read_sequences(numbers)
 }
 
-/// The same for numbers.
+/// Reads numbers, also without `ensures`.
 fn read_numbers(reader: &mut BitReader, width: u32, numbers: &mut [u32]) -> Result<(), Fault>
     requires { width ≤ 32 }
 {
@@ -77,7 +77,7 @@ fn reads_many_sequences(rt: HostRuntime) -> Result<(), Fail> {
 
 #[test]
 fn reads_eight_sequences_of_a_word(rt: HostRuntime) -> Result<(), Fail> {
-    // Eight ones of which the last is bit 63; eight in a byte; and the eighth behind 64 bits.
+    // Eight ones up to bit 63; eight ones in a byte; eight ones that end after more than 64 bits.
     let bytes = [
         1, 1, 1, 1, 1, 1, 1, 1, 0xFF, 1, 1, 1, 1, 1, 1, 1, 0, 1, 0x80,
     ];
@@ -153,7 +153,7 @@ fn reads_numbers_by_hand(rt: HostRuntime) -> Result<(), Fail> {
 fn reads_numbers_from_within_a_byte(rt: HostRuntime) -> Result<(), Fail> {
     let buf = bits_in(rt.alloc(), &[0x12, 0x34, 0x56, 0x78, 0x9A])?;
     let mut reader = reader_at(&buf, 4);
-    // 0010 0011 0100 0101 0110 0111 1000 1001 1010 by nine bits
+    // 0010 0011 0100 0101 0110 0111 1000 1001 1010, read as numbers of nine bits
     let mut four = [9u32; 4];
     same(&rt, read_numbers(&mut reader, 9, &mut four), Ok(()));
     same(

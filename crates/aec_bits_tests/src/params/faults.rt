@@ -1,4 +1,4 @@
-//! Texts of refusals, limits, and the samples of an edit.
+//! Texts of faults, limits, and the samples of an edit.
 
 use crate::asserts::{holds, same};
 use aec_params::{Edit, Fault, Limits, Samples};

@@ -52,8 +52,8 @@ fn judges_even_block_sizes(rt: HostRuntime) {
     }
 }
 
-// Bits of an identifier and the greatest k, by the table of identifiers; then the range and the
-// stored bytes.
+// A row: settings; bits of an identifier and greatest k, by FORMAT.md's table; least and greatest
+// sample; bytes of a stored sample.
 #[test]
 fn numbers_follow_from_settings(rt: HostRuntime) -> Result<(), Fail> {
     let cases = [

@@ -1,4 +1,4 @@
-//! One sample as it is stored.
+//! Stored samples: `read_samples` and `put_sample`.
 
 use crate::asserts::{holds, same, same_at};
 use crate::settings::{msb_first, three_byte, width};
@@ -61,7 +61,8 @@ fn refuses_the_first_bad_sample(rt: HostRuntime) -> Result<(), Fail> {
     Ok(())
 }
 
-// Reads the bytes as the one sample x, and writes x over other bytes.
+// Checks that `bytes` are read as one sample `x`, and that `x` is written as `bytes`, with later
+// bytes unchanged.
 fn goes_both_ways(
     rt: &impl Abort,
     alloc: Global,
@@ -82,7 +83,7 @@ fn goes_both_ways(
     Ok(())
 }
 
-// A sample, how many bytes it has, and these as one number.
+// A row: the settings, a sample, the number of its bytes, and these bytes as one number.
 #[test]
 fn stores_in_either_order(rt: HostRuntime) -> Result<(), Fail> {
     let cases: [(Settings, i64, usize, u32); 20] = [
@@ -122,7 +123,7 @@ fn stores_in_either_order(rt: HostRuntime) -> Result<(), Fail> {
     Ok(())
 }
 
-// What was read of 1F FF F0 0F is written back with its sign in the unused bits.
+// The samples read from 1F FF F0 0F are written back with copies of the sign in the unused bits.
 #[test]
 fn writes_back_with_signs(rt: HostRuntime) -> Result<(), Fail> {
     let params = Params::new(width(5, true))?;

@@ -1,4 +1,4 @@
-//! Lists of samples as they are stored.
+//! Lists of stored samples, read and written.
 
 use crate::asserts::{holds, holds_at, same, same_at};
 use crate::settings::{msb_first, three_byte, width};
@@ -7,8 +7,8 @@ use std::alloc::Global;
 use std::process::Abort;
 use std::test::Fail;
 
-// Appends the samples of bytes that hold no bad one to one that is there, and writes those of the
-// bytes over other bytes.
+// Checks that `bytes` have no bad sample, are read as `wanted`, also after another sample, and are
+// written back.
 fn goes_both_ways(
     rt: &impl Abort,
     alloc: Global,
@@ -97,7 +97,7 @@ fn lists_go_both_ways(rt: HostRuntime) -> Result<(), Fail> {
     Ok(())
 }
 
-// 2^20 + 3 samples of 12 bits, of which the last may be none.
+// 2^20 + 3 samples of 12 bits. In the last step the last one is out of range.
 #[test]
 fn long_lists_are_judged_to_their_end(rt: HostRuntime) -> Result<(), Fail> {
     let mut samples = Vec::new(rt.alloc());
