@@ -1,4 +1,4 @@
--- What stands in the list of bits that words keep.
+-- What the list of bits that words keep contains.
 use Rattle.std.proofs.Common.{◌≡◌, ℕ, zero, suc, ◌+◌, ◌-◌, ◌*◌, ◌/◌, ◌%◌, ◌^◌, ◌<◌, ◌≤◌, Bool, true, false, Option, Some, None, List, [], ◌∷◌, ◌++◌, length, take, drop, replicate, map, get_or, refl, sym, ap, ◌∙◌, arith, length-append, div-one, inl, inr}
 use Rattle.std.specs.Prelude.{◌==◌, MatchOption}
 use Rattle.std.specs.Int.{div_ceil}
@@ -16,9 +16,9 @@ use Rattle.aec_bits.proofs.WordLemmas.{binary-join, length-bits_of_words}
 use Rattle.aec_bits.proofs.PackedLemmas.{length-packed, packed_bits}
 use Rattle.aec_bits.proofs.ZeroLemmas.{binary-zero}
 
--- ---- what stands at a place
+-- ---- bits at a place
 
--- what begins at a place of all bits and ends within the list
+-- bits that words have at a place are also in their list there, if they end within the list
 stands_within : (bits x : List Bool) (len start n : ℕ) → length x ≡ n → start + n ≤ len → drop start bits ≡ x ++ drop (start + n) bits
     → drop start (take len bits) ≡ x ++ drop (start + n) (take len bits)
 stands_within bits x len start n long within stands =
@@ -35,18 +35,18 @@ pub number_within : (words : List ℕ) (len start width v : ℕ) → start + wid
 number_within words len start width v within stands =
     stands_within (bits_of_words words) (binary width v) len start width (length-binary width v) within stands
 
--- a number of one bit
+-- the only bit of a number below 2
 one_bit : (v : ℕ) → v < 2 → (v / 2 ^ 0 % 2 == 1) ≡ (v == 1)
 one_bit v small = let e : v / 2 ^ 0 % 2 ≡ v = omega (arith, div-one v) in rw e refl
 
--- ---- zeros before a one
+-- ---- zeros before a 1
 
 has_one-append_zeros : (bits : List Bool) (n : ℕ) → has_one (bits ++ replicate n false) ≡ has_one bits
 has_one-append_zeros [] n = has_one-zeros n
 has_one-append_zeros (true ∷ bits) n = refl
 has_one-append_zeros (false ∷ bits) n = has_one-append_zeros bits n
 
--- zeros past the end never make a one
+-- from a place of the list on, the words have a 1 exactly if the list has one
 pub has_one_within : (words : List ℕ) (len start : ℕ) → ArePacked words len → start ≤ len
     → has_one (drop start (bits_of_words words)) ≡ has_one (drop start (take len (bits_of_words words)))
 has_one_within words len start held within =
@@ -60,7 +60,7 @@ pub one_after : (v : ℕ) (rest : List Bool) → get_or (fs v ++ rest) v false �
 one_after zero rest = refl
 one_after (suc v) rest = one_after v rest
 
--- a one stands before the end of the list
+-- a 1 that words have after v zeros is within their list
 one_within : (words : List ℕ) (len start v : ℕ) → ArePacked words len → start + v < 64 * length words
     → drop start (bits_of_words words) ≡ fs v ++ drop (start + v + 1) (bits_of_words words) → start + v < len
 one_within words len start v held within stands =
@@ -116,14 +116,14 @@ padded_packed words len missing held count =
 
 pub ruleset padded = (padded_within, padded_packed)
 
--- ---- short unary numbers
+-- ---- short fundamental sequences
 
 pub binary-one : (v : ℕ) → binary (v + 1) 1 ≡ fs v
 binary-one v = binary-join v 1 0 1 (omega arith) ∙ ap (λ l. l ++ binary 1 1) (binary-zero v)
 
 -- ---- bytes
 
--- zeros up to a byte boundary change no byte
+-- zeros added up to a byte boundary change no byte
 bytes_of-padded : (bits : List Bool) → bytes_of (padded_to_byte bits) ≡ bytes_of bits
 bytes_of-padded bits =
     let padded : List Bool = padded_to_byte bits in

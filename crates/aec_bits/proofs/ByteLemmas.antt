@@ -29,14 +29,15 @@ bits_of_bytes-high_first (suc k) n =
     ∙ ap (λ l. binary 8 (n / 2 ^ (8 * k)) ++ l) (bits_of_bytes-high_first k n)
     ∙ sym (binary-add 8 (8 * k) n) ∙ ap (λ m. binary m n) more
 
--- the bits of the word that eight bytes make
+-- the bits of the word that eight bytes make are the bits of these bytes
 pub word_bits_of_bytes : (bytes : List ℕ) (n : ℕ) → length bytes ≡ 8 → ((i : ℕ) → get_or bytes i 0 < 256) → n ≡ from_be_bytes w64 bytes
     → binary 64 n ≡ bits_of_bytes bytes
 word_bits_of_bytes bytes n long small is = sym (bits_of_bytes-high_first 8 n) ∙ ap bits_of_bytes (be_bytes_8 bytes n long small is)
 
--- ---- many
+-- ---- lists of bytes
 
--- bytes more behind those that words hold behind a list
+-- if words keep a list and the bits of bytes, and the bits of more bytes are appended, the words
+-- keep the list and the bits of all these bytes
 pub bytes_more : (words new front behind all : List ℕ) (list more : List Bool) (at w next : ℕ) → Keep words at (list ++ bits_of_bytes front)
     → Keep new (at + w) (take at (bits_of_words words) ++ more) → more ≡ bits_of_bytes behind → all ≡ front ++ behind → at + w ≡ next
     → Keep new next (list ++ bits_of_bytes all)
@@ -47,7 +48,7 @@ bytes_more words new front behind all list more at w next held pushed bits cut p
     ∙ ap (λ l. list ++ l) (sym (bits_of_bytes-append front behind) ∙ ap bits_of_bytes (sym cut)) in
     subst (λ n. Keep new n (list ++ bits_of_bytes all)) place (subst (λ l. Keep new (at + w) l) stands pushed)
 
--- the eight bytes from a place on, behind those in front of it
+-- the first i + 1 groups of eight bytes are the first i groups and then eight bytes
 pub eight_behind : (bytes : List ℕ) (i : ℕ) → take (8 * (i + 1)) bytes ≡ take (8 * i) bytes ++ take 8 (drop (8 * i) bytes)
 eight_behind bytes i =
     let more : 8 * (i + 1) ≡ 8 * i + 8 = omega arith in

@@ -11,7 +11,7 @@ use Rattle.aec_bits.specs.Codec.{Format, AreHeld, IsInterval, IsLawful, code_of}
 
 -- ---- pieces
 
--- a list cut at the end of a piece
+-- if a list is cut at the end of a piece, its pieces are those of both parts
 pub pieces_of-append : {X : Type 0} (n k : ℕ) (xs ys : List X) → 0 < n → length xs ≡ k * n → pieces_of n (xs ++ ys) ≡ pieces_of n xs ++ pieces_of n ys
 pieces_of-append n zero xs ys h whole =
     let none : xs ≡ [] = nil_from_length xs (omega arith) in
@@ -32,11 +32,11 @@ pieces_of-append n (suc k) xs ys h whole =
 pub code_of-nil : (f : Format) → 1 ≤ f.most → code_of f [] ≡ []
 code_of-nil f h = ap (flat_map f.bits_of) (pieces_of-nil f.most h)
 
--- the first interval, and the others
+-- the code is the bits of the first interval, then the code of the others
 pub code_of_first : (f : Format) (s : List ℤ) → 1 ≤ f.most → 0 < length s → code_of f s ≡ f.bits_of (take f.most s) ++ code_of f (drop f.most s)
 code_of_first f s h some = ap (flat_map f.bits_of) (pieces_of-step f.most s h some)
 
--- the code of one interval
+-- the code of one interval is its bits
 pub code_of_interval : (f : Format) (s : List ℤ) → 1 ≤ length s → length s ≤ f.most → code_of f s ≡ f.bits_of s
 code_of_interval f s some few =
     code_of_first f s (omega arith) some
@@ -44,19 +44,19 @@ code_of_interval f s some few =
     ∙ ap (λ l. f.bits_of s ++ l) (ap (code_of f) (drop_all f.most s few) ∙ code_of-nil f (omega arith))
     ∙ append-nil (f.bits_of s)
 
--- samples cut at the end of an interval
+-- if samples are cut at the end of an interval, their code is the codes of both parts
 pub code_of-append : (f : Format) (k : ℕ) (a b : List ℤ) → 1 ≤ f.most → length a ≡ k * f.most → code_of f (a ++ b) ≡ code_of f a ++ code_of f b
 code_of-append f k a b h whole =
     ap (flat_map f.bits_of) (pieces_of-append f.most k a b h whole) ∙ flat_map-append f.bits_of (pieces_of f.most a) (pieces_of f.most b)
 
--- the code up to an interval, and from there on
+-- the code is that of the first k intervals, then that of the other samples
 pub code_of_split : (f : Format) (k : ℕ) (s : List ℤ) → 1 ≤ f.most → k * f.most ≤ length s
     → code_of f s ≡ code_of f (take (k * f.most) s) ++ code_of f (drop (k * f.most) s)
 code_of_split f k s h within =
     ap (code_of f) (sym (take-append-drop (k * f.most) s))
     ∙ code_of-append f k (take (k * f.most) s) (drop (k * f.most) s) h (omega (arith, length-take (k * f.most) s))
 
--- the code up to an interval, that interval, and the others
+-- the code is that of the first k intervals, the bits of the next one, and the code of the others
 pub code_of_around : (f : Format) (k : ℕ) (s : List ℤ) → 1 ≤ f.most → k * f.most < length s
     → code_of f s ≡ code_of f (take (k * f.most) s) ++ (f.bits_of (take f.most (drop (k * f.most) s)) ++ code_of f (drop ((k + 1) * f.most) s))
 code_of_around f k s h within =
@@ -66,7 +66,7 @@ code_of_around f k s h within =
     (code_of_first f (drop (k * f.most) s) h (omega (arith, length-drop (k * f.most) s))
     ∙ ap (λ l. f.bits_of (take f.most (drop (k * f.most) s)) ++ code_of f l) (drop-drop f.most (k * f.most) s ∙ ap (λ n. drop n s) next))
 
--- ---- a code and a number of samples have one list of samples
+-- ---- a code and a number of samples determine the samples
 
 held_parts : (holds : ℤ → Bool) (n : ℕ) (s : List ℤ) → list_all holds s ≡ true → (list_all holds (take n s) ≡ true) × (list_all holds (drop n s) ≡ true)
 held_parts holds zero s h = (refl, h)
@@ -76,7 +76,7 @@ held_parts holds (suc n) (x ∷ s) h =
     let rest = held_parts holds n s both.1 in
     (rw (both.0, rest.0) refl, rest.1)
 
--- with at most k intervals, whatever bits follow
+-- codes of at most k intervals determine the samples, whatever bits follow
 same_within : (f : Format) (k : ℕ) (a b : List ℤ) (x y : List Bool) → IsLawful f → AreHeld f a → AreHeld f b → length a ≡ length b → length a ≤ k * f.most
     → code_of f a ++ x ≡ code_of f b ++ y → (a ≡ b) × (x ≡ y)
 same_within f k [] [] x y lawful held kept len fits e = let none = code_of-nil f lawful.some in (refl, rw none at e)

@@ -1,4 +1,4 @@
--- Laws of numbers in bits, beside those of aec_params: bits joined, and bits of zeros.
+-- Laws of the numbers that bits spell, in addition to those of aec_params: joined bits, and zeros.
 use Rattle.std.proofs.Common.{◌≡◌, ℕ, zero, suc, ◌+◌, ◌*◌, ◌^◌, Bool, true, false, List, [], ◌∷◌, ◌++◌, length, replicate, refl, ap, ◌∙◌, arith, length-append}
 use Rattle.std.proofs.lemmas.Nat.{pow-add}
 use Rattle.aec_params.specs.Codewords.{bits_number}

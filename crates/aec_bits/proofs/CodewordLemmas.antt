@@ -1,4 +1,4 @@
--- Laws of the codewords, and of the bytes that bits fill.
+-- Lemmas about codewords, and about the bytes that bits fill.
 use Rattle.std.proofs.Common.{◌≡◌, ℕ, zero, suc, ◌+◌, ◌-◌, ◌*◌, ◌^◌, ◌<◌, ◌≤◌, Bool, false, List, [], ◌∷◌, ◌++◌, length, take, drop, replicate, get_or, refl, sym, ap, ◌∙◌, arith, append_assoc, length-append, mod-eq_of_lt, inl, inr}
 use Rattle.std.specs.Prelude.{min}
 use Rattle.std.specs.Int.{div_ceil}
@@ -45,7 +45,7 @@ pub ruleset byte_counts = (length-bytes_of)
 
 -- ---- the bytes that bits fill
 
--- the eight bits of a byte: those that stand there, and zeros
+-- the eight bits of byte i: the w bits that the list has there, then zeros
 eight_of : (bits : List Bool) (i w v : ℕ) → 8 * i < length bits → w ≡ min (length bits - 8 * i) 8 → drop (8 * i) bits ≡ binary w v ++ drop (8 * i + w) bits
     → take 8 (drop (8 * i) (padded_to_byte bits)) ≡ binary w v ++ replicate (8 - w) false
 eight_of bits i w v within width stands =
@@ -82,13 +82,13 @@ byte_at bits i w v within width fits stands =
     ∙ ap bits_number (get_or-first_chunks 8 count i (padded_to_byte bits) (omega arith) ∙ eight_of bits i w v there width stands)
     ∙ spelled)
 
--- ---- zeros before a one
+-- ---- zeros before a 1
 
 pub has_one-zeros : (n : ℕ) → has_one (replicate n false) ≡ false
 has_one-zeros zero = refl
 has_one-zeros (suc n) = has_one-zeros n
 
--- nothing but zeros up to the end
+-- if only zeros follow up to the end, there is no 1
 pub zeros_all : (bits : List Bool) (start i : ℕ) → length bits ≤ i
     → drop start bits ≡ replicate (i - start) false ++ drop i bits → has_one (drop start bits) ≡ false
 zeros_all bits start i past so_far =

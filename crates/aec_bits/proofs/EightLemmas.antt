@@ -1,4 +1,4 @@
--- The bytes of words, of those that bits fill.
+-- The bytes of words that keep a list are bytes that the list fills.
 use Rattle.std.proofs.Common.{◌≡◌, ℕ, zero, suc, ◌+◌, ◌-◌, ◌*◌, ◌/◌, ◌^◌, ◌<◌, ◌≤◌, Bool, false, List, [], ◌∷◌, ◌++◌, length, take, drop, replicate, refl, sym, ap, ap₂, ◌∙◌, arith}
 use Rattle.std.specs.List.{AllByRecursion, flat_map}
 use Rattle.std.specs.Int.{bytes_high_first}
@@ -42,7 +42,7 @@ bits_of_bytes-take bytes n within =
     sym (ap (take (8 * n)) (ap bits_of_bytes (sym (take-append-drop n bytes)) ∙ bits_of_bytes-append (take n bytes) (drop n bytes))
     ∙ take_at (bits_of_bytes (take n bytes)) (bits_of_bytes (drop n bytes)) (8 * n) long)
 
--- as many zeros as are missing, or more
+-- the first n bits of a list followed by zeros are the same for any sufficient number of zeros
 take_filled : (n m : ℕ) (xs : List Bool) → n ≤ length xs + m → take n (xs ++ replicate m false) ≡ take n (xs ++ replicate n false)
 take_filled zero m xs enough = refl
 take_filled (suc n) m [] enough = take-replicate (suc n) m false (omega arith) ∙ sym (take-replicate (suc n) (suc n) false (omega arith))
@@ -50,7 +50,7 @@ take_filled (suc n) m (x ∷ xs) enough = ap (λ l. x ∷ l) (take_filled n m xs
 
 -- ---- words
 
--- the bytes of words are their bits
+-- the bytes of words have the bits of the words
 pub bits_of_bytes-words : (words : List ℕ) → bits_of_bytes (flat_map (bytes_high_first 8) words) ≡ bits_of_words words
 bits_of_bytes-words [] = refl
 bits_of_bytes-words (w ∷ words) =
@@ -61,11 +61,11 @@ words_below : (words : List ℕ) → AllByRecursion (λ b. b < 256) (flat_map (b
 words_below [] = tt
 words_below (w ∷ words) = all-append (λ b. b < 256) (bytes_high_first 8 w) (flat_map (bytes_high_first 8) words) (below_256 8 w) (words_below words)
 
--- bytes with the same bits
+-- bytes with the same bits are equal
 same_bytes : (xs ys : List ℕ) → AllByRecursion (λ b. b < 256) xs → AllByRecursion (λ b. b < 256) ys → bits_of_bytes xs ≡ bits_of_bytes ys → xs ≡ ys
 same_bytes xs ys first second e = sym (bytes_of-bits_of_bytes xs first) ∙ ap bytes_of e ∙ bytes_of-bits_of_bytes ys second
 
--- the bits of some of the words that hold a list, with zeros behind it
+-- the bits of some of the words that keep a list: bits of the list, then zeros
 words_bits : (words : List ℕ) (len first count : ℕ) → ArePacked words len → first + count ≤ length words → 64 * first ≤ len
     → bits_of_words (take count (drop first words))
     ≡ take (64 * count) (drop (64 * first) (take len (bits_of_words words)) ++ replicate (64 * count) false)
@@ -78,7 +78,7 @@ words_bits words len first count held within begun =
     ∙ drop-append-le (64 * first) list (replicate rest false) (omega arith))
     ∙ take_filled (64 * count) rest (drop (64 * first) list) (omega (arith, held.0, long, length-drop (64 * first) list))
 
--- the bits of some of the bytes that a list fills, with zeros behind it
+-- the bits of some of the bytes that a list fills: bits of the list, then zeros
 bytes_bits : (list : List Bool) (at n : ℕ) → at + n ≤ length (bytes_of list) → 8 * at ≤ length list
     → bits_of_bytes (take n (drop at (bytes_of list))) ≡ take (8 * n) (drop (8 * at) list ++ replicate (8 * n) false)
 bytes_bits list at n within begun =
@@ -89,7 +89,7 @@ bytes_bits list at n within begun =
     ∙ drop-append-le (8 * at) list (replicate missing false) begun)
     ∙ take_filled (8 * n) missing (drop (8 * at) list) (omega (arith, length-bytes_of list, length-drop (8 * at) list))
 
--- the bytes of some of the words that hold a list are those that it fills
+-- the bytes of some of the words that keep a list are bytes that the list fills
 pub bytes_of-words : (words : List ℕ) (len first count n : ℕ) → ArePacked words len → n ≡ 8 * count
     → 8 * first + n ≤ length (bytes_of (take len (bits_of_words words)))
     → flat_map (bytes_high_first 8) (take count (drop first words)) ≡ take n (drop (8 * first) (bytes_of (take len (bits_of_words words))))

@@ -1,4 +1,4 @@
--- Several codewords read from one word, and lists that they fill part by part.
+-- Several codewords read from one word, and lists that are filled with them part by part.
 use Rattle.std.proofs.Common.{◌≡◌, ℕ, zero, suc, ◌+◌, ◌-◌, ◌*◌, ◌/◌, ◌^◌, ◌<◌, ◌≤◌, Bool, false, List, [], ◌∷◌, ◌++◌, length, take, drop, replicate, mul_comm, refl, sym, ap, ◌∙◌, arith, append_assoc, length-append}
 use Rattle.std.specs.Prelude.{count_ones}
 use Rattle.std.specs.List.{flat_map}
@@ -17,13 +17,13 @@ use Rattle.aec_bits.specs.Windows.{bits_from, IsWindow, StandsBefore, StandsBehi
 use Rattle.aec_bits.proofs.OnesLemmas.{ones_among, ones_among-whole}
 use Rattle.aec_bits.proofs.WindowLemmas.{one_inside, codeword_first, codeword_read, whole_window}
 
--- ---- ones
+-- ---- 1 bits
 
 ones_among-fs : (v : ℕ) (rest : List Bool) → ones_among (fs v ++ rest) ≡ 1 + ones_among rest
 ones_among-fs zero rest = refl
 ones_among-fs (suc v) rest = ones_among-fs v rest
 
--- a fundamental sequence has one
+-- a fundamental sequence has one 1 bit
 pub sequence_ones : (left word v later behind : ℕ) → word < 2 ^ left → behind < 2 ^ later
     → binary left word ≡ fs v ++ binary later behind → count_ones word ≡ 1 + count_ones behind
 sequence_ones left word v later behind fits fits_behind stands =
@@ -33,7 +33,7 @@ sequence_ones left word v later behind fits fits_behind stands =
 pub some_one : (word i n : ℕ) → i < n → n ≤ i + count_ones word → 0 < word
 some_one word i n before enough = omega (arith, ones_le_self word)
 
--- ---- a list that grows
+-- ---- a list that is filled part by part
 
 pub stands_both : (codeword : ℕ → List Bool) (limit : ℕ) (front values : List ℕ) (rest now bits : List Bool)
     → StandsBefore codeword limit front now bits → StandsBefore codeword limit values rest now
@@ -46,14 +46,14 @@ stands_both codeword limit front values rest now bits first later =
       below = all-append (λ n. n < limit) front values first.below later.below;
     }
 
--- by a part that was filled
+-- with a part that was read next, the first n numbers of the list are read
 pub stands_with : (codeword : ℕ → List Bool) (limit : ℕ) (items part : List ℕ) (at k n : ℕ) (rest now bits : List Bool) → at ≤ length items
     → n ≡ at + length part → StandsBefore codeword limit (take at items) now bits → StandsBefore codeword limit part rest now
     → StandsBefore codeword limit (take n (put_mid at k items part)) rest bits
 stands_with codeword limit items part at k n rest now bits within sum first later =
     rw (take-put_mid at k items part n sum within) (stands_both codeword limit (take at items) part rest now bits first later)
 
--- how many such a part has
+-- the length of a part that replaces n numbers of a list
 pub part_len : (at n : ℕ) (items part : List ℕ) → at + n ≤ length items → length part ≡ length (take (at + n - at) (drop at items)) → length part ≡ n
 part_len at n items part within same =
     let size : at + n - at ≡ n = omega arith in
@@ -62,7 +62,7 @@ part_len at n items part within same =
 pub end_len : (at : ℕ) (items part : List ℕ) → length part ≡ length (take (length items - at) (drop at items)) → length part ≡ length items - at
 end_len at items part same = same ∙ length-take-le (length items - at) (drop at items) (omega (arith, length-drop at items))
 
--- by a part up to its end
+-- with a part up to the end of the list, all its numbers are read
 pub stands_to_end : (codeword : ℕ → List Bool) (limit : ℕ) (items part : List ℕ) (at : ℕ) (rest now bits : List Bool) → at ≤ length items
     → length part ≡ length items - at → StandsBefore codeword limit (take at items) now bits → StandsBefore codeword limit part rest now
     → StandsBefore codeword limit (put_mid at (length items - at) items part) rest bits
@@ -72,7 +72,7 @@ stands_to_end codeword limit items part at rest now bits within size first later
     ap (λ l. take at items ++ l) (sym (append-nil part) ∙ ap (λ l. part ++ l) (sym nothing)) in
     rw whole at (stands_both codeword limit (take at items) part rest now bits first later)
 
--- reading that stops in a later part
+-- if reading stops in a later part, it stops before the whole count
 pub stops_later : (limit : ℕ) (items : List ℕ) (at more count : ℕ) (now bits : List Bool) → at ≤ length items → at + more ≤ count
     → StopsBefore more now → StandsBefore fs limit (take at items) now bits → StopsBefore count bits
 stops_later limit items at more count now bits within most stop first =
@@ -88,7 +88,7 @@ stops_later limit items at more count now bits within most stop first =
 
 -- ---- fundamental sequences
 
--- they end within the list, not in the zeros past its end
+-- fundamental sequences of a window end within the list, not in the zeros past its end
 sequences_inside : (list rest : List Bool) (values : List ℕ) (k : ℕ) → length (flat_map fs values) ≤ k
     → flat_map fs values ++ rest ≡ take k (list ++ replicate 64 false) → length (flat_map fs values) ≤ length list
 sequences_inside list rest [] k short stands = omega arith
@@ -104,7 +104,7 @@ sequences_inside list rest (v ∷ values) k short stands =
     let more = sequences_inside (drop (v + 1) list) rest values (k - (v + 1)) (omega (arith, lens, long)) read.1 in
     omega (arith, more, length-drop (v + 1) list, lens, long, here)
 
--- what was read of a window stands at its place of the list
+-- fundamental sequences read from a window are in the list at the window's place
 pub sequences_read : (list : List Bool) (values : List ℕ) (word left end later behind stop : ℕ) → stop ≡ end → IsWindow list word left end
     → behind < 2 ^ later → StandsBefore fs 64 values (binary later behind) (binary left word)
     → StandsBehind list (end - left) values behind later stop
@@ -138,7 +138,7 @@ length-numbers width [] = omega arith
 length-numbers width (v ∷ values) =
     length-append (binary width v) (flat_map (binary width) values) ∙ omega (arith, length-binary width v, length-numbers width values)
 
--- what was read of a word stands at its place of the list
+-- numbers read from a word are in the list at the word's place
 pub numbers_read : (list : List Bool) (word place width n : ℕ) (values : List ℕ) → word_bits word ≡ bits_from place 64 list → length values ≡ n
     → width * n ≤ 64 → place + width * n ≤ length list
     → StandsBefore (binary width) (2 ^ width) values (binary (64 - width * n) word) (word_bits word)
@@ -153,12 +153,12 @@ numbers_read list word place width n values same many short inside stand =
     (omega (arith, short)) refl (omega (arith, inside)) window stand.stands in
     record { stands = rw (here, there) at read.1; below = stand.below }
 
--- nothing is read of a word yet
+-- no number of a word is read yet
 pub begins_word : (width word : ℕ) → StandsBefore (binary width) (2 ^ width) [] (binary 64 word) (word_bits word)
 unfolding word_bits
 begins_word width word = record { stands = refl; below = tt }
 
--- ---- groups of so many
+-- ---- groups of n numbers
 
 next_group : (n i : ℕ) → n * (i + 1) ≡ n * i + n
 next_group n i = omega arith
@@ -172,7 +172,7 @@ group_within n i count some before =
 product_parts : (width a n : ℕ) → width * (a + n) ≡ width * a + width * n
 product_parts width a n = omega arith
 
--- each group has its bits
+-- the bits of each group end within the bits of all numbers
 pub group_room : (start width n i count most place : ℕ) → 0 < n → i < count / n → place ≡ start + width * (n * i) → start + width * count ≤ most
     → place + width * n ≤ most
 group_room start width n i count most place some before here all =
@@ -200,7 +200,7 @@ numbers_more list width n i word place start behind items part some before here 
     stands_with (binary width) (2 ^ width) items part (n * i) (n * i + n - n * i) (n * (i + 1)) (drop (place + behind) list) (drop place list) (drop start list)
     (omega (arith, inside)) (next_group n i ∙ ap (λ k. n * i + k) (sym size_n)) so_far (rw (ap (λ k. drop (place + k) list) (sym is)) at there)
 
--- ---- what is left behind the groups
+-- ---- the numbers after the last whole group
 
 pub rest_fits : (width n count : ℕ) → 0 < n → width * n ≤ 64 → width * (count - n * (count / n)) ≤ 64
 rest_fits width n count some fits =
@@ -208,7 +208,7 @@ rest_fits width n count some fits =
     let grown = mul-le-mul_left width few in
     omega (arith, grown, fits)
 
--- what is left has its bits
+-- the bits of the numbers after the groups end where the bits of all numbers end
 pub rest_room : (start width n i count most place : ℕ) → i ≡ count / n → place ≡ start + width * (n * i) → start + width * count ≤ most
     → place + width * (count - n * i) ≡ start + width * count
 rest_room start width n i count most place done here all =
@@ -238,7 +238,7 @@ numbers_end list width n word place start count items part many here all short s
     stands_to_end (binary width) (2 ^ width) items part at (drop (start + width * count) list) (drop place list) (drop start list)
     (omega (arith, most, many, same_at)) whole (rw (sym same_at) at so_far) (rw (ap (λ k. drop k list) behind) at there)
 
--- the same of fundamental sequences
+-- if reading stops in the fundamental sequences after the groups of eight, it stops before `count`
 pub rest_stops : (list : List Bool) (start count i : ℕ) (items : List ℕ) (word left end : ℕ) → length items ≡ count → count / 8 ≤ i → i ≤ count / 8
     → StandsBehind list start (take (8 * i) items) word left end
     → StopsBefore (length (take (length items - 8 * (length items / 8)) (drop (8 * (length items / 8)) items))) (drop (end - left) list)

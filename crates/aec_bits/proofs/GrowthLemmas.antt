@@ -11,7 +11,7 @@ use Rattle.aec_bits.proofs.PackedLemmas.{length-packed, packed, packed_bits}
 
 -- ---- bits appended
 
--- the bits of words that were grown: the list and zeros
+-- the bits of words that were grown: the list, then zeros
 grown_bits : (words grown : List ℕ) (len extra : ℕ) → ArePacked words len → bits_of_words grown ≡ bits_of_words words ++ replicate extra false
     → bits_of_words grown ≡ take len (bits_of_words words) ++ replicate (64 * length words - len + extra) false
 grown_bits words grown len extra held e =
@@ -19,7 +19,7 @@ grown_bits words grown len extra held e =
     ∙ append_assoc (take len (bits_of_words words)) (replicate (64 * length words - len) false) (replicate extra false)
     ∙ ap (λ l. take len (bits_of_words words) ++ l) (replicate-append-replicate (64 * length words - len) extra false)
 
--- bits written past the list
+-- if bits are written right after the list, the words keep the list and these bits
 pub appended : (words grown now : List ℕ) (new : List Bool) (len k extra : ℕ) → ArePacked words len
     → bits_of_words grown ≡ bits_of_words words ++ replicate extra false → length new ≡ k → length now ≡ div_ceil (len + k) 64
     → bits_of_words now ≡ take len (bits_of_words grown) ++ (new ++ drop (len + k) (bits_of_words grown))
@@ -37,7 +37,7 @@ appended words grown now new len k extra held grew long count e =
     ∙ sym (append_assoc list new (replicate (m - k) false)) in
     packed now (list ++ new) (len + k) (m - k) stands (omega (arith, length-append list new)) count
 
--- a one written past the list, and past some zeros
+-- if a 1 is written v zeros after the list, the words keep the list and a fundamental sequence
 pub appended_unary : (words grown now : List ℕ) (len v extra : ℕ) → ArePacked words len
     → bits_of_words grown ≡ bits_of_words words ++ replicate extra false → len + v + 1 ≤ 64 * length words + extra
     → length now ≡ div_ceil (len + (v + 1)) 64

@@ -9,8 +9,8 @@ use Rattle.aec_bits.specs.WordBits.{word_bits}
 use Rattle.aec_bits.proofs.OverwriteLemmas.{overwritten, take-append-add}
 use Rattle.aec_bits.proofs.WordLemmas.{length-word_bits, bits_of_words-cons, bits_of_words-append, bits_of_words-take, bits_of_words-drop, joined_bits}
 
--- the bits from a place of the first word on: those of that word, some of the next one, and those
--- from that place of the next one on
+-- the bits from place `at` of a word on: the rest of that word, the first `at` bits of the next
+-- word, and the bits from place `at` of the next word on
 next_word : (x y : ℕ) (ys : List ℕ) (at n : ℕ) → at ≤ 64
     → (drop at (word_bits x) ++ take at (word_bits y)) ++ take (64 * n) (drop at (bits_of_words (y ∷ ys)))
     ≡ take (64 * suc n) (drop at (bits_of_words (x ∷ y ∷ ys)))
@@ -29,7 +29,7 @@ next_word x y ys at n within =
     ∙ ap₂ (λ (k : ℕ) (l : List Bool). take k l) (sym e)
     (sym (ap (drop at) (bits_of_words-cons x (y ∷ ys)) ∙ drop-append-le at (word_bits x) later short))
 
--- words joined with the ones after them, by functions that do what shifts and `or` do
+-- words joined with the words after them, by functions equal to shifts and OR
 joined_lanes : (f g h : ℕ → ℕ → ℕ) → ((x y : ℕ) → f x y ≡ bit_or x y) → ((x s : ℕ) → g x s ≡ x * 2 ^ s % 2 ^ 64) → ((x s : ℕ) → h x s ≡ x / 2 ^ s)
     → (n : ℕ) (xs : List ℕ) (at : ℕ) → at ≤ 64 → n < length xs → ((i : ℕ) → get_or xs i 0 < 2 ^ 64)
     → bits_of_words (zip2 f (zip2 g (take n xs) (replicate n at)) (zip2 h (take n (drop 1 xs)) (replicate n (64 - at))))
@@ -46,7 +46,7 @@ joined_lanes f g h ef eg eh (suc n) (x ∷ y ∷ ys) at within long small =
     (joined_lanes f g h ef eg eh n (y ∷ ys) at within (omega arith) (λ i. small (suc i)))
     ∙ next_word x y ys at n within
 
--- four of them, from a word on
+-- four such joined words, from word `from` on
 pub joined_four : (f g h : ℕ → ℕ → ℕ) → ((x y : ℕ) → f x y ≡ bit_or x y) → ((x s : ℕ) → g x s ≡ x * 2 ^ s % 2 ^ 64) → ((x s : ℕ) → h x s ≡ x / 2 ^ s)
     → (ws : List ℕ) (from at : ℕ) → at ≤ 64 → from + 5 ≤ length ws → ((i : ℕ) → get_or ws i 0 < 2 ^ 64)
     → bits_of_words (zip2 f (zip2 g (take 4 (drop from ws)) (replicate 4 at)) (zip2 h (take 4 (drop (from + 1) ws)) (replicate 4 (64 - at))))
@@ -58,7 +58,7 @@ joined_four f g h ef eg eh ws from at within long small =
     ∙ ap (λ (l : List Bool). take 256 (drop at l)) (bits_of_words-drop ws from (omega arith))
     ∙ ap (take 256) (drop-drop at (64 * from) (bits_of_words ws))
 
--- four words stored
+-- four stored words overwrite 256 bits
 pub stored_four : (ws four : List ℕ) (place : ℕ) (bits : List Bool) → length four ≡ 4 → place + 4 ≤ length ws → bits_of_words four ≡ bits
     → bits_of_words (put_chunk place ws four) ≡ overwritten (64 * place) 256 bits (bits_of_words ws)
 stored_four ws four place bits long within stand =

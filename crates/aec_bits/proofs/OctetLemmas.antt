@@ -1,4 +1,4 @@
--- What the coder of octets meets as it goes.
+-- Lemmas for the loops of the codec of octets.
 use Rattle.std.proofs.Common.{◌≡◌, ℕ, zero, suc, ◌+◌, ◌*◌, ◌<◌, ◌≤◌, ◌^◌, Bool, true, List, [], ◌∷◌, ◌++◌, length, take, drop, get_or, ℤ, pos, nat_abs, refl, sym, ap, ◌∙◌, arith, append_assoc, length-append}
 use Rattle.std.proofs.lemmas.Bool.{and_parts}
 use Rattle.std.specs.List.{list_all, flat_map}
@@ -19,7 +19,7 @@ length-octets : (s : List ℤ) → length (flat_map octet_bits s) ≡ 8 * length
 length-octets [] = refl
 length-octets (x ∷ s) = length-append (octet_bits x) (flat_map octet_bits s) ∙ omega (arith, length-binary 8 (nat_abs x), length-octets s)
 
--- from the k-th octet of an interval on, its other octets stand
+-- 8 * k bits after the start of an interval, the bits of its octets from octet k on begin
 octets_from : (s : List ℤ) (k : ℕ) (bits rest : List Bool) (place : ℕ) → k ≤ length s → drop place bits ≡ flat_map octet_bits s ++ rest
     → drop (place + 8 * k) bits ≡ flat_map octet_bits (drop k s) ++ rest
 octets_from s zero bits rest place within stands = let e : place + 8 * 0 ≡ place = omega arith in rw e stands
@@ -31,14 +31,14 @@ octets_from (x ∷ s) (suc k) bits rest place within stands =
     ∙ drop_at (octet_bits x) (flat_map octet_bits s ++ rest) 8 (length-binary 8 (nat_abs x)) in
     ap (λ n. drop n bits) (sym step) ∙ octets_from s k bits rest (place + 8) (omega arith) past
 
--- the bits of the next octet are there
+-- the bits of the next octet are within the list
 pub octet_there : (bits : List Bool) (place count k : ℕ) (s : List ℤ) → BeginsAt octets bits place count s → k < count → place + 8 * k + 8 ≤ length bits
 octet_there bits place count k s begins within =
     let whole : length (drop place bits) ≡ 8 * count + length begins.stands.0 =
     ap length begins.stands.1 ∙ length-append (flat_map octet_bits s) begins.stands.0 ∙ omega (arith, length-octets s, begins.length_is) in
     omega (arith, length-drop place bits)
 
--- the next number that is read is the next octet
+-- the next number read is the next octet
 pub octet_next : (bits : List Bool) (place count k v : ℕ) (s : List ℤ) (d : ℤ) → BeginsAt octets bits place count s → k < count → v < 2 ^ 8
     → drop (place + 8 * k) bits ≡ binary 8 v ++ drop (place + 8 * k + 8) bits → get_or s k d ≡ pos v
 octet_next bits place count k v s d begins within fits stands =

@@ -1,4 +1,4 @@
--- Octets are told apart by their bits.
+-- The bits of octets determine the octets, so their format is lawful.
 use Rattle.std.proofs.Common.{◌≡◌, ℕ, ◌<◌, Bool, true, List, [], ◌∷◌, ◌++◌, length, take, drop, ℤ, pos, negsuc, nat_abs, refl, sym, ap, ◌∙◌, arith, append_assoc, lit≤, subst, ltb}
 use Rattle.std.specs.Prelude.{int_le, int_lt}
 use Rattle.std.specs.Int.{w64}
@@ -29,7 +29,7 @@ same_octet x y held kept e =
     let n = octet_number y kept in
     m.1 ∙ ap pos (same_number m.0 n.0 m.2 n.2 (ap octet_bits (sym m.1) ∙ e ∙ ap octet_bits n.1)) ∙ sym n.1
 
--- equal bits begin with equal octets, and go on equally
+-- if the bits of x, then xs, are those of y, then ys, x and y have equal bits, and xs equals ys
 pub octet_first : (x y : ℤ) (xs ys : List Bool) → octet_bits x ++ xs ≡ octet_bits y ++ ys → (octet_bits x ≡ octet_bits y) × (xs ≡ ys)
 octet_first x y xs ys e = (
   sym (take_at (octet_bits x) xs 8 (length-binary 8 (nat_abs x))) ∙ ap (take 8) e ∙ take_at (octet_bits y) ys 8 (length-binary 8 (nat_abs y)),

@@ -1,4 +1,4 @@
--- The place behind so many ones, by stretches of bits.
+-- The place after n 1 bits, found stretch by stretch.
 use Rattle.std.proofs.Common.{◌≡◌, ℕ, zero, suc, ◌+◌, ◌-◌, ◌*◌, ◌/◌, ◌%◌, ◌^◌, ◌<◌, ◌≤◌, ◌==◌, Bool, true, false, Option, Some, None, List, [], ◌∷◌, ◌++◌, length, drop, replicate, refl, sym, ap, ◌∙◌, arith, zero-add, mod-eq_of_lt}
 use Rattle.std.specs.Prelude.{count_ones}
 use lib.Count.{ones-ones}
@@ -36,13 +36,13 @@ further-none k (Some m) e = absurd (cc)
 
 -- ---- stretches of bits
 
--- how many ones there are
+-- the number of 1 bits
 abbrev pub ones_among : List Bool → ℕ
 ones_among [] = 0
 ones_among (true ∷ bits) = 1 + ones_among bits
 ones_among (false ∷ bits) = ones_among bits
 
--- the one is behind a stretch with fewer ones
+-- if a stretch has fewer than n 1 bits, the n-th is after the stretch
 behind_ones-past : (n : ℕ) (front rest : List Bool) → ones_among front < n
     → behind_ones n (front ++ rest) ≡ further (length front) (behind_ones (n - ones_among front) rest)
 behind_ones-past zero front rest few = absurd (omega arith)
@@ -62,14 +62,14 @@ behind_ones-past (suc n) (false ∷ front) rest few =
     ∙ further-further 1 (length front) (behind_ones (suc n - ones_among front) rest)
     ∙ ap (λ k. further k (behind_ones (suc n - ones_among front) rest)) long
 
--- the one is in a stretch with no fewer ones
+-- if a stretch has at least n 1 bits, the n-th is in the stretch
 behind_ones-inside : (n : ℕ) (front rest : List Bool) → n ≤ ones_among front → behind_ones n (front ++ rest) ≡ behind_ones n front
 behind_ones-inside zero front rest enough = refl
 behind_ones-inside (suc n) [] rest enough = absurd (omega arith)
 behind_ones-inside (suc n) (true ∷ front) rest enough = ap (further 1) (behind_ones-inside n front rest (omega arith))
 behind_ones-inside (suc n) (false ∷ front) rest enough = ap (further 1) (behind_ones-inside (suc n) front rest enough)
 
--- zeros at the end change nothing
+-- zeros contain no 1 bit, and zeros at the end change nothing
 behind_ones-zeros : (n k : ℕ) → behind_ones (suc n) (replicate k false) ≡ None
 behind_ones-zeros n zero = refl
 behind_ones-zeros n (suc k) = ap (further 1) (behind_ones-zeros n k)
@@ -116,7 +116,7 @@ ones_among-binary (suc w) v =
 pub ones_among-whole : (w v : ℕ) → v < 2 ^ w → ones_among (binary w v) ≡ count_ones v
 ones_among-whole w v fits = ones_among-binary w v ∙ ap count_ones (mod-eq_of_lt fits)
 
--- the halves of a number
+-- where the n-th 1 bit of a number of 2 * w bits is: in its high half or in its low half
 pub record AreHalves (w v n : ℕ) : Type 0 where
   pub high_fits : v / 2 ^ w < 2 ^ w
   pub high : n ≤ count_ones (v / 2 ^ w) → behind_ones n (binary (2 * w) v) ≡ behind_ones n (binary w (v / 2 ^ w))
@@ -147,7 +147,7 @@ are_halves w v n fits =
     both_halves : (w v : ℕ) → count_ones v ≡ count_ones (v / 2 ^ w) + count_ones (v % 2 ^ w)
     both_halves w v = ap count_ones (sym (shr_split v w)) ∙ ones_cat w (v / 2 ^ w) (v % 2 ^ w) (mod_below v (2 ^ w) (pow_pos w))
 
--- the only bit of a number
+-- in a number of one bit that is 1, the place after the n-th 1 bit is 1
 pub behind_ones-bit : (n v : ℕ) → 0 < n → n ≤ count_ones v → v < 2 ^ 1 → behind_ones n (binary 1 v) ≡ Some 1
 behind_ones-bit n zero some there fits = absurd (omega (arith, ones_le_self 0))
 behind_ones-bit n (suc zero) some there fits = let one : n ≡ 1 = omega (arith, ones_le_self 1) in rw one refl
@@ -174,7 +174,7 @@ drop-zeros zero n = let all : n ≡ n - 0 = omega arith in ap (λ k. replicate k
 drop-zeros (suc m) zero = let none : 0 ≡ 0 - suc m = omega arith in ap (λ k. replicate k false) none
 drop-zeros (suc m) (suc n) = let same : n - m ≡ suc n - suc m = omega arith in drop-zeros m n ∙ ap (λ k. replicate k false) same
 
--- the word that begins at a place, and what follows it
+-- the list from a place on, with zeros: the word at this place, then the list after it, with zeros
 window_cut : (list : List Bool) (place word : ℕ) → word_bits word ≡ bits_from place 64 list
     → (k : ℕ) × (drop place list ++ replicate 64 false ≡ word_bits word ++ (drop (place + 64) list ++ replicate k false))
 unfolding bits_from
@@ -211,7 +211,7 @@ window_past list place word n fits same few =
 
 -- ---- from word to word
 
--- the one is in the word at a place
+-- if the word at a place has enough 1 bits, the search ends in this word
 pub found_at : (list : List Bool) (start place word count left ones behind more : ℕ) → word < 2 ^ 64 → word_bits word ≡ bits_from place 64 list
     → ones ≡ count_ones word → left ≤ ones → Some behind ≡ behind_ones left (word_bits word) → more ≡ behind
     → behind_ones count (drop start list) ≡ further (place - start) (behind_ones left (drop place list))
@@ -220,7 +220,7 @@ found_at list start place word count left ones behind more fits same is_ones eno
     sym (so_far ∙ ap (further (place - start)) (window_inside list place word left fits same (omega (arith, is_ones)) ∙ sym found)
     ∙ ap (λ k. Some (place - start + k)) (sym is_behind))
 
--- it is behind that word
+-- if the word has too few 1 bits, the search goes on after the word
 pub goes_on : (list : List Bool) (start place word count left ones : ℕ) → start ≤ place → word < 2 ^ 64 → word_bits word ≡ bits_from place 64 list
     → ones ≡ count_ones word → ones < left
     → behind_ones count (drop start list) ≡ further (place - start) (behind_ones left (drop place list))
@@ -232,14 +232,14 @@ goes_on list start place word count left ones order fits same is_ones few so_far
     ∙ ap (λ k. further k (behind_ones (left - count_ones word) (drop (place + 64) list))) further_on
     ∙ ap (λ k. further (place + 64 - start) (behind_ones (left - k) (drop (place + 64) list))) (sym is_ones)
 
--- no bits are left
+-- if no bits are left, the search fails
 pub none_left : (list : List Bool) (start place count left : ℕ) → length list ≤ place → 0 < left
     → behind_ones count (drop start list) ≡ further (place - start) (behind_ones left (drop place list)) → None ≡ behind_ones count (drop start list)
 none_left list start place count zero past some so_far = absurd (omega arith)
 none_left list start place count (suc left) past some so_far =
     sym (so_far ∙ ap (λ l. further (place - start) (behind_ones (suc left) l)) (drop_all place list past))
 
--- what is gone over is within the list
+-- a place that is found is within the list
 pub ends_within : (list : List Bool) (start count gone : ℕ) → start ≤ length list → Some gone ≡ behind_ones count (drop start list)
     → start + gone ≤ length list
 ends_within list start count gone within found =

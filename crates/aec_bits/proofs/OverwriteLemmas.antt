@@ -1,12 +1,12 @@
--- Lists of which a stretch was overwritten, and what is read from a place on.
+-- Lists in which a stretch was overwritten, and what they contain from a place on.
 use Rattle.std.proofs.Common.{◌≡◌, ℕ, suc, ◌+◌, ◌≤◌, Bool, List, [], ◌∷◌, ◌++◌, length, take, drop, refl, sym, ap, ◌∙◌, arith, append_assoc}
 use Rattle.std.proofs.lemmas.List.{take_at, drop_at, take-append-le, drop-append-le, length-take-le, drop-drop}
 
--- a list of which n elements from a place on gave way to others
+-- a list in which others replace the n elements from place `at` on
 abbrev pub overwritten : ℕ → ℕ → List Bool → List Bool → List Bool
 overwritten at n new bits = take at bits ++ (new ++ drop (at + n) bits)
 
--- past a front
+-- the list from m places after its first part on
 pub drop-append-add : (xs ys : List Bool) (n m : ℕ) → length xs ≡ n → drop (n + m) (xs ++ ys) ≡ drop m ys
 drop-append-add xs ys n m long = sym (drop-drop m n (xs ++ ys)) ∙ ap (drop m) (drop_at xs ys n long)
 
@@ -16,20 +16,20 @@ take-append-add (x ∷ xs) ys n m long =
     let e : n + m ≡ suc (length xs + m) = omega arith in
     ap (λ (k : ℕ). take k (x ∷ (xs ++ ys))) e ∙ ap (λ (l : List Bool). x ∷ l) (take-append-add xs ys (length xs) m refl)
 
--- what stands from a place on goes on after its first part
+-- the bits after the first part of a list's rest are the list from n places later on
 pub rest_after : (bits first rest : List Bool) (start n : ℕ) → length first ≡ n → drop start bits ≡ first ++ rest
     → drop start bits ≡ first ++ drop (start + n) bits
 rest_after bits first rest start n long stands =
     let e : drop (start + n) bits ≡ rest = sym (drop-drop n start bits) ∙ ap (drop n) stands ∙ drop_at first rest n long in
     stands ∙ ap (λ (l : List Bool). first ++ l) (sym e)
 
--- up to the end of what was written
+-- the list up to the end of the overwritten stretch
 pub take-overwritten : (bits new : List Bool) (at n : ℕ) → length new ≡ n → at ≤ length bits → take (at + n) (overwritten at n new bits) ≡ take at bits ++ new
 take-overwritten bits new at n long within =
     take-append-add (take at bits) (new ++ drop (at + n) bits) at n (length-take-le at bits within)
     ∙ ap (λ (l : List Bool). take at bits ++ l) (take_at new (drop (at + n) bits) n long)
 
--- from a place after it on
+-- the list after the overwritten stretch is unchanged
 pub drop-overwritten : (bits new : List Bool) (at n m : ℕ) → length new ≡ n → at ≤ length bits
     → drop (at + n + m) (overwritten at n new bits) ≡ drop (at + n + m) bits
 drop-overwritten bits new at n m long within =
@@ -39,7 +39,7 @@ drop-overwritten bits new at n m long within =
     ∙ drop-append-add new (drop (at + n) bits) n m long
     ∙ drop-drop m (at + n) bits
 
--- two that adjoin are one
+-- two adjacent overwritten stretches are one stretch
 pub overwritten-overwritten : (bits xs ys : List Bool) (at n m : ℕ) → length xs ≡ n → at ≤ length bits
     → overwritten (at + n) m ys (overwritten at n xs bits) ≡ overwritten at (n + m) (xs ++ ys) bits
 overwritten-overwritten bits xs ys at n m long within =
@@ -50,7 +50,7 @@ overwritten-overwritten bits xs ys at n m long within =
     ∙ ap (λ (l : List Bool). take at bits ++ l) (sym (append_assoc xs ys (drop (at + n + m) bits)))
     ∙ ap (λ (k : ℕ). take at bits ++ ((xs ++ ys) ++ drop k bits)) e
 
--- a stretch within the middle of three parts
+-- a stretch overwritten within the middle of three parts
 pub overwritten_inside : (front middle rest new : List Bool) (at n m : ℕ) → length front ≡ m → at + n ≤ length middle
     → front ++ (overwritten at n new middle ++ rest) ≡ overwritten (m + at) n new (front ++ (middle ++ rest))
 overwritten_inside front middle rest new at n m long within =

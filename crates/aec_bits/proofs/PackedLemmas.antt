@@ -1,4 +1,4 @@
--- Words that hold a list of bits: those that it needs, with zeros past its end.
+-- Words that keep a list of bits: exactly the words that it needs, with zeros past its end.
 use Rattle.std.proofs.Common.{◌≡◌, ℕ, zero, suc, ◌+◌, ◌-◌, ◌*◌, ◌≤◌, Bool, false, List, [], ◌++◌, length, take, drop, replicate, refl, sym, ap, ◌∙◌, arith, length-append}
 use Rattle.std.specs.Int.{div_ceil}
 use Rattle.std.proofs.lemmas.List.{length-replicate, replicate-append-replicate, take-append-drop, take_at, drop_at, length-take-le, append-nil, take_all, take-take, drop_all}
@@ -19,7 +19,7 @@ bits_of_words-zeros (suc n) =
     ∙ replicate-append-replicate 64 (64 * n) false
     ∙ ap (λ m. replicate m false) more
 
--- words with zero words after them
+-- zero words appended to words append zeros to their bits
 pub grown : (words now : List ℕ) (n more bits : ℕ) → length words ≤ n → now ≡ take n words ++ replicate more 0 → bits ≡ 64 * more
     → bits_of_words now ≡ bits_of_words words ++ replicate bits false
 grown words now n more bits longer e sum =
@@ -27,14 +27,14 @@ grown words now n more bits longer e sum =
     ∙ bits_of_words-append words (replicate more 0)
     ∙ ap (λ l. bits_of_words words ++ l) (bits_of_words-zeros more ∙ ap (λ k. replicate k false) (sym sum))
 
--- ---- words that hold a list of bits
+-- ---- words that keep a list of bits
 
 pub length-packed : (words : List ℕ) (len : ℕ) → len ≤ 64 * length words → length (take len (bits_of_words words)) ≡ len
 length-packed words len within = length-take-le len (bits_of_words words) (omega (arith, length-bits_of_words words))
 
 pub ruleset packed_lengths = (length-packed)
 
--- what stands in words that are a list and zeros
+-- words whose bits are a list and then zeros keep this list
 pub packed : (words : List ℕ) (list : List Bool) (len rest : ℕ) → bits_of_words words ≡ list ++ replicate rest false → length list ≡ len
     → length words ≡ div_ceil len 64 → Keep words len list
 packed words list len rest e long count =
@@ -45,12 +45,12 @@ packed words list len rest e long count =
       (count, ap (drop len) e ∙ drop_at list (replicate rest false) len long ∙ ap (λ n. replicate n false) over),
     )
 
--- the bits of words that hold a list
+-- the bits of words that keep a list: the list, then zeros
 pub packed_bits : (words : List ℕ) (len : ℕ) → ArePacked words len
     → bits_of_words words ≡ take len (bits_of_words words) ++ replicate (64 * length words - len) false
 packed_bits words len held = sym (take-append-drop len (bits_of_words words)) ∙ ap (λ l. take len (bits_of_words words) ++ l) held.1
 
--- words that were cut, with zeros past the place
+-- words cut to `len` bits, with zeros written after these, keep the first `len` bits
 pub cut_words : (words now : List ℕ) (len n over : ℕ) → len ≤ 64 * length words → n ≡ div_ceil len 64 → over ≡ 64 * n - len
     → length now ≡ length (take n words)
     → bits_of_words now ≡ take len (bits_of_words (take n words)) ++ (binary over 0 ++ drop (len + over) (bits_of_words (take n words)))

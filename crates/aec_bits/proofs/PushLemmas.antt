@@ -14,14 +14,14 @@ use Rattle.aec_bits.proofs.WordLemmas.{shl_mod, length-bits_of_words, bits_of_wo
 use Rattle.aec_bits.proofs.ZeroLemmas.{binary-zero}
 use Rattle.aec_bits.proofs.PackedLemmas.{length-packed, packed}
 
--- the lowest bits of a number, at the top of a word
+-- a word with the lowest `over` bits of a number at its top, then zeros
 bits_at_the_top : (over k v : ℕ) → over + k ≡ 64 → word_bits (v * 2 ^ k % 2 ^ 64) ≡ binary over v ++ replicate k false
 bits_at_the_top over k v whole =
     let low : v * 2 ^ k % 2 ^ 64 ≡ v % 2 ^ over * 2 ^ k + 0 = ap (λ n. v * 2 ^ k % 2 ^ n) (sym whole) ∙ shl_mod over k v ∙ omega arith in
     ap word_bits low ∙ word_bits-join over k (v % 2 ^ over) 0 whole (pow_pos k)
     ∙ ap (λ l. l ++ binary k 0) (binary-mod over v) ∙ ap (λ l. binary over v ++ l) (binary-zero k)
 
--- the last word of a list that ends within it
+-- the last word of a list that ends within this word: its unused bits are zeros
 last_word : (words : List ℕ) (len n used free : ℕ) → ArePacked words len → len ≡ 64 * n + used → used + free ≡ 64 → length words ≡ n + 1
     → (get_or words n 0 % 2 ^ free ≡ 0)
     × (take len (bits_of_words words) ≡ bits_of_words (take n words) ++ binary used (get_or words n 0 / 2 ^ free))
@@ -47,7 +47,7 @@ last_word words len n used free held place whole count =
           ∙ ap (λ l. bits_of_words (take n words) ++ l) (take-word_bits used free w whole),
     )
 
--- another last word
+-- the bits of words whose last word was replaced
 with_last : (words : List ℕ) (n z : ℕ) → length words ≡ n + 1 → bits_of_words (set words n z) ≡ bits_of_words (take n words) ++ word_bits z
 with_last words n z count =
     let none : bits_of_words (drop (suc n) words) ≡ [] = ap bits_of_words (drop_all (suc n) words (omega arith)) in
@@ -55,7 +55,7 @@ with_last words n z count =
     ∙ ap (λ l. bits_of_words (take n words) ++ l)
     (bits_of_words-cons z (drop (suc n) words) ∙ ap (λ l. word_bits z ++ l) none ∙ append-nil (word_bits z))
 
--- a number as a quotient and no remainder
+-- a number without remainder is its quotient times 2 ^ free
 no_remainder : (w free : ℕ) → w % 2 ^ free ≡ 0 → w ≡ w / 2 ^ free * 2 ^ free
 no_remainder w free none = let e = shr_split w free in omega arith
 
@@ -81,7 +81,7 @@ pub sum_over : (words : List ℕ) (len n used free width over w value : ℕ) →
 sum_over words len n used free width over w value held place whole count parts fits is small =
     sum_fits words len n used free w (value / 2 ^ over) held place whole count is small (shr_below value free over (rw parts at fits))
 
--- a number within the last word
+-- a number appended within the last word
 pub pushed_within : (words : List ℕ) (len n used free width k w value : ℕ) → ArePacked words len → len ≡ 64 * n + used → used + free ≡ 64
     → length words ≡ n + 1 → 0 < used → width + k ≡ free → value < 2 ^ width → w ≡ get_or words n 0
     → Keep (set words n (w + value * 2 ^ k % 2 ^ 64)) (len + width) (take len (bits_of_words words) ++ binary width value)
@@ -115,7 +115,7 @@ pushed_within words len n used free width k w value held place whole count some 
     ))
     (length-set words n (w + value * 2 ^ k % 2 ^ 64) ∙ omega arith)
 
--- a number of which a part goes to a new word
+-- a number appended partly to the last word and partly to a new word
 pub pushed_over : (words : List ℕ) (len n used free width over k w value : ℕ) → ArePacked words len → len ≡ 64 * n + used → used + free ≡ 64
     → length words ≡ n + 1 → 0 < used → width ≡ free + over → 0 < over → over + k ≡ 64 → value < 2 ^ width → w ≡ get_or words n 0
     → Keep (set words n (w + value / 2 ^ over) ++ value * 2 ^ k % 2 ^ 64 ∷ []) (len + width) (take len (bits_of_words words) ++ binary width value)
@@ -147,7 +147,7 @@ pushed_over words len n used free width over k w value held place whole count so
     ))
     (length-append (set words n z) (second ∷ []) ∙ omega (arith, length-set words n z))
 
--- a number in a new word
+-- a number appended in a new word
 pub pushed_after : (words : List ℕ) (len width k value : ℕ) → ArePacked words len → len ≡ 64 * length words → width + k ≡ 64 → 0 < width
     → Keep (words ++ value * 2 ^ k % 2 ^ 64 ∷ []) (len + width) (take len (bits_of_words words) ++ binary width value)
 pushed_after words len width k value held full whole some =

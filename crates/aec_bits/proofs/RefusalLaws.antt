@@ -8,12 +8,12 @@ use Rattle.aec_params.specs.declared.edit.Edit.TheVariants.{Overwrite, Append, T
 use Rattle.aec_bits.specs.Codec.{Format, AreHeld}
 use Rattle.aec_bits.specs.Refusals.{first_unheld, refusal_of}
 
--- nothing is found in a list that is held
+-- if all numbers are samples, the search finds nothing
 pub first_unheld-held : (holds : ℤ → Bool) (i : ℕ) (s : List ℤ) → list_all holds s ≡ true → first_unheld holds i s ≡ None
 first_unheld-held holds i [] h = refl
 first_unheld-held holds i (x ∷ s) h = let both = and_parts (holds x) (list_all holds s) h in rw both.0 (first_unheld-held holds (i + 1) s both.1)
 
--- what is held in front is passed over
+-- if the first k numbers are samples, the search skips them
 pub first_unheld-drop : (holds : ℤ → Bool) (i k : ℕ) (s : List ℤ) → k ≤ length s → list_all holds (take k s) ≡ true
     → first_unheld holds i s ≡ first_unheld holds (i + k) (drop k s)
 first_unheld-drop holds i zero s within h = let e : i + 0 ≡ i = omega arith in rw e refl
@@ -23,7 +23,7 @@ first_unheld-drop holds i (suc k) (x ∷ s) within h =
     let e : i + 1 + k ≡ i + suc k = omega arith in
     rw both.0 (first_unheld-drop holds (i + 1) k s (omega arith) both.1 ∙ ap (λ n. first_unheld holds n (drop k s)) e)
 
--- the first that is not held is found
+-- the search finds the first number that is no sample
 pub first_unheld_at : (holds : ℤ → Bool) (i k : ℕ) (s : List ℤ) (d : ℤ) → k < length s → list_all holds (take k s) ≡ true → holds (get_or s k d) ≡ false
     → first_unheld holds i s ≡ Some (i + k)
 first_unheld_at holds i k [] d within h bad = absurd (omega arith)

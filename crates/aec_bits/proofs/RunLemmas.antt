@@ -1,4 +1,4 @@
--- Codewords that are read one after the other into a list of numbers.
+-- Codewords read one by one into a list of numbers.
 use Rattle.std.proofs.Common.{◌≡◌, ℕ, zero, suc, ◌+◌, ◌<◌, Bool, true, false, List, [], ◌∷◌, ◌++◌, length, take, set, refl, sym, ap, ◌∙◌, arith, append_assoc}
 use Rattle.std.specs.List.{flat_map}
 use Rattle.std.proofs.lemmas.List.{take_more_set, length-take-le, append-nil}
@@ -8,7 +8,7 @@ use Rattle.aec_params.proofs.ListLaws.{all-append}
 use Rattle.aec_bits.specs.BitReader.{has_one, StopsBefore}
 use Rattle.aec_bits.specs.Windows.{StandsBefore}
 
--- one more number
+-- after one more codeword, i + 1 numbers are read
 pub stands_more : (codeword : ℕ → List Bool) (limit : ℕ) (items : List ℕ) (i v : ℕ) (rest now bits : List Bool) → i < length items → v < limit
     → now ≡ codeword v ++ rest → StandsBefore codeword limit (take i items) now bits
     → StandsBefore codeword limit (take (i + 1) (set items i v)) rest bits
@@ -22,7 +22,7 @@ stands_more codeword limit items i v rest now bits within fits here so_far =
       below = rw more (all-append (λ n. n < limit) (take i items) (v ∷ []) so_far.below (fits, tt));
     }
 
--- reading that stops
+-- if the next 64 bits have no 1, reading stops before the whole count
 pub stops_here : (limit : ℕ) (items : List ℕ) (i count : ℕ) (rest bits : List Bool) → i < count → length items ≡ count
     → has_one (take 64 rest) ≡ false → StandsBefore fs limit (take i items) rest bits → StopsBefore count bits
 stops_here limit items i count rest bits before same none so_far =
@@ -34,7 +34,7 @@ stops_here limit items i count rest bits before same none so_far =
       none = none;
     }
 
--- ---- no one among so many bits
+-- ---- no 1 among n bits
 
 pub has_one-take : (n : ℕ) (bits : List Bool) → has_one bits ≡ false → has_one (take n bits) ≡ false
 has_one-take zero bits none = refl

@@ -1,4 +1,4 @@
--- Laws of stretches of bits that are moved or copied in parts.
+-- Lemmas about stretches of bits that are moved or copied in parts.
 use Rattle.std.proofs.Common.{◌≡◌, ℕ, ◌+◌, ◌-◌, ◌*◌, ◌<◌, ◌≤◌, Bool, List, ◌++◌, length, take, drop, set, get_or, refl, sym, ap, ap₂, ◌∙◌, arith, append_assoc}
 use Rattle.std.proofs.lemmas.List.{take_at, drop_at, take-append-drop, drop-drop, drop-take, length-take-le, length-drop, take-append-le, take-take}
 use Rattle.aec_bits.specs.Words.{bits_of_words}
@@ -6,14 +6,14 @@ use Rattle.aec_bits.specs.WordBits.{word_bits}
 use Rattle.aec_bits.proofs.OverwriteLemmas.{overwritten, drop-overwritten, overwritten-overwritten, take-append-add}
 use Rattle.aec_bits.proofs.WordLemmas.{length-word_bits, bits_of_words-set, bits_of_words-drop, from_word}
 
--- what stands at a place is what is taken there
+-- the n bits that a list has at a place are the n bits taken there
 pub taken_there : (bits first rest : List Bool) (start n : ℕ) → length first ≡ n → drop start bits ≡ first ++ rest → first ≡ take n (drop start bits)
 taken_there bits first rest start n long stands = sym (ap (take n) stands ∙ take_at first rest n long)
 
 pub length-taken_there : (bits : List Bool) (start n : ℕ) → start + n ≤ length bits → length (take n (drop start bits)) ≡ n
 length-taken_there bits start n within = length-take-le n (drop start bits) (omega (arith, length-drop start bits))
 
--- the next stretch
+-- two adjacent stretches are one stretch
 pub taken_more : (bits : List Bool) (start n m : ℕ) → start + n ≤ length bits
     → take n (drop start bits) ++ take m (drop (start + n) bits) ≡ take (n + m) (drop start bits)
 taken_more bits start n m within =
@@ -21,18 +21,18 @@ taken_more bits start n m within =
     ∙ take-append-add (take n (drop start bits)) (drop n (drop start bits)) n m (length-taken_there bits start n within)
     ∙ ap (λ (l : List Bool). take n (drop start bits) ++ take m l) (drop-drop n start bits))
 
--- nothing changed
+-- a stretch overwritten by itself changes nothing
 pub overwritten_by_itself : (bits : List Bool) (at n : ℕ) → bits ≡ overwritten at n (take n (drop at bits)) bits
 overwritten_by_itself bits at n =
     sym (ap (λ (l : List Bool). take at bits ++ (take n (drop at bits) ++ l)) (sym (drop-drop n at bits))
     ∙ ap (λ (l : List Bool). take at bits ++ l) (take-append-drop n (drop at bits)) ∙ take-append-drop at bits)
 
--- ---- a stretch of one list in place of as many bits of another
+-- ---- a stretch of one list written over a stretch of another
 
 abbrev pub stretched : ℕ → ℕ → ℕ → List Bool → List Bool → List Bool
 stretched from at n source bits = overwritten at n (take n (drop from source)) bits
 
--- the same by equal numbers
+-- equal places and lengths have equal results
 pub same_stretch : (source bits : List Bool) (from at n from' at' n' : ℕ) → from ≡ from' → at ≡ at' → n ≡ n'
     → stretched from at n source bits ≡ stretched from' at' n' source bits
 same_stretch source bits from at n from' at' n' e f g =
@@ -52,7 +52,7 @@ copied_more source old now new from at n m later behind total e f g within insid
     ∙ ap (λ (l : List Bool). overwritten at (n + m) l old) (taken_more source from n m within)
     ∙ same_stretch source old from at (n + m) from at total refl refl (sym g)
 
--- what is still to be read stands behind what was written
+-- moving down: what is still to be read is after what was written
 pub moved_down_more : (old now new : List Bool) (from to n m later behind total : ℕ) → later ≡ from + n → behind ≡ to + n → total ≡ n + m
     → to ≤ from → from + n ≤ length old
     → now ≡ stretched from to n old old → new ≡ stretched later behind m now now → new ≡ stretched from to total old old
@@ -67,7 +67,7 @@ moved_down_more old now new from to n m later behind total e f g below within so
 
 -- ---- from the end to the front
 
--- a stretch is written before one that was written
+-- a stretch written right before an overwritten one makes one overwritten stretch
 overwritten_before : (bits xs ys : List Bool) (at m n : ℕ) → at + m ≤ length bits
     → overwritten at m xs (overwritten (at + m) n ys bits) ≡ overwritten at (m + n) (xs ++ ys) bits
 overwritten_before bits xs ys at m n within =
@@ -80,7 +80,7 @@ overwritten_before bits xs ys at m n within =
     ∙ ap (λ (l : List Bool). take at bits ++ l) (sym (append_assoc xs ys (drop (at + m + n) bits)))
     ∙ ap (λ (k : ℕ). take at bits ++ ((xs ++ ys) ++ drop k bits)) e
 
--- what is still to be read stands before what was written
+-- moving up: what is still to be read is before what was written
 pub moved_up_more : (old now new : List Bool) (from to m n later behind total : ℕ) → later ≡ from + m → behind ≡ to + m → total ≡ m + n
     → from ≤ to → to + m ≤ length old
     → now ≡ stretched later behind n old old → new ≡ stretched from to m now now → new ≡ stretched from to total old old
@@ -101,7 +101,7 @@ moved_up_more old now new from to m n later behind total e f g below within so_f
 
 -- ---- whole words
 
--- a word that was read and written
+-- a word read from one list and stored overwrites 64 bits
 pub word_written : (ws : List ℕ) (source : List Bool) (q from v : ℕ) → q < length ws → drop from source ≡ word_bits v ++ drop (from + 64) source
     → bits_of_words (set ws q v) ≡ overwritten (64 * q) 64 (take 64 (drop from source)) (bits_of_words ws)
 word_written ws source q from v within stands =
@@ -112,7 +112,7 @@ word_written ws source q from v within stands =
     ∙ ap (λ (l : List Bool). overwritten (64 * q) 64 l (bits_of_words ws))
     (taken_there source (word_bits v) (drop (from + 64) source) from 64 (length-word_bits v) stands)
 
--- a word that stands at a word's place
+-- the bits from a word's place on begin with this word
 pub word_there : (ws : List ℕ) (start q d : ℕ) → start ≡ 64 * q → q < length ws
     → drop start (bits_of_words ws) ≡ word_bits (get_or ws q d) ++ drop (start + 64) (bits_of_words ws)
 word_there ws start q d place within =

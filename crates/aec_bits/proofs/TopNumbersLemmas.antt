@@ -1,4 +1,4 @@
--- Numbers at the top of a word, of which powers of two move each to the top of its lane.
+-- Numbers at the top of a word; products with powers of two move each to the top of its lane.
 use Rattle.std.proofs.Common.{◌≡◌, ℕ, zero, suc, ◌+◌, ◌-◌, ◌*◌, ◌/◌, ◌%◌, ◌^◌, ◌<◌, ◌≤◌, Bool, List, [], ◌∷◌, ◌++◌, length, replicate, take, get_or, refl, sym, ap, ap₂, ◌∙◌, arith, append_assoc, subst}
 use Rattle.std.specs.Simd.Lanes.{zip2}
 use Rattle.std.specs.List.{flat_map}
@@ -14,7 +14,7 @@ use borrow.Table.Row.{s_int}
 
 -- ---- one lane
 
--- a number of w bits behind s and a more of a word, of which 32 bits were taken s behind its first
+-- w bits of a word after its first s + a bits, taken from the 32 bits after its first s bits
 lane : (w s a word : ℕ) → s + a + w ≤ 64 → a + w ≤ 32
     → word * 2 ^ s % 2 ^ 64 / 2 ^ 32 * 2 ^ a % 2 ^ 32 / 2 ^ (32 - w) ≡ word / 2 ^ (64 - s - a - w) % 2 ^ w
 lane w s a word within short =
@@ -90,7 +90,7 @@ four_lanes word w half next power all small half_is next_is power_is is =
     (ap₂ ◌∷◌ (lane_at w (2 * w) w (64 - w - w - w - w) word next power next_is power_is (omega arith) (omega arith) (omega arith))
     refl)))
 
--- ---- what they spell
+-- ---- the bits of these numbers
 
 numbers_stand : (w n left word : ℕ) → w * n ≤ left
     → StandsBefore (binary w) (2 ^ w) (numbers_of_word w n left word) (binary (left - w * n) word) (binary left word)
@@ -112,14 +112,14 @@ numbers_stand w (suc n) left word within =
       below = (mod_below value (2 ^ w) (pow_pos w), rest.below);
     }
 
--- of more numbers the first ones
+-- the first n of m numbers of a word
 take-numbers_of_word : (w n m left word : ℕ) → n ≤ m → take n (numbers_of_word w m left word) ≡ numbers_of_word w n left word
 take-numbers_of_word w zero m left word fewer = refl
 take-numbers_of_word w (suc n) zero left word fewer = absurd (omega (arith, fewer))
 take-numbers_of_word w (suc n) (suc m) left word fewer =
     ap (λ (l : List ℕ). word / 2 ^ (left - w) % 2 ^ w ∷ l) (take-numbers_of_word w n m (left - w) word (omega (arith, fewer)))
 
--- in place of a list of as many, the first of m
+-- the first n of m numbers of a word, read into a list of n
 pub top_numbers_stand : (w n m word : ℕ) (numbers items : List ℕ) → length items ≡ n → n ≤ m → w * length items ≤ 64
     → numbers ≡ take n (numbers_of_word w m 64 word)
     → StandsBefore (binary w) (2 ^ w) numbers (binary (64 - w * length items) word) (word_bits word)

@@ -25,7 +25,7 @@ use Rattle.aec_bits.proofs.PackedLemmas.{bits_of_words-zeros, length-packed, pac
 
 -- ---- zeros past the end
 
--- the more zeros, the same front
+-- more zeros after a list don't change its first n bits
 pub take_padded : (n m : ℕ) (xs : List Bool) → n ≤ m → take n (xs ++ replicate m false) ≡ take n (xs ++ replicate n false)
 take_padded zero m xs enough = refl
 take_padded (suc n) m [] enough = take-replicate (suc n) m false enough ∙ sym (take-replicate (suc n) (suc n) false (omega arith))
@@ -41,7 +41,7 @@ get_or-zeros (w ∷ words) n (suc i) = get_or-zeros words n i
 shifted_twice : (word at : ℕ) → at < 64 → word / 2 / 2 ^ (63 - at) ≡ word / 2 ^ (64 - at)
 shifted_twice word at within = let e : 1 + (63 - at) ≡ 64 - at = omega arith in shr-shr word 1 (63 - at) ∙ ap (λ n. word / 2 ^ n) e
 
--- 64 bits of words that zeros follow
+-- a word joined from two words has the 64 bits from place `start` on; zeros follow the last word
 across_padded : (words : List ℕ) (start q at word : ℕ) → start ≡ 64 * q + at → at < 64 → start ≤ 64 * length words
     → word_bits word ≡ drop at (word_bits (get_or words q 0)) ++ take at (word_bits (get_or words (q + 1) 0))
     → word_bits word ≡ bits_from start 64 (bits_of_words words)
@@ -71,7 +71,7 @@ padded_bits words start first second within fits is_first is_second =
     ∙ ap (λ n. drop at (word_bits n) ++ take at (word_bits second)) is_first
     ∙ ap (λ n. drop at (word_bits (get_or words (start / 64) 0)) ++ take at (word_bits n)) is_second)
 
--- the same at the last word, and past the end
+-- so has the last word, shifted, if `start` is in it; past the end, so has 0
 pub padded_last : (words : List ℕ) (start first : ℕ) → start ≤ 64 * length words → length words ≤ start / 64 + 1
     → first ≡ get_or words (start / 64) 0 → word_bits (first * 2 ^ (start % 64) % 2 ^ 64) ≡ bits_from start 64 (bits_of_words words)
 padded_last words start first within last is =
@@ -80,7 +80,7 @@ padded_last words start first within last is =
     ap word_bits (sym (ap (λ n. bit_or (first * 2 ^ (start % 64) % 2 ^ 64) n) zeros ∙ or_zero_r (first * 2 ^ (start % 64) % 2 ^ 64)))
     ∙ padded_bits words start first 0 within (omega arith) is none
 
--- the words of a list and the list itself go on alike
+-- from a place of the list on, the words and the list have the same 64 bits
 pub bits_from-packed : (words : List ℕ) (len start : ℕ) → ArePacked words len → start ≤ len
     → bits_from start 64 (bits_of_words words) ≡ bits_from start 64 (take len (bits_of_words words))
 unfolding bits_from
@@ -105,7 +105,7 @@ whole_window list word start within same =
       same = same ∙ ap (λ n. bits_from n 64 list) (sym e);
     }
 
--- ---- no one in a window
+-- ---- no 1 in a window
 
 front_none : (n : ℕ) (xs ys : List Bool) → has_one (take n (xs ++ ys)) ≡ false → has_one (take n xs) ≡ false
 front_none zero xs ys none = refl
@@ -122,9 +122,9 @@ none_there list word left end start window whole place none =
     sym (binary-zero 64) ∙ ap (λ n. binary 64 n) (sym none) ∙ rw (here, whole) at window.same in
     front_none 64 (drop start list) (replicate 64 false) (ap has_one (sym zeros) ∙ has_one-zeros 64)
 
--- ---- the topmost one
+-- ---- the topmost 1
 
--- what a number below 64 lacks of 63
+-- 63 - n for n below 64, as code computes it
 lacks : (n : ℕ) → n < 64 → bit_xor n 63 ≡ 63 - n
 lacks n small = omega (arith, xor_add_and n 63, and_mask n 6, small)
 
@@ -138,7 +138,7 @@ top_place word some fits =
     let f : suc top.0 ≡ bit_xor (count_leading_zeros 64 word) 63 + 1 = omega (arith, e) in
     (omega (arith, is), rw e at top.2, rw f at top.3)
 
--- it stands within as many bits as the number has
+-- the topmost 1 of a number of `left` bits is below bit `left`
 pub top_below : (word left top : ℕ) → word < 2 ^ left → 2 ^ top ≤ word → top < left
 top_below word left top fits least =
     elim (cases_lt top left) [
@@ -149,7 +149,7 @@ top_below word left top fits least =
 pow-twice : (n : ℕ) → 2 ^ (n + 1) ≡ 2 ^ n + 2 ^ n
 pow-twice n = let e : n + 1 ≡ suc n = omega arith in ap (λ k. 2 ^ k) e ∙ omega (arith, pow-suc 2 n)
 
--- a number without its topmost one
+-- a number without its topmost 1, as code computes it
 pub without_top : (word top : ℕ) → top < 64 → 2 ^ top ≤ word → word < 2 ^ (top + 1) → bit_xor word (1 * 2 ^ top % 2 ^ 64) ≡ word - 2 ^ top
 without_top word top small least most =
     let double = pow-twice top in
@@ -179,7 +179,7 @@ sequence_first word left top small fits least most =
 
 -- ---- the first bits of a window
 
--- a shift by 64 stands for any where nothing is kept
+-- the first `width` bits of a window; with width 0 and left 64, code shifts by 0, and keeps no bit
 pub number_first : (word left width : ℕ) → width ≤ left → left ≤ 64 → width ≤ 32
     → binary left word ≡ binary width (bit_and (word / 2 ^ ((left - width) % 64)) (1 * 2 ^ width % 2 ^ 64 - 1)) ++ binary (left - width) word
 number_first word left width there size few =
@@ -199,7 +199,7 @@ number_first word left width there size few =
           rw (none, e) refl
     ]
 
--- what stands first in a window stands at its place of the list
+-- a codeword at the start of a window is in the list at the window's place
 pub codeword_first : (list codeword rest : List Bool) (n m : ℕ) → length codeword ≡ n → n ≤ length list
     → codeword ++ rest ≡ take (n + m) (list ++ replicate 64 false)
     → (list ≡ codeword ++ drop n list) × (rest ≡ take m (drop n list ++ replicate 64 false))
@@ -240,7 +240,7 @@ no_ones zero i = refl
 no_ones (suc n) zero = refl
 no_ones (suc n) (suc i) = no_ones n i
 
--- a one stands within the list, not in the zeros past its end
+-- the 1 of a fundamental sequence is within the list, not in the zeros past its end
 pub one_inside : (list rest : List Bool) (v k : ℕ) → v < k → fs v ++ rest ≡ take k (list ++ replicate 64 false) → v < length list
 one_inside list rest v k short stands =
     elim (cases_lt v (length list)) [

@@ -1,4 +1,4 @@
--- Laws of bits that are kept in words.
+-- Lemmas about bits that are kept in words.
 use Rattle.std.proofs.Common.{◌≡◌, ℕ, zero, suc, ◌+◌, ◌-◌, ◌*◌, ◌/◌, ◌%◌, ◌^◌, ◌<◌, ◌≤◌, Bool, List, [], ◌∷◌, ◌++◌, length, take, drop, set, get_or, refl, sym, ap, ◌∙◌, arith, append_assoc, length-append, mod-eq_of_lt, ap₂, mul_assoc, add-mul}
 use Rattle.std.specs.Prelude.{◌==◌, bit_and, bit_or}
 use Rattle.std.proofs.lemmas.Nat.{shr-shr, shr_high, mod_low, mod_below, pow_pos, pow-add, field_of, shl-shr, mod-pow-add, shr_below, shl_below, or_shifted, shl_whole, one_shl, and_mask}
@@ -55,7 +55,7 @@ bits_of_words-append (x ∷ xs) ys =
     ∙ sym (append_assoc (word_bits x) (bits_of_words xs) (bits_of_words ys))
     ∙ ap (λ (l : List Bool). l ++ bits_of_words ys) (sym (bits_of_words-cons x xs))
 
--- the bits of a word, cut in two
+-- the bits of a word, cut into two parts
 pub word_bits-cut : (a b w : ℕ) → a + b ≡ 64 → word_bits w ≡ binary a (w / 2 ^ b) ++ binary b w
 unfolding word_bits
 word_bits-cut a b w whole = ap (λ (n : ℕ). binary n w) (sym whole) ∙ binary-add a b w
@@ -77,7 +77,7 @@ binary-mod w v = binary-same w (v % 2 ^ w) v (mod-eq_of_lt (mod_below v (2 ^ w) 
 
 -- ---- a part of a word
 
--- shifted to the top and then to the bottom
+-- a part of a word, shifted to the top and then to the bottom
 pub part_value : (at width rest w : ℕ) → w * 2 ^ at % 2 ^ (width + (at + rest)) / 2 ^ (at + rest) ≡ w / 2 ^ rest % 2 ^ width
 part_value at width rest w =
     field_of (w * 2 ^ at) width (at + rest)
@@ -143,21 +143,21 @@ bits_of_words-take ws q within =
     = ap bits_of_words (sym (take-append-drop q ws)) ∙ bits_of_words-append (take q ws) (drop q ws) in
     sym (ap (take (64 * q)) whole ∙ take_at (bits_of_words (take q ws)) (bits_of_words (drop q ws)) (64 * q) long)
 
--- from a word on: the word, and those after it
+-- the bits from word q on: this word, and the words after it
 pub from_word : (ws : List ℕ) (q d : ℕ) → q < length ws
     → drop (64 * q) (bits_of_words ws) ≡ word_bits (get_or ws q d) ++ bits_of_words (drop (q + 1) ws)
 from_word ws q d within =
     sym (bits_of_words-drop ws q (omega arith)) ∙ ap bits_of_words (drop_more ws q d within)
     ∙ bits_of_words-cons (get_or ws q d) (drop (q + 1) ws)
 
--- from a place within a word on
+-- the bits from a place within word q on: the rest of this word, and the words after it
 pub from_place : (ws : List ℕ) (q at d : ℕ) → q < length ws → at ≤ 64
     → drop (64 * q + at) (bits_of_words ws) ≡ drop at (word_bits (get_or ws q d)) ++ bits_of_words (drop (q + 1) ws)
 from_place ws q at d within small =
     sym (drop-drop at (64 * q) (bits_of_words ws)) ∙ ap (drop at) (from_word ws q d within)
     ∙ drop-append-le at (word_bits (get_or ws q d)) (bits_of_words (drop (q + 1) ws)) (omega (arith, length-word_bits (get_or ws q d)))
 
--- a number that stands in one word
+-- a number within one word is at its place among the words
 pub number_in_word : (ws : List ℕ) (start q at width d v : ℕ) → start ≡ 64 * q + at → q < length ws → at + width ≤ 64
     → drop at (word_bits (get_or ws q d)) ≡ binary width v ++ drop (at + width) (word_bits (get_or ws q d))
     → drop start (bits_of_words ws) ≡ binary width v ++ drop (start + width) (bits_of_words ws)
@@ -168,7 +168,7 @@ number_in_word ws start q at width d v place within small stands =
     (ap (λ (n : ℕ). drop n (bits_of_words ws)) place ∙ from_place ws q at d within (omega arith)
     ∙ ap (λ (l : List Bool). l ++ rest) stands ∙ append_assoc (binary width v) after rest)
 
--- 64 bits that stand in two words
+-- 64 bits that are in two words
 pub word_across : (ws : List ℕ) (start q at d word : ℕ) → start ≡ 64 * q + at → q + 1 < length ws → at ≤ 64
     → word_bits word ≡ drop at (word_bits (get_or ws q d)) ++ take at (word_bits (get_or ws (q + 1) d))
     → drop start (bits_of_words ws) ≡ word_bits word ++ drop (start + 64) (bits_of_words ws)
@@ -184,7 +184,7 @@ word_across ws start q at d word place within small stands =
     ∙ ap (λ (l : List Bool). first ++ l) behind ∙ sym (append_assoc first (take at second) (drop at second ++ rest))
     ∙ ap (λ (l : List Bool). l ++ (drop at second ++ rest)) (sym stands))
 
--- the first bits of 64 that stand there
+-- a number at the start of 64 bits that begin at a place
 pub number_in_front : (bits : List Bool) (start width word v : ℕ) → drop start bits ≡ word_bits word ++ drop (start + 64) bits
     → drop 0 (word_bits word) ≡ binary width v ++ drop (0 + width) (word_bits word)
     → drop start bits ≡ binary width v ++ drop (start + width) bits
@@ -193,9 +193,9 @@ number_in_front bits start width word v there stands =
     rest_after bits (binary width v) (after ++ drop (start + 64) bits) start width (length-binary width v)
     (there ∙ ap (λ (l : List Bool). l ++ drop (start + 64) bits) stands ∙ append_assoc (binary width v) after (drop (start + 64) bits))
 
--- ---- a word of which a part was overwritten
+-- ---- a word in which a part was overwritten
 
--- the three parts as one number
+-- a word's bits before and after a part, joined with a new part: one number
 put_value : (word at width behind value : ℕ) → at + (width + behind) ≡ 64 → 0 < width → word < 2 ^ 64 → value < 2 ^ width
     → bit_or (bit_or (bit_and word (2 ^ 64 - 1 - (2 ^ 64 - 1) / 2 ^ at)) (value * 2 ^ behind % 2 ^ 64)) (bit_and word (1 * 2 ^ behind % 2 ^ 64 - 1))
     ≡ (word / 2 ^ (width + behind) * 2 ^ width + value) * 2 ^ behind + word % 2 ^ behind
@@ -236,7 +236,7 @@ put_bits word at width value within some small fits =
     ∙ ap₂ (λ (xs ys : List Bool). xs ++ (binary width value ++ ys)) (sym (take-word_bits at (width + behind) word e))
     (sym (drop-word_bits (at + width) behind word f))
 
--- ---- words of which one was overwritten
+-- ---- words in which one was overwritten
 
 pub bits_of_words-set : (ws : List ℕ) (q v : ℕ) → q < length ws
     → bits_of_words (set ws q v) ≡ take (64 * q) (bits_of_words ws) ++ (word_bits v ++ bits_of_words (drop (q + 1) ws))
@@ -247,7 +247,7 @@ bits_of_words-set ws q v within =
     ∙ ap₂ ◌++◌ (bits_of_words-take ws q (omega arith)) (bits_of_words-cons v (drop (suc q) ws))
     ∙ ap (λ (n : ℕ). take (64 * q) (bits_of_words ws) ++ (word_bits v ++ bits_of_words (drop n ws))) e
 
--- a stretch within one word
+-- a stretch overwritten within one word
 pub put_in_words : (ws : List ℕ) (start q at n d v : ℕ) (new : List Bool) → start ≡ 64 * q + at → q < length ws → at + n ≤ 64
     → word_bits v ≡ overwritten at n new (word_bits (get_or ws q d))
     → bits_of_words (set ws q v) ≡ overwritten start n new (bits_of_words ws)
@@ -267,7 +267,7 @@ put_in_words ws start q at n d v new place within small written =
 pub low_part : (value over : ℕ) → over < 64 → bit_and value (1 * 2 ^ over % 2 ^ 64 - 1) ≡ value % 2 ^ over
 low_part value over within = ap (λ (n : ℕ). bit_and value (n - 1)) (one_shl over 64 within) ∙ and_mask value over
 
--- a number that reaches from one word into the next
+-- a number written across two words
 pub put_across : (ws : List ℕ) (start q at width over d first second value low : ℕ) → low ≡ value % 2 ^ over
     → start ≡ 64 * q + at → q + 1 < length ws → at + width ≡ 64 + over → over ≤ width → width ≤ 64
     → word_bits first ≡ overwritten at (width - over) (binary (width - over) (value / 2 ^ over)) (word_bits (get_or ws q d))

@@ -1,4 +1,4 @@
--- Refused edits of zeros, at most sixty-five of them, computed from the definitions.
+-- Refusals of edits of lists of zeros, with a limit of 65 samples, computed from the definitions.
 use Rattle.std.proofs.Common.{◌≡◌, ℕ, pos, Option, Some, None, [], ◌∷◌, replicate, map, refl}
 use Rattle.aec_params.specs.declared.fault.Fault.{Fault}
 use Rattle.aec_params.specs.declared.fault.Fault.TheVariants.{SampleRange, TooManySamples, OutOfRange}
@@ -7,7 +7,7 @@ use Rattle.aec_params.specs.declared.edit.Edit.TheVariants.{Insert, Remove}
 use Rattle.aec_bits.specs.Refusals.{refusal_of}
 use Rattle.aec_bits.specs.Octets.{octets}
 
--- why an edit of so many zeros is refused
+-- why an edit of `count` zeros is refused, if it is
 abbrev refusal : ℕ → Edit → Option Fault
 refusal count edit = refusal_of octets 65 (map pos (replicate count 0)) edit
 

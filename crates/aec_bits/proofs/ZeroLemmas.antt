@@ -1,4 +1,4 @@
--- Laws of zeros that stand before a one, in a word and among words.
+-- Lemmas about zeros before a 1, in one word and across words.
 use Rattle.std.proofs.Common.{◌≡◌, ℕ, zero, suc, ◌+◌, ◌-◌, ◌*◌, ◌/◌, ◌%◌, ◌^◌, ◌<◌, ◌≤◌, Bool, true, false, List, [], ◌∷◌, ◌++◌, length, drop, replicate, get_or, refl, sym, ap, ◌∙◌, arith, append_assoc, pow-suc, pow_mono, lt_of_lt_of_le, ap₂, inl, inr}
 use Rattle.std.specs.Prelude.{◌==◌, bit_and}
 use Rattle.std.proofs.Math.Nat.{div-eq_of_lt}
@@ -22,7 +22,7 @@ pub binary-zero : (n : ℕ) → binary n 0 ≡ replicate n false
 binary-zero zero = refl
 binary-zero (suc n) = ap (λ (k : ℕ). (k % 2 == 1) ∷ binary n 0) (zero_div n) ∙ ap (λ (l : List Bool). false ∷ l) (binary-zero n)
 
--- zeros, the topmost one, and the bits below it
+-- a number in n bits: zeros, its topmost 1, and the bits below it
 pub binary_topmost : (n zeros j v : ℕ) → n ≡ zeros + suc j → 2 ^ j ≤ v → v < 2 ^ suc j → binary n v ≡ fs zeros ++ binary j v
 binary_topmost n zeros j v whole above below =
     let none : v / 2 ^ suc j ≡ 0 = div-eq_of_lt below in
@@ -40,8 +40,7 @@ binary_topmost n zeros j v whole above below =
 pub low_mask : (word at : ℕ) → at ≤ 64 → bit_and word ((2 ^ 64 - 1) / 2 ^ at) ≡ word % 2 ^ (64 - at)
 low_mask word at within = ap (bit_and word) (ones_shr 64 at within) ∙ and_mask word (64 - at)
 
--- how many zeros stand from a place of a word on: that many fewer than at the front of what is left
--- of it there
+-- zeros from place `at` of a word up to the next 1: the leading zeros of the lower bits, less `at`
 pub zeros_in : (word at rest : ℕ) → rest ≡ word % 2 ^ (64 - at) → at < 64 → 0 < rest
     → (at ≤ count_leading_zeros 64 rest) × ((at + (count_leading_zeros 64 rest - at) < 64)
     × (drop at (word_bits word) ≡ fs (count_leading_zeros 64 rest - at) ++ drop (at + (count_leading_zeros 64 rest - at) + 1) (word_bits word)))
@@ -75,9 +74,9 @@ none_in word at within none =
     let whole : at + (64 - at) ≡ 64 = omega arith in
     drop-word_bits at (64 - at) word whole ∙ sym (binary-mod (64 - at) word) ∙ ap (binary (64 - at)) none ∙ binary-zero (64 - at)
 
--- ---- among words
+-- ---- across words
 
--- a word with nothing but zeros
+-- if a word has only zeros from place `at` on, there are zeros up to the next word
 pub zeros_past_word : (ws : List ℕ) (start i at d : ℕ) → start ≤ 64 * i + at → at ≤ 64 → i < length ws
     → drop start (bits_of_words ws) ≡ replicate (64 * i + at - start) false ++ drop (64 * i + at) (bits_of_words ws)
     → drop at (word_bits (get_or ws i d)) ≡ replicate (64 - at) false
@@ -94,7 +93,7 @@ zeros_past_word ws start i at d below small within so_far none =
     ∙ ap₂ (λ (n : ℕ) (l : List Bool). replicate n false ++ l) count
     (bits_of_words-drop ws (i + 1) (omega arith) ∙ ap (λ (n : ℕ). drop n (bits_of_words ws)) e)
 
--- a word with a one
+-- if a word has v zeros and a 1 from place `at` on, the zeros and this 1 are a fundamental sequence
 pub zeros_up_to_one : (ws : List ℕ) (start i at d v zeros : ℕ) → start ≤ 64 * i + at → at + v < 64 → i < length ws → zeros ≡ 64 * i + (at + v) - start
     → drop start (bits_of_words ws) ≡ replicate (64 * i + at - start) false ++ drop (64 * i + at) (bits_of_words ws)
     → drop at (word_bits (get_or ws i d)) ≡ fs v ++ drop (at + v + 1) (word_bits (get_or ws i d))
@@ -116,7 +115,7 @@ zeros_up_to_one ws start i at d v zeros below within inside count so_far stands 
     ∙ ap (λ (l : List Bool). l ++ (after ++ rest)) joined)
     ∙ ap (λ (k : ℕ). fs zeros ++ drop k (bits_of_words ws)) (sym one)
 
--- where zeros and a one stand, there is a one
+-- bits that begin with a fundamental sequence have a 1
 pub has_one-fs : (bits rest : List Bool) (v : ℕ) → bits ≡ fs v ++ rest → has_one bits ≡ true
 has_one-fs bits rest v e = ap has_one e ∙ found v
   where

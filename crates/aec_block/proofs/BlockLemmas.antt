@@ -1,11 +1,11 @@
--- What a block's shape says of its values.
+-- What a block's shape says about its values.
 use Rattle.std.proofs.Common.{◌≡◌, ℕ, ◌≤◌, arith, ap, Option, Some, None, List, length}
 use Rattle.aec_params.specs.Blocks.{Block}
 use Rattle.aec_params.specs.Places.{placed_values}
 use Rattle.aec_params.specs.Spellings.{after_reference}
 use Rattle.aec_block.specs.BlockShape.{IsSound}
 
--- with a reference there is a value in the reference place
+-- a block with a reference has a value in the reference place
 placed-some : (r : ℕ) (reference : Option ℕ) (values : List ℕ) → reference ≡ Some r
     → values ≡ placed_values reference (after_reference reference values) → 1 ≤ length values
 placed-some r None values is placed = absurd (cc)

@@ -19,12 +19,12 @@ use Rattle.aec_block.specs.declared.choice.Coding.TheVariants.{NoCompression, Se
 use Rattle.aec_block.specs.Lengths.{sum_of_shifted, pairs_length, split_values_length, IsBestSplit, uncompressed_length, paired_length, split_length}
 use Rattle.aec_block.proofs.LengthLemmas.{length-uncompressed, length-paired, length-split}
 
--- the first of the shortest among no compression, second extension and the first so many splitting
+-- the first of the shortest among no compression, second extension and the first `count` splitting
 -- options
 abbrev pub best_among : Settings → Block → ℕ → CodedDataSet
 best_among s b count = best_of (is_shorter s) (uncompressed b) (paired b ∷ map (split b) (range_with_len 0 count))
 
--- the shorter of two, and of equal ones the first
+-- the shorter of two; if both are equally long, the first
 abbrev pub shorter : Settings → CodedDataSet → CodedDataSet → CodedDataSet
 shorter s best next = cond (is_shorter s next best) next best
 
@@ -34,7 +34,7 @@ best_among-more s b k =
     ap (λ (sets : List CodedDataSet). best_of (is_shorter s) (uncompressed b) (paired b ∷ sets)) longer
     ∙ fold_push (λ (best next : CodedDataSet). shorter s best next) (uncompressed b) (paired b ∷ map (split b) (range_with_len 0 k)) (split b k)
 
--- one more option: the code compares numbers, the definition the lengths of two spellings
+-- one more option: code compares numbers, the definition compares the lengths of two spellings
 names-decided : (s : Settings) (b : Block) (c d : CodedDataSet) (coding : Coding) (bits : ℕ) (best next : Choice) (test : Bool)
     → Names s b d best → spelling_by b coding ≡ c → bits ≡ length (cds_bits s c)
     → next ≡ (if test then record { coding = coding; bits = bits } else best) → Names s b (cond test c d) next
@@ -52,7 +52,7 @@ names-shorter s b c d coding bits best next named by len is =
     is ∙ ap (λ (t : Bool). if t then record { coding = coding; bits = bits } else best) test in
     names-decided s b c d coding bits best next (is_shorter s c d) named by len chosen
 
--- the loop's steps
+-- the choice after each step of the loop over the options
 pub names-first : (s : Settings) (b : Block) (plain pairs : ℕ) (next : Choice) → plain ≡ uncompressed_length s b → pairs ≡ paired_length s b
     → next ≡ (if nat_lt pairs plain then record { coding = SecondExtension; bits = pairs } else record { coding = NoCompression; bits = plain })
     → Names s b (best_among s b 0) next
@@ -60,9 +60,9 @@ names-first s b plain pairs next at_plain at_pairs is =
     names-shorter s b (paired b) (uncompressed b) SecondExtension pairs (record { coding = NoCompression; bits = plain }) next
     (record { coding = refl; bits = at_plain ∙ sym (length-uncompressed s b) }) refl (at_pairs ∙ sym (length-paired s b)) is
 
--- ---- one splitting option stands for all
+-- ---- the best splitting option instead of all splitting options
 
--- the best so far, or the next where it is shorter
+-- the best so far, or the next if it is shorter
 abbrev pick : {X : Type 0} → (X → ℕ) → X → X → X
 pick f best next = cond (nat_lt (f next) (f best)) next best
 
@@ -72,12 +72,12 @@ pick-next f best next less = cond-true (nat_lt (f next) (f best)) next best (lt-
 pick-best : {X : Type 0} (f : X → ℕ) (best next : X) → f best ≤ f next → pick f best next ≡ best
 pick-best f best next more = cond-false (nat_lt (f next) (f best)) next best (le-ltb (f next) (f best) more)
 
--- what is longer than the last needn't be tried
+-- an option that is longer than the next one needn't be tried
 pick-skip : {X : Type 0} (f : X → ℕ) (x y z : X) → f z < f y → pick f (pick f x y) z ≡ pick f x z
 pick-skip f x y z less = cond_both (nat_lt (f y) (f x)) y x (λ w. pick f w z ≡ pick f x z)
     (λ t. let l = ltb-true (f y) (f x) t in pick-next f y z less ∙ sym (pick-next f x z (omega arith))) (λ t. refl)
 
--- nor what is no shorter than one that was tried
+-- an option that isn't shorter than the one tried before it needn't be tried
 pick-keep : {X : Type 0} (f : X → ℕ) (x y z : X) → f y ≤ f z → pick f (pick f x y) z ≡ pick f x y
 pick-keep f x y z more =
     let within : f (pick f x y) ≤ f y = cond_both (nat_lt (f y) (f x)) y x (λ w. f w ≤ f y) (λ t. omega arith)
@@ -151,16 +151,16 @@ names-split s b options k best next named count is_best is =
     subst Q count (subst P (sym (best_among-best s b options k is_best))
     (names-shorter s b (split b k) (best_among s b 0) (Split k) (split_length s b k) best next named refl (sym (length-split s b k)) is))
 
--- ---- where the second extension can't win
+-- ---- when the second extension can't win
 
--- beyond the limit it is longer than any choice so far
+-- above 2^31 bits, the second extension is longer than any best choice so far of at most 2^31 bits
 pub pairs-too_long : (pairs : ℕ) (best : Choice) (c : Choice) → 2 ^ 31 < pairs → best.bits ≤ 2 ^ 31
     → best ≡ (if nat_lt pairs best.bits then c else best)
 pairs-too_long pairs best c long short = sym (cond-false (nat_lt pairs best.bits) c best (le-ltb pairs best.bits (omega arith)))
 
 pub ruleset too_long = (pairs-too_long)
 
--- a pair's codeword has at least twice as many bits as the pair adds up to
+-- if a pair adds up to t, its codeword has at least 2 * t bits
 four_times : (t : ℕ) → 4 * t ≤ t * (t + 1) + 2
 four_times zero = omega arith
 four_times (suc zero) = omega arith
@@ -190,7 +190,7 @@ sum_of_written : (reference : Option ℕ) (values : List ℕ) → sum_of_shifted
 sum_of_written None values = omega arith
 sum_of_written (Some r) values = sum_of_shifted-drop values
 
--- a great sum of the values, or a k past 0
+-- if k 0 isn't the best, or has at least 2 bits a value, the values add up to their number or more
 sum-great : (values : List ℕ) (options k bits : ℕ) → IsBestSplit options k values → bits ≡ split_values_length k values
     → (k ≡ 0 → 2 * length values ≤ bits) → (length values ≤ sum_of_shifted 0 values) × (split_values_length k values ≤ split_values_length 0 values)
 sum-great values options zero bits best is many =
@@ -212,7 +212,7 @@ pairs-longer s b options k bits a full best is many =
     let first = great.1 in
     omega arith
 
--- what the test says
+-- the test: there is a splitting option, and k is above 0 or has at least `least` bits
 some_options : (options : ℕ) (rest : Bool) → (nat_lt 0 options && rest) ≡ true → 0 < options
 some_options options rest test = ltb-true 0 options (and_parts (nat_lt 0 options) rest test).0
 
@@ -220,7 +220,8 @@ many_bits : (k least bits : ℕ) → (nat_lt 0 k || nat_le least bits) ≡ true 
 many_bits zero least bits test is = leb-true least bits test
 many_bits (suc k) least bits test is = absurd (omega arith)
 
--- the second extension is left out where splitting is shorter
+-- if the test holds, the best splitting option is shorter than the second extension, and the choice
+-- is made without it
 pub names-unpaired : (s : Settings) (b : Block) (options k bits plain : ℕ) (next : Choice) → IsAllowed s → IsFull s b
     → plain ≡ uncompressed_length s b → options ≡ split_count s → (0 < options → IsBestSplit options k (written_values b))
     → bits ≡ split_values_length k (written_values b)
@@ -242,7 +243,6 @@ names-unpaired s b options k bits plain next a full at_plain count best at_bits 
     (names-shorter s b (split b k) (uncompressed b) (Split k) (split_length s b k) (record { coding = NoCompression; bits = plain }) next
     (record { coding = refl; bits = at_plain ∙ sym (length-uncompressed s b) }) refl (sym at_split) is))
 
--- a splitting option that is the best among so many is one of them
 same-k : (b : Block) (j k : ℕ) → split b j ≡ split b k → j ≡ k
 same-k b j k e = let body = ap (λ (c : CodedDataSet). c.body) e in cc
 
@@ -254,6 +254,7 @@ split-next : (b : Block) (c : CodedDataSet) (j k : ℕ) (test : Bool) → (c ≡
 split-next b c j k true before e = let same = same-k b j k e in omega arith
 split-next b c j k false before e = let below = before e in omega arith
 
+-- if `best_among` with `count` is a splitting option, its k is below `count`
 best_among-split : (s : Settings) (b : Block) (count k : ℕ) → best_among s b count ≡ split b k → k < count
 best_among-split s b zero k e = absurd (split-first s b k (is_shorter s (paired b) (uncompressed b)) e)
 best_among-split s b (suc j) k e =

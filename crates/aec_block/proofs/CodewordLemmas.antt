@@ -1,5 +1,5 @@
--- Fundamental sequences and numbers in so many bits: what was spelled is read back, and what is
--- read was spelled.
+-- Fundamental sequences and binary numbers: what was spelled is read back, and what is read was
+-- spelled.
 use Rattle.std.proofs.Common.{◌≡◌, ℕ, zero, suc, ◌+◌, ◌*◌, ◌/◌, ◌%◌, ◌^◌, ◌<◌, ◌≤◌, Bool, true, false, ◌==◌, cond, List, [], ◌∷◌, ◌++◌, length, take, drop, refl, sym, ap, ◌∙◌, add-one, append_assoc, arith, inl, inr, zero-add, ◌⊎◌}
 use Rattle.std.specs.List.{AllByRecursion, flat_map}
 use Rattle.std.proofs.lemmas.Nat.{mod-pow-add, pow_pos, pow-add, shr-shr, shr_high}
@@ -52,13 +52,13 @@ fs_at-spelled (false ∷ bits) v rest e =
     let next : suc m.value ≡ v = sym (add-one m.value) ∙ m.after in
     rw (← next) (ap (λ l. false ∷ l) spelled)
 
--- ---- numbers in so many bits
+-- ---- binary numbers of w bits
 
 pub length-binary : (w v : ℕ) → length (binary w v) ≡ w
 length-binary zero v = refl
 length-binary (suc w) v = let e = length-binary w v in omega arith
 
--- a bit as the number that it stands for
+-- the number that the lowest bit of v means at a place of weight p
 bit_number : (v p : ℕ) → cond (v % 2 == 1) p 0 ≡ v % 2 * p
 bit_number v p = grind arith
 
@@ -73,7 +73,7 @@ bits_number-lt [] = omega arith
 bits_number-lt (true ∷ bits) = omega (arith, pow-suc 2 (length bits), bits_number-lt bits)
 bits_number-lt (false ∷ bits) = omega (arith, pow-suc 2 (length bits), bits_number-lt bits)
 
--- higher bits do not show
+-- bits above bit w add an even number of 2 ^ w
 even_above : (w d x : ℕ) → x * 2 ^ (suc w + d) ≡ x * 2 ^ d * 2 * 2 ^ w
 even_above w d x = rw (pow-add 2 (suc w) d, pow-suc 2 w) (omega arith)
 

@@ -1,4 +1,4 @@
--- What a reader of bits answers, as what is taken from the bits that are left.
+-- What a reader of bits returns, stated as what is taken from the bits that are left.
 use Rattle.std.proofs.Common.{◌≡◌, ℕ, zero, suc, ◌+◌, ◌*◌, ◌^◌, ◌<◌, ◌≤◌, Bool, true, false, Result, Ok, Err, List, [], ◌∷◌, ◌++◌, length, drop, refl, ap, ◌∙◌, inl, inr, arith}
 use Rattle.std.specs.Prelude.{IfOk, IfErr, OnOk, MatchResult}
 use Rattle.std.specs.List.{flat_map}
@@ -40,7 +40,7 @@ sequence_taken old new (Err e) bits moves refuses same = fs_at-missing (bits_at 
 
 -- ---- numbers in a row
 
--- too few bits are left for all of them
+-- if too few bits are left for n numbers, nothing is taken
 pub values_at-missing : (w n : ℕ) (bits : List Bool) → length bits < w * n → values_at (binary_at w) n bits ≡ nothing
 values_at-missing w zero bits short = absurd (omega arith)
 values_at-missing w (suc n) bits short =
@@ -69,7 +69,7 @@ sequences_taken old new before after bits count same =
     rw (same, ← count) (ap (values_at fs_at (length after)) bits
     ∙ values_at-reads fs (λ v. Unit {0}) fs_at fs_reader after (drop new.pos old.list) (all_numbers after))
 
--- how far a cursor goes over what stands before it
+-- a cursor that moves past `front` moves by the length of `front`
 pub gone_over : (old new : ℕ) (list front : List Bool) → old ≤ length list → new ≤ length list → drop old list ≡ front ++ drop new list
     → new ≡ old + length front
 gone_over old new list front from to stands =

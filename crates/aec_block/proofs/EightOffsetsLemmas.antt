@@ -14,7 +14,7 @@ use mir.Syntax.{unsigned, w32, wrap_add, wrap_sub, lt, mask}
 use borrow.Rule.Simd.Lanes.{act2}
 use borrow.Table.Row.{s_int}
 
--- one place on, behind another
+-- the first seven of eight numbers, after another number
 pub shifted_list : (p : ℕ) (xs : List ℕ) → length xs ≡ 8
     → p ∷ get_or xs 0 0 ∷ get_or xs 1 0 ∷ get_or xs 2 0 ∷ get_or xs 3 0 ∷ get_or xs 4 0 ∷ get_or xs 5 0 ∷ get_or xs 6 0 ∷ [] ≡ p ∷ take 7 xs
 shifted_list p (a ∷ b ∷ c ∷ d ∷ e ∷ f ∷ g ∷ h ∷ []) long = refl
@@ -28,7 +28,7 @@ shifted_list p (a ∷ b ∷ c ∷ d ∷ e ∷ f ∷ []) long = absurd (omega ari
 shifted_list p (a ∷ b ∷ c ∷ d ∷ e ∷ f ∷ g ∷ []) long = absurd (omega arith)
 shifted_list p (a ∷ b ∷ c ∷ d ∷ e ∷ f ∷ g ∷ h ∷ i ∷ more) long = absurd (omega arith)
 
--- the lesser ones
+-- the lesser number of each lane
 abbrev pub lesser_list : List ℕ → List ℕ → List ℕ
 lesser_list xs ys = sel_l (map (lane_top 31) (zip2 (act2 (mask (lt unsigned)) (s_int w32) (s_int w32) (s_int w32)) xs ys)) xs ys
 
@@ -45,7 +45,7 @@ lesser_lane xs ys long_xs long_ys i within =
     lesser_one : (x y : ℕ) → cond (nat_lt x y) x y ≡ min x y
     lesser_one x y = grind (arith, nat_tests)
 
--- the greater ones: the second where the first is less
+-- the greater number of each lane: the second if the first is less
 pub greater_lane : (xs ys : List ℕ) → length xs ≡ 8 → length ys ≡ 8 → (i : ℕ) → i < 8
     → get_or (sel_l (map (lane_top 31) (zip2 (act2 (mask (lt unsigned)) (s_int w32) (s_int w32) (s_int w32)) xs ys)) ys xs) i 0
     ≡ max (get_or xs i 0) (get_or ys i 0)
@@ -60,7 +60,7 @@ greater_lane xs ys long_xs long_ys i within =
     greater_one : (x y : ℕ) → cond (nat_lt x y) y x ≡ max x y
     greater_one x y = grind (arith, nat_tests)
 
--- sums and differences
+-- the sum and the difference of each lane
 pub sum_lane : (xs ys : List ℕ) → length xs ≡ 8 → length ys ≡ 8 → (i : ℕ) → i < 8
     → get_or (zip2 (act2 wrap_add (s_int w32) (s_int w32) (s_int w32)) xs ys) i 0 ≡ (get_or xs i 0 + get_or ys i 0) % 2 ^ 32
 sum_lane xs ys long_xs long_ys i within =
@@ -85,7 +85,7 @@ lane_reached top p x = min (lane_distance p x) ((offset_room top p + lane_below 
 abbrev lane_mapped : ℕ → ℕ → ℕ → ℕ
 lane_mapped top p x = ((lane_distance p x + lane_reached top p x) % 2 ^ 32 + (2 ^ 32 - lane_below p x)) % 2 ^ 32
 
--- from a distance d, a place more of the room or none
+-- the mapped value at distance d from the prediction: b is 1 below the prediction, else 0
 abbrev from_distance : ℕ → ℕ → ℕ → ℕ
 from_distance room d b = ((d + min d ((room + b) % 2 ^ 32)) % 2 ^ 32 + (2 ^ 32 - b)) % 2 ^ 32
 
@@ -180,7 +180,7 @@ length-mapped_offsets : (top p : ℕ) (xs : List ℕ) → length (mapped_offsets
 length-mapped_offsets top p [] = refl
 length-mapped_offsets top p (x ∷ xs) = omega (arith, length-mapped_offsets top x xs)
 
--- what each lane computes, one step after the other
+-- the steps that each lane computes, in order
 pub eight_mapped : (top p : ℕ) (xs before above least distances far below rooms more reached twice result : List ℕ) → top < 2 ^ 32 → p ≤ top
     → AllByRecursion (λ x. x ≤ top) xs → length xs ≡ 8 → length result ≡ 8
     → before ≡ p ∷ take 7 xs

@@ -1,4 +1,4 @@
--- A block that has begun anew, and is filled with what was read.
+-- A block that was begun anew, and is filled with the values that were read.
 use Rattle.std.proofs.Common.{◌≡◌, ℕ, ◌-◌, ◌<◌, ◌≤◌, Bool, true, false, Option, Some, None, Result, Ok, Err, List, [], ◌∷◌, ◌++◌, length, take, drop, refl, sym, ap, ◌∙◌, append_assoc, arith}
 use Rattle.std.specs.Option.{is_some}
 use Rattle.std.specs.Prelude.{option_map}
@@ -34,7 +34,7 @@ option_map-when f false x = refl
 
 -- ---- the block
 
--- a block of n values with a reference or without, of which so many stand in the reference place
+-- a block of n values, with a reference and 0 in the reference place, or without
 pub record HasBegun (n : ℕ) (reference inside : Option ℕ) (items : List ℕ) : Type 0 where
   pub same : inside ≡ reference
   pub count : length items ≡ n
@@ -50,7 +50,7 @@ begun n reference inside items block view is_reference count place =
       place = rw same at place;
     }
 
--- how many values stand behind the reference place
+-- how many values follow the first `first` ones
 count_behind : (n first : ℕ) (reference inside : Option ℕ) (items shown : List ℕ) → HasBegun n reference inside items → shown ≡ items → first ≤ n
     → length (take (length shown - first) (drop first shown)) ≡ n - first
 count_behind n first reference inside items shown b same within =
@@ -67,7 +67,7 @@ front : (reference : Option ℕ) (items values : List ℕ) → HasReferencePlace
 front None items values place = refl
 front (Some r) items values place = ap (λ l. take 1 l ++ values) place
 
--- the values put behind the reference place, whatever stands behind those
+-- values put after the reference place fill the block, whatever follows them
 refilled : (n first : ℕ) (reference inside : Option ℕ) (items shown values behind : List ℕ) → HasBegun n reference inside items → shown ≡ items
     → first ≡ length (placed_values reference []) → first ≤ n → length values ≡ n - first
     → refill (length items) items (take first shown ++ (values ++ behind)) ≡ placed_values reference values
@@ -93,8 +93,8 @@ block_filled : (n first : ℕ) (reference inside : Option ℕ) (items shown valu
 block_filled n first reference inside items shown values behind b same is_first within count =
     rw (b.same, refilled n first reference inside items shown values behind b same is_first within count) refl
 
--- the block that has begun anew, and the values behind its reference place, as many as a coded data
--- set writes
+-- after its reference place the begun block has as many places as a coded data set writes values,
+-- and filled with values it is their block
 pub record IsFilled (s : Settings) (first : ℕ) (reference inside : Option ℕ) (items shown values behind : List ℕ) : Type 0 where
   pub count : length (take (length shown - first) (drop first shown)) ≡ written_count s (is_some reference)
   pub block : block_of_values reference values
@@ -110,7 +110,7 @@ filled_behind s n first reference inside items shown values behind b same is_fir
       block = block_filled n first reference inside items shown values behind b same is_first within (len ∙ count);
     }
 
--- ---- by each option
+-- ---- filled by each option
 
 pub uncompressed_filled : (reference : Option ℕ) (bits width count n : ℕ) (start rest : List Bool) (values : List ℕ) (block : Block)
     (result : Result (Unit {0}) Fault)
@@ -159,7 +159,7 @@ pairs_filled reference placed limit count n start rest values block result some 
     (ap (λ m. map_taken (small_members limit (is_some reference)) (members_at m start)) (sym same)
     ∙ (ap (λ b. map_taken (small_members limit b) (members_at n start)) (sym is_placed) ∙ read))
 
--- all values written at once
+-- if all n values are written, they are the block's values
 refilled_all : (n : ℕ) (reference inside : Option ℕ) (items values : List ℕ) → HasBegun n reference inside items → length values ≡ n
     → refill (length items) items values ≡ values
 refilled_all n reference inside items values b count =

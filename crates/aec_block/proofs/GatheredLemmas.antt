@@ -1,4 +1,4 @@
--- Bits of a number joined to those gathered before.
+-- The bits of a number joined to bits gathered before.
 use Rattle.std.proofs.Common.{◌≡◌, ℕ, ◌+◌, ◌*◌, ◌%◌, ◌^◌, ◌<◌, ◌≤◌, ◌++◌, ap, ◌∙◌, sym, arith, Bool, List, [], length, append_assoc, append-nil, length-append}
 use Rattle.std.proofs.lemmas.Nat.{shl_whole, mul-add-lt, pow-add}
 use Rattle.std.proofs.Math.Pow.{pow_mono}
@@ -7,7 +7,7 @@ use Rattle.aec_bits.proofs.WordLemmas.{binary-join}
 use Rattle.aec_bits.proofs.BitBufLemmas.{binary-one}
 use Rattle.aec_block.proofs.LengthLemmas.{length-fs, length-binary}
 
--- a word of so many bits, moved up to let in a number
+-- a word of `used` bits, shifted left by `width` bits, plus a number of `width` bits
 pub record IsJoined (used width word value : ℕ) : Type 0 where
   pub within : used + width ≤ 64
   pub fits : word * 2 ^ width % 2 ^ 64 + value < 2 ^ 64

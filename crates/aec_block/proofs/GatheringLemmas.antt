@@ -1,4 +1,4 @@
--- Values that are gathered one after another while they are small enough.
+-- Values gathered one by one, with a test whether all are small enough.
 use Rattle.std.proofs.Common.{◌≡◌, ℕ, zero, suc, ◌+◌, ◌*◌, ◌<◌, ◌≤◌, Bool, true, false, ◌&&◌, ◌==◌, nat_lt, if◌then◌else◌, Option, Some, List, [], ◌∷◌, ◌++◌, ◌-◌, length, take, drop, set, refl, sym, ap, ◌∙◌, append_assoc, append-nil, inl, inr, arith}
 use Rattle.std.proofs.lemmas.Bool.{cases_Bool}
 use Rattle.std.proofs.lemmas.List.{take_all, take_more_set, length-set}
@@ -6,7 +6,7 @@ use Rattle.aec_bits.specs.BitReader.{Cursor}
 use Rattle.aec_block.specs.ReadAt.{Taken, nothing, taken, map_taken, fs_at, values_at, members_at, pair_with_number, before_members}
 use Rattle.aec_block.specs.Gathering.{when, all_below, small_values, kept_members, small_members}
 
--- a reader that has moved in its list
+-- a reader that has moved within its list
 pub record HasMoved (start now : Cursor) : Type 0 where
   pub list : now.list ≡ start.list
   pub within : now.pos ≤ length now.list
@@ -42,8 +42,8 @@ members_at-done f n bits count = rw count refl
 
 -- ---- values that are kept while they are below a limit
 
--- the values of before with later ones behind them, where the test has held for all and the later
--- ones keep it
+-- the values of `before`, then the later ones, if the test has held so far and the later ones are
+-- below the limit
 abbrev pub gathered : ℕ → List ℕ → Bool → List ℕ → Option (List ℕ)
 gathered limit before fit later = when (fit && all_below limit later) (before ++ later)
 
@@ -76,7 +76,7 @@ length-value_put limit values i v =
       | inr above ↦ rw above refl
     ]
 
--- 0 stays in the reference place
+-- if the list has 0 in the reference place, it still has it after a value is put
 pub kept_members-put : (limit : ℕ) (placed : Bool) (values : List ℕ) (i v : ℕ) → values ≡ kept_members placed values → (placed ≡ true → i ≡ 0 → v ≡ 0)
     → value_put limit values i v ≡ kept_members placed (value_put limit values i v)
 kept_members-put limit false values i v is zero_there = refl
@@ -109,7 +109,7 @@ pair_placed limit placed before between values i first second kept is_kept first
     rw first_put (kept_members-put limit placed before (2 * i) kept there (kept_zero placed i first kept is_kept)) in
     rw second_put (kept_members-put limit placed between (2 * i + 1) second between_there (λ there start. absurd (omega arith)))
 
--- the members of one more pair have been put in place
+-- after the members of one more pair were put in place
 pub members_gathered-put : (limit : ℕ) (before between values : List ℕ) (i : ℕ) (fit first_fits second_fits placed : Bool) (first second kept number : ℕ)
     → 2 * i + 1 < length before
     → first ≡ (pair_with_number number).first → second ≡ (pair_with_number number).second → kept ≡ (if placed then 0 else first)
@@ -135,14 +135,14 @@ members_gathered-put limit before between values i fit first_fits second_fits pl
     kept_first true is = rw (is, ← is_second) refl
     kept_first false is = rw (is, ← is_first, ← is_second) refl
 
--- behind the first pair no member is in the reference place
+-- after the first pair no member is in the reference place
 later_pair : (placed : Bool) (i : ℕ) → 0 < i → (placed && (i == 0)) ≡ false
 later_pair placed zero some = absurd (omega arith)
 later_pair true (suc i) some = grind arith
 later_pair false (suc i) some = refl
 
--- of the members that begin the bits of start, those of the first i pairs are in place, and the
--- others begin the bits
+-- of the n pairs at the start of the bits `start`, the members of the first i are in place, and the
+-- other pairs begin `bits`
 abbrev pub MembersGathered : ℕ → Bool → ℕ → List Bool → List ℕ → ℕ → Bool → List Bool → Type 0
 MembersGathered limit placed n start values i fit bits =
     map_taken (small_members limit placed) (members_at n start)
@@ -176,8 +176,8 @@ MembersGathered-done limit placed n start values i fit bits past some all so_far
 
 -- ---- the high parts
 
--- of the high parts that begin the bits of start, those up to i are in place, and the others begin
--- the bits
+-- of the high parts at the start of the bits `start`, the first i are in place, and the others
+-- begin `bits`
 abbrev pub HighsGathered : ℕ → List Bool → List ℕ → ℕ → Bool → List Bool → Type 0
 HighsGathered limit start highs i fit bits =
     map_taken (small_values limit) (values_at fs_at (length highs) start)

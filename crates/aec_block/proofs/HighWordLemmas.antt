@@ -1,4 +1,4 @@
--- Codewords of values without their low bits joined to one number.
+-- Codewords of values without their low bits, joined to one number.
 use Rattle.std.proofs.Common.{◌≡◌, ℕ, ◌+◌, ◌-◌, ◌*◌, ◌/◌, ◌%◌, ◌^◌, ◌<◌, ◌≤◌, ◌∷◌, ◌++◌, [], ap, ◌∙◌, sym, subst, arith, Bool, List, length, map, take, drop, get_or, append_assoc, append-nil, length-append}
 use Rattle.std.proofs.lemmas.List.{take_more, take-append-drop, take_rest, drop-drop, get_or-map}
 use Rattle.std.proofs.lemmas.Nat.{shl_whole, pow-add}
@@ -22,7 +22,7 @@ length-high_parts_append : (k : ℕ) (first second : List ℕ)
 length-high_parts_append k first second =
     ap (length {A = Bool}) (high_parts-append k first second) ∙ length-append (high_parts k first) (high_parts k second)
 
--- the codewords of one value more
+-- the codewords of one more value
 high_parts-more : (k i : ℕ) (values : List ℕ) → i < length values
     → high_parts k (take (i + 1) values) ≡ high_parts k (take i values) ++ fs (get_or values i 0 / 2 ^ k)
 high_parts-more k i values within =
@@ -37,24 +37,24 @@ length-high_parts_more k i values within =
     ∙ length-append (high_parts k (take i values)) (fs (get_or values i 0 / 2 ^ k))
     ∙ ap (λ n. length (high_parts k (take i values)) + n) (length-fs (get_or values i 0 / 2 ^ k))
 
--- those of the values in front, and of the values behind, are no more than all
+-- the codewords of the first i values, or of the others, are at most as long as all codewords
 high_parts-take : (k i : ℕ) (values : List ℕ) → length (high_parts k (take i values)) ≤ length (high_parts k values)
 high_parts-take k i values =
     omega (arith, ap (λ (vs : List ℕ). length (high_parts k vs)) (take-append-drop i values), length-high_parts_append k (take i values) (drop i values))
 
--- what is left of a value is less than a word has bits
+-- if all codewords together have fewer than 64 bits, each high part is below 64
 pub high-below : (k i : ℕ) (values : List ℕ) → i < length values → length (high_parts k values) < 64 → get_or values i 0 / 2 ^ k < 64
 high-below k i values within few = omega (arith, length-high_parts_more k i values within, high_parts-take k (i + 1) values)
 
--- what stands in a lane
+-- lane i has value i without its k low bits
 pub lane-shifted : (k i high d : ℕ) (values highs : List ℕ) → highs ≡ map (λ v. v / 2 ^ k) values → i < length values → high ≡ get_or highs i d
     → high ≡ get_or values i 0 / 2 ^ k
 lane-shifted k i high d values highs are within read =
     read ∙ ap (λ (vs : List ℕ). get_or vs i d) are ∙ get_or-map (λ (v : ℕ). v / 2 ^ k) values i 0 d within
 
--- ---- one value more
+-- ---- one more value
 
--- shifted in two steps
+-- a shift in two steps
 two_steps : (high used word : ℕ) → used + (high + 1) ≤ 64 → word < 2 ^ used
     → word * 2 ^ high % 2 ^ 64 * 2 % 2 ^ 64 + 1 ≡ word * 2 ^ (high + 1) % 2 ^ 64 + 1
 two_steps high used word within low =
@@ -96,7 +96,7 @@ goes_on-more k used start i values word within few so_far =
     joined : IsJoined here (high + 1) word 1
     joined = is_joined_number here (high + 1) word 1 place so_far.below (one_below high)
 
--- ---- several values more
+-- ---- several more values
 
 goes_on-append : (k used start : ℕ) (first second : List ℕ) (word next : ℕ) → GoesOn k used start first word
     → GoesOn k (used + length (high_parts k first)) word second next → GoesOn k used start (first ++ second) next
@@ -110,7 +110,7 @@ goes_on-append k used start first second word next so_far later =
           ∙ ap (λ (bits : List Bool). binary used start ++ bits) (sym (high_parts-append k first second));
     }
 
--- the eight values behind 8 i others
+-- the first 8 * (i + 1) values: the first 8 * i, and eight more
 eight_behind : (i : ℕ) (values : List ℕ) → take (8 * (i + 1)) values ≡ take (8 * i) values ++ take (8 * i + 8 - 8 * i) (drop (8 * i) values)
 eight_behind i values =
     let more : 8 * (i + 1) ≡ 8 * i + 8 = omega arith in
@@ -142,7 +142,7 @@ goes_on-eight k i values word next few so_far later =
     subst (λ (vs : List ℕ). GoesOn k 0 0 vs next) (sym (eight_behind i values))
     (goes_on-append k 0 0 (take (8 * i) values) eight word next so_far (later (0 + length (high_parts k (take (8 * i) values))) fits so_far.below))
 
--- all values: those in front, and the last few
+-- all values: the first w, and the others
 rest_behind : (w : ℕ) (values : List ℕ) → take w values ++ take (length values - w) (drop w values) ≡ values
 rest_behind w values = rw (take_rest values w) (take-append-drop w values)
 
@@ -155,7 +155,7 @@ few-rest k w values few =
       length-high_parts_append k (take w values) (take (length values - w) (drop w values)),
     )
 
--- the codewords of all values
+-- the codewords of the first `front` values, continued by the others, are those of all values
 pub is_high_word : (k w front : ℕ) (values : List ℕ) (word next : ℕ) → front ≡ w → length (high_parts k values) < 64
     → GoesOn k 0 0 (take front values) word
     → let rest = take (length values - w) (drop w values) in
@@ -176,7 +176,7 @@ is_high_word k w front values word next is few begun later =
 
 -- ---- groups of values that are gathered
 
--- the codewords of the eight values behind 8 i others, and those of the rest
+-- the codewords from value 8 * i on: those of eight values, and those of the rest
 pub high_parts-group : (k i : ℕ) (values : List ℕ) → i < length values / 8
     → high_parts k (drop (8 * i) values) ≡ high_parts k (take (8 * i + 8 - 8 * i) (drop (8 * i) values)) ++ high_parts k (drop (8 * (i + 1)) values)
 high_parts-group k i values before =

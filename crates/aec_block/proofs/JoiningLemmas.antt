@@ -1,4 +1,4 @@
--- Values put together from their high parts and their lowest bits.
+-- Values joined from their high parts and their lowest bits.
 use Rattle.std.proofs.Common.{◌≡◌, ℕ, zero, suc, ◌+◌, ◌-◌, ◌*◌, ◌/◌, ◌%◌, ◌^◌, ◌<◌, ◌≤◌, Bool, true, false, ◌&&◌, nat_lt, List, [], ◌∷◌, length, set, get_or, refl, ap, ◌∙◌, add-one, inl, inr, arith}
 use Rattle.std.proofs.lemmas.Bool.{lt-ltb, le-ltb, ltb-true, ltb-false, and_cases, and_right}
 use Rattle.std.proofs.lemmas.Nat.{pow_pos, pow-add, mul-le}
@@ -12,7 +12,7 @@ use Rattle.aec_block.specs.Gathering.{all_below}
 power_parts : (m k : ℕ) → k ≤ m → 2 ^ m ≡ 2 ^ (m - k) * 2 ^ k
 power_parts m k within = let whole : m ≡ m - k + k = omega arith in ap (λ n. 2 ^ n) whole ∙ pow-add 2 (m - k) k
 
--- a high part of a number below a limit that m bits have
+-- for a limit of at most 2 ^ m, the high part of a smaller number is below 2 ^ (m - k)
 pub high_part_lt : (m k limit high : ℕ) → k ≤ m → 0 < limit → limit ≤ 2 ^ m → high < (limit - 1) / 2 ^ k + 1 → high < 2 ^ (m - k)
 high_part_lt m k limit high within some fits small =
     let parts = power_parts m k within in
@@ -26,13 +26,13 @@ joined_lt m k high low within small below =
     let grown = mul-le (high + 1) (2 ^ k) (2 ^ (m - k)) (2 ^ k) (omega arith) (omega arith) in
     omega arith
 
--- a shift of such a high part loses no bit
+-- a high part below 2 ^ (32 - k) loses no bit if it is shifted
 pub shifted_whole : (k high low : ℕ) → k < 32 → high < 2 ^ (32 - k) → low < 2 ^ k → high * 2 ^ k % 2 ^ 32 ≡ high * 2 ^ k
 shifted_whole k high low shift small below =
     let fits = joined_lt 32 k high low (omega arith) small below in
     mod-eq_of_lt (omega arith)
 
--- ---- bounds of many
+-- ---- bounds of lists
 
 both_hold : (a b : Bool) → (a && b) ≡ true → (a ≡ true) × (b ≡ true)
 both_hold true true e = (refl, refl)
@@ -48,7 +48,7 @@ pub test-from_below : (limit : ℕ) (values : List ℕ) → AreBelow limit value
 test-from_below limit [] all = refl
 test-from_below limit (v ∷ values) all = rw (lt-ltb v limit all.0, test-from_below limit values all.1) refl
 
--- the high parts of numbers below a limit that m bits have
+-- for a limit of at most 2 ^ m, the high parts of smaller numbers are below 2 ^ (m - k)
 pub highs_below : (m k limit : ℕ) (highs : List ℕ) → k ≤ m → 0 < limit → limit ≤ 2 ^ m → AreBelow ((limit - 1) / 2 ^ k + 1) highs
     → AreBelow (2 ^ (m - k)) highs
 highs_below m k limit [] within some fits all = tt
@@ -62,7 +62,7 @@ joined_below m k (high ∷ highs) [] within small below = tt
 joined_below m k (high ∷ highs) (low ∷ lows) within small below =
     (joined_lt m k high low within small.0 below.0, joined_below m k highs lows within small.1 below.1)
 
--- a high part that is too large makes a value that is
+-- a high part that is too large makes a value that is too large
 too_high : (limit k high low : ℕ) → 0 < limit → (limit - 1) / 2 ^ k + 1 ≤ high → limit ≤ high * 2 ^ k + low
 too_high limit k high low some large =
     let above = lt-div-mul-add {a = limit - 1} {b = 2 ^ k} (pow_pos k) in
@@ -83,7 +83,7 @@ high_fails limit k (high ∷ highs) (low ∷ lows) some same fails =
 
 -- ---- one after the other
 
--- the high parts, of which the first i have their low bits
+-- the high parts, the first i of them joined with their low bits
 abbrev pub joined_front : ℕ → ℕ → List ℕ → List ℕ → List ℕ
 joined_front k zero highs lows = highs
 joined_front k (suc i) [] lows = []
@@ -96,7 +96,7 @@ length-joined_front k (suc i) [] lows = refl
 length-joined_front k (suc i) (high ∷ highs) [] = refl
 length-joined_front k (suc i) (high ∷ highs) (low ∷ lows) = ap (λ n. suc n) (length-joined_front k i highs lows)
 
--- the next one is a high part still
+-- the next number is still a high part
 pub get_or-joined_front : (k i d : ℕ) (highs lows : List ℕ) → get_or (joined_front k i highs lows) i d ≡ get_or highs i d
 get_or-joined_front k zero d highs lows = refl
 get_or-joined_front k (suc i) d [] lows = refl

@@ -17,7 +17,7 @@ kind_bits len SecondExtension = binary (len + 1) 1
 kind_bits len (Split k) = binary len (k + 1)
 kind_bits len ZeroBlocks = binary (len + 1) 0
 
--- the kinds that identifiers of so many bits tell apart
+-- the kinds that identifiers of `len` bits or one more distinguish
 abbrev pub IsKind : ℕ → Kind → Type 0
 IsKind len NoCompression = Unit {0}
 IsKind len SecondExtension = Unit {0}
@@ -50,7 +50,7 @@ kind_at-bits len ZeroBlocks rest some is_kind =
       binary_at-binary 1 0 rest (omega arith),
     ) refl
 
--- what a reading of an identifier has taken
+-- what a reading of an identifier has taken: a kind whose identifier begins the bits
 pub record SpelledKind (len : ℕ) (bits : List Bool) (kind : Kind) (rest : List Bool) : Type 0 where
   pub is_kind : IsKind len kind
   pub spelled : bits ≡ kind_bits len kind ++ rest
@@ -62,7 +62,7 @@ one_bit_more len last bits behind rest small spelled spelled_last =
     binary-add len 1 last ∙ ap (λ n. binary len n ++ binary 1 last) (div-eq_of_lt small) in
     spelled ∙ (ap (λ l. binary len 0 ++ l) spelled_last ∙ (sym (append_assoc (binary len 0) (binary 1 last) rest) ∙ ap (λ l. l ++ rest) (sym joined)))
 
--- behind the number 0
+-- an identifier whose first bits are the number 0 has one more bit
 spelled_zero : (len : ℕ) (bits behind : List Bool) (kind : Kind) (rest : List Bool) → bits ≡ binary len 0 ++ behind
     → map_taken kind_of_last (binary_at 1 behind) ≡ taken kind rest → SpelledKind len bits kind rest
 spelled_zero len bits behind kind rest spelled e =
@@ -79,7 +79,7 @@ spelled_zero len bits behind kind rest spelled e =
           rw (← kind_is) (record { is_kind = tt; spelled = rw one at spelled_all })
     ]
 
--- a number above 0
+-- an identifier whose first bits are a number above 0 has no more bits
 spelled_number : (len number : ℕ) (bits : List Bool) (kind : Kind) (rest : List Bool) → 0 < number → number < 2 ^ len → bits ≡ binary len number ++ rest
     → kind_of_number len number ≡ kind → SpelledKind len bits kind rest
 spelled_number len number bits kind rest some small spelled kind_is =
@@ -106,7 +106,7 @@ kind_at-spelled len bits kind rest e =
           spelled_number len p.value bits kind rest (omega arith) number.0 (rw same at number.1) kind_is
     ]
 
--- ---- a one in it
+-- ---- a 1 in a number above 0
 
 top_bit : (w v : ℕ) → 2 ^ w ≤ v → v < 2 ^ suc w → (v / 2 ^ w % 2 == 1) ≡ true
 top_bit w v most fits =

@@ -16,7 +16,7 @@ use Rattle.aec_params.specs.Spellings.{after_reference, written_values}
 use Rattle.aec_block.specs.BlockShape.{IsSound}
 use Rattle.aec_block.specs.Lengths.{sum_of_shifted}
 
--- the lanes of shifted values add up to the sum of them
+-- the lanes of shifted values add up to the sum of the shifted values
 pub sum_l-shifted : (k : ℕ) (values : List ℕ) → sum_l (map (λ v. v / 2 ^ k) values) ≡ sum_of_shifted k values
 sum_l-shifted k [] = refl
 sum_l-shifted k (v ∷ values) =
@@ -24,7 +24,7 @@ sum_l-shifted k (v ∷ values) =
     let added = sum_by-cons (λ (u : ℕ). u / 2 ^ k) v values in
     omega arith
 
--- values of 32 bits
+-- values of 32 bits add up to at most 2 ^ 32 times their number
 shifted-le : (k : ℕ) (values : List ℕ) → Each1 (Fits w32) values → sum_of_shifted k values ≤ length values * 2 ^ 32
 shifted-le k [] fit = omega arith
 shifted-le k (v ∷ values) fit =
@@ -40,14 +40,14 @@ eight_shifted-le k values long fit =
     let each : Each1 (Fits w32) values = subst P (take_all 8 values (omega arith)) (chunk-fits w32 0 8 values fit) in
     omega (arith, shifted-le k values each)
 
--- a 0 in front adds nothing
+-- a 0 before the values adds nothing
 zero_in_front : (k : ℕ) (values : List ℕ) → sum_of_shifted k (0 ∷ values) ≡ sum_of_shifted k values
 zero_in_front k values =
     let added = sum_by-cons (λ (u : ℕ). u / 2 ^ k) 0 values in
     let nothing = shr_le 0 k in
     omega arith
 
--- nor does the reference place
+-- the reference place adds nothing
 by_reference : (k : ℕ) (reference : Option ℕ) (values : List ℕ) → values ≡ placed_values reference (after_reference reference values)
     → sum_of_shifted k values ≡ sum_of_shifted k (after_reference reference values)
 by_reference k None values placed = refl
@@ -58,7 +58,7 @@ written-sums b sound k = by_reference k b.reference b.values sound.placed
 
 pub ruleset shifts = (chunk-fits, shifts_fit_splat, widens, zip2_splat, take_all, sum_l-shifted, eight_shifted-le)
 
--- what adding lane to lane and adding up the lanes show as
+-- adding lane to lane adds the sums of the lanes; adding up the lanes makes their sum
 pub sum_l-added : (xs ys : List ℕ) → length xs ≡ 8 → length ys ≡ 8
     → sum_l (zip2 (act2 (add unsigned) (s_int w64) (s_int w64) (s_int w64)) xs ys) ≡ sum_l xs + sum_l ys
 sum_l-added xs ys long_x long_y = sum-zip2 xs ys (long_x ∙ sym long_y)
@@ -68,7 +68,7 @@ fold_l-added xs = omega (arith, fold-sum 0 xs)
 
 pub ruleset additions = (adds_fit, sum_fits, sum_l-added, fold_l-added, length-zip2)
 
--- eight values more, and the few at the end
+-- with eight more values, their sum is added
 pub eight_more : (k i : ℕ) (values : List ℕ)
     → sum_of_shifted k (take (8 * (i + 1)) values)
     ≡ sum_of_shifted k (take (8 * i) values) + sum_of_shifted k (take (8 * i + 8 - 8 * i) (drop (8 * i) values))
@@ -78,7 +78,7 @@ eight_more k i values =
     rw (more, eight) (ap (sum_of_shifted k) (take-add (8 * i) 8 values)
     ∙ sum_by-append (λ (v : ℕ). v / 2 ^ k) (take (8 * i) values) (take 8 (drop (8 * i) values)))
 
--- the values that fill lanes, and those behind them
+-- the values that fill lanes and the values after them add up to the sum of all values
 pub lanes_and_rest : (k : ℕ) (values : List ℕ)
     → sum_of_shifted k (take (8 * (length values / 8)) values) + sum_of_shifted k (drop (8 * (length values / 8)) values) ≡ sum_of_shifted k values
 lanes_and_rest k values = sum_by-take-drop (λ (v : ℕ). v / 2 ^ k) values (8 * (length values / 8))

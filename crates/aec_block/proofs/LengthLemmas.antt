@@ -1,4 +1,4 @@
--- The lengths of spellings are the sums.
+-- The lengths of spellings are the sums that code computes.
 use Rattle.std.proofs.Common.{◌≡◌, ℕ, zero, suc, ◌+◌, ◌-◌, ◌*◌, ◌/◌, ◌%◌, ◌^◌, ◌<◌, ◌≤◌, refl, ap, ◌∙◌, arith, Option, Some, None, List, [], ◌∷◌, length, length-append, length-drop, drop-cons, drop, get_or}
 use Rattle.std.specs.List.{flat_map}
 use Rattle.std.proofs.lemmas.List.{length-replicate}
@@ -23,7 +23,7 @@ pub length-reference_bits : (s : Settings) (reference : Option ℕ) → length (
 length-reference_bits s None = refl
 length-reference_bits s (Some r) = length-binary s.bits r
 
--- codewords of one width
+-- the length of codewords of one width
 length-binaries : (w : ℕ) (values : List ℕ) → length (flat_map (binary w) values) ≡ length values * w
 length-binaries w [] = omega arith
 length-binaries w (v ∷ values) =
@@ -31,7 +31,7 @@ length-binaries w (v ∷ values) =
     let here = length-binary w v in
     simp length-append (omega arith)
 
--- the high parts and the low parts of values that are split
+-- the lengths of the high parts and of the low parts of split values
 pub length-high_parts : (k : ℕ) (values : List ℕ) → length (flat_map (λ v. fs (v / 2 ^ k)) values) ≡ sum_of_shifted k values + length values
 length-high_parts k [] = refl
 length-high_parts k (v ∷ values) =
@@ -75,7 +75,7 @@ length-split s b k =
     let low = length-low_parts k (written_values b) in
     simp length-append (omega arith)
 
--- what the codewords of values that are split leave of the whole
+-- a split spelling without its head and the low parts has the length of the high parts
 pub record IsHighRest (s : Settings) (b : Block) (k bits head low : ℕ) : Type 0 where
   pub head_within : head ≤ bits
   pub low_within : low ≤ bits - head
@@ -88,7 +88,7 @@ high_rest s b k bits head low is_bits is_head is_low =
     let high = length-high_parts k (written_values b) in
     record { head_within = omega arith; low_within = omega arith; rest = omega arith }
 
--- the next pair of values, and the end
+-- the pairs from value i on: the next pair, and those from value k on
 pub pairs_length-drop : (values : List ℕ) (i j k : ℕ) → j ≡ i + 1 → k ≡ i + 2 → j < length values
     → pairs_length (drop i values) ≡ pair_number (get_or values i 0) (get_or values j 0) + 1 + pairs_length (drop k values)
 pairs_length-drop values i j k next after within =
@@ -110,14 +110,14 @@ pairs_length-drop_end values i few = pairs_length-short (drop i values) (omega (
 
 pub ruleset pair_steps = (pairs_length-drop, pairs_length-drop_end)
 
--- a pair of a great sum has a great number
+-- a pair with a sum of 2^16 or more has a number of 2^31 or more
 pub pair_number-great : (a b : ℕ) → 2 ^ 16 ≤ a + b → 2 ^ 31 ≤ pair_number a b
 pair_number-great a b great = halved ((a + b) * (a + b + 1)) (mul-le (2 ^ 16) (2 ^ 16) (a + b) (a + b + 1) great (omega arith))
   where
     halved : (n : ℕ) → 2 ^ 16 * 2 ^ 16 ≤ n → 2 ^ 31 ≤ n / 2 + b
     halved n h = omega arith
 
--- and one of a small sum a small number
+-- for a pair with a sum below 2^16, the product in the pair number is at most 2^32
 pub pair_product-small : (a b : ℕ) → a + b < 2 ^ 16 → (a + b) * (a + b + 1) ≤ 2 ^ 16 * 2 ^ 16
 pair_product-small a b small = mul-le (a + b) (a + b + 1) (2 ^ 16) (2 ^ 16) (omega arith) (omega arith)
 

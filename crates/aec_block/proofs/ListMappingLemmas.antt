@@ -1,4 +1,4 @@
--- Lists of samples mapped one behind the other, and samples taken back from lists of values.
+-- Lists of samples mapped one by one, and samples recovered from lists of values.
 use Rattle.std.proofs.Common.{◌≡◌, ℕ, zero, suc, Bool, if◌then◌else◌, ◌+◌, ◌-◌, ◌<◌, ◌≤◌, ◌^◌, min, Option, Some, true, false, ℤ, pos, List, [], ◌∷◌, ◌++◌, length, map, take, drop, get_or, slice_set, unwrap_or, refl, sym, ap, ap₂, ◌∙◌, subst, append_assoc, append-nil, arith, w64, FitsSigned}
 use Rattle.std.proofs.lemmas.List.{length-take, take_more, take_more_set, length-set, map-append}
 use Rattle.std.proofs.lemmas.Bool.Decides.{nat_tests}
@@ -49,7 +49,7 @@ sample_at-fits s least above k allowed at_least at_above small =
     subst (λ (x : ℤ). FitsSigned w64 x) (sym (ap₂ ◌+ℤ◌ at_least at_above))
     (least-fits s.signed (2 ^ (s.bits - 1)) (2 ^ s.bits) k (pow-halves s.bits (bits-least s allowed)) (values-most s allowed) small)
 
--- what is coded for an offset at an offset, as samples
+-- the mapped value of the sample at offset k, predicted from the sample at offset q
 mapped_value-at : (s : Settings) (q k : ℕ) → IsAllowed s → s.preprocess ≡ true → q ≤ top_offset s → k ≤ top_offset s
     → mapped_value s (x_min s +ℤ pos q) (x_min s +ℤ pos k) ≡ mapped_offset (top_offset s) q k
 mapped_value-at s q k allowed on q_within k_within =
@@ -57,7 +57,7 @@ mapped_value-at s q k allowed on q_within k_within =
     (held-offset s (x_min s +ℤ pos k) k allowed k_within refl)
     ∙ ap₂ (mapped_offset (top_offset s)) (sample_offset-at (x_min s) q) (sample_offset-at (x_min s) k)
 
--- how far a sample lies above the least one, as numbers that the machine keeps
+-- the offset of a sample above the least one, as code computes it
 pub offset-held : (s : Settings) (x kept least : ℤ) → IsAllowed s → IsHeld s x → kept ≡ x → least ≡ x_min s
     → (least ≤ℤ kept) × (unsigned_abs (kept -ℤ least) < 2 ^ 32) × (unsigned_abs (kept -ℤ least) ≡ sample_offset s x)
 offset-held s x kept least allowed is_held e least_is =
@@ -80,7 +80,7 @@ held-at s [] i within held = absurd (omega arith)
 held-at s (x ∷ xs) zero within held = held.0
 held-at s (x ∷ xs) (suc i) within held = held-at s xs i (omega arith) held.1
 
--- one sample more in a loop that puts offsets
+-- one more sample in a loop that puts offsets
 pub offsets-more : (s : Settings) (xs : List ℤ) (i : ℕ) (values : List ℕ) (k : ℕ) → i < length xs → k ≡ sample_offset s (get_or xs i (pos 0))
     → (take i values ≡ map (sample_offset s) (take i xs)) × (length xs ≡ length values)
     → (take (i + 1) (slice_set values i k) ≡ map (sample_offset s) (take (i + 1) xs)) × (length xs ≡ length (slice_set values i k))
@@ -90,7 +90,7 @@ offsets-more s xs i values k within at_k so_far = (
   so_far.1 ∙ sym (length-set values i k),
 )
 
--- offsets within the greatest, and what is coded for them
+-- offsets are at most the greatest one, and have the samples' mapped values
 pub offsets-within : (s : Settings) (top : ℕ) (xs : List ℤ) → IsAllowed s → top ≡ top_offset s → AllByRecursion (IsHeld s) xs
     → AllByRecursion (λ x. x ≤ top) (map (sample_offset s) xs)
 offsets-within s top [] allowed at_top held = tt
@@ -103,7 +103,7 @@ mapped_after-offsets s p [] allowed on held_p held = refl
 mapped_after-offsets s p (x ∷ xs) allowed on held_p held =
     ap₂ (λ v vs. v ∷ vs) (mapped_value-offsets s p x allowed on held_p held.0) (mapped_after-offsets s x xs allowed on held.0 held.1)
 
--- an interval's first sample, predicted from itself
+-- the mapped value of an interval's first sample, predicted from itself
 mapped_value-self : (s : Settings) (x : ℤ) (on : Bool) → s.preprocess ≡ on → IsAllowed s → IsHeld s x
     → mapped_value s x x ≡ (if s.preprocess then 0 else sample_pattern s x)
 mapped_value-self s x true on allowed held =
@@ -121,9 +121,9 @@ mapped_after-first s p [] allowed some is held = absurd (omega arith)
 mapped_after-first s p (x ∷ xs) allowed some is held =
     ap (λ p. mapped_after s p (x ∷ xs)) is ∙ ap (λ v. v ∷ mapped_after s x xs) (mapped_value-self s x s.preprocess refl allowed held.0)
 
--- ---- offsets mapped in their place
+-- ---- offsets replaced by their mapped values
 
--- so far: what is coded for the offsets up to i stands in their place, and p is the last of them
+-- so far: mapped values replace the first i offsets, and p is the last of these
 pub record IsMappedSoFar (top previous p i : ℕ) (old new : List ℕ) : Type 0 where
   pub behind : drop i new ≡ drop i old
   pub whole : take i new ++ mapped_offsets top p (drop i old) ≡ mapped_offsets top previous old
@@ -148,7 +148,7 @@ unmaps_to-start s p items = record {
   last_is = refl;
 }
 
--- values, and others from the last sample on
+-- samples of values, then those of other values, predicted from the last sample
 abbrev pub unmaps_to-append : (s : Settings) (p q : ℤ) (values others : List ℕ) (old mid new : List ℤ) → UnmapsTo s p q values old mid
     → Unmaps s q others mid new
     → Unmaps s p (values ++ others) old new
@@ -168,7 +168,7 @@ unmaps_to-join s p q r values others old mid new front rest = record {
       ∙ (ap (λ (o : Option ℤ). last_or o rest.so_far.more) front.last_is ∙ rest.last_is);
 }
 
--- one value more in a loop over offsets: from the offset q to k
+-- one more value in a loop over offsets: from offset q to offset k
 pub unmaps_to-offset : (s : Settings) (p kept : ℤ) (values : List ℕ) (i top q k : ℕ) (old mid new : List ℤ) → IsAllowed s → s.preprocess ≡ true
     → top ≡ top_offset s
     → q ≤ top → k ≤ top → i < length values → mapped_offset top q k ≡ get_or values i 0 → kept ≡ x_min s +ℤ pos k → new ≡ mid ++ kept ∷ []
@@ -188,7 +188,7 @@ unmaps_to-offset s p kept values i top q k old mid new allowed on at_top q_withi
       last_is = last_or-append (Some p) to.so_far.more ((x_min s +ℤ pos k) ∷ []);
     }
 
--- one pattern more, whatever it is predicted from
+-- one more pattern, whatever it is predicted from
 pub unmaps-pattern : (s : Settings) (kept x : ℤ) (values : List ℕ) (i : ℕ) (old mid new : List ℤ) → s.preprocess ≡ false → i < length values
     → kept ≡ x → IsHeld s x
     → sample_pattern s x ≡ get_or values i 0 → new ≡ mid ++ kept ∷ [] → ((p : ℤ) → Unmaps s p (take i values) old mid)
@@ -199,6 +199,6 @@ unmaps-pattern s kept x values i old mid new off within e held pattern pushed so
     (unmaps-more s p x (take i values) (get_or values i 0) old mid (so_far p) held
     (mapped_value-pattern s (unwrap_or (last_or (Some p) (so_far p).more) (pos 0)) x off ∙ pattern)))
 
--- as many items in front
+-- lists of equal length have equally long first parts
 pub length-take_equal : (n : ℕ) (xs ys : List ℤ) → length xs ≡ length ys → length (take n xs) ≡ length (take n ys)
 length-take_equal n xs ys same = length-take n xs ∙ ap (min n) same ∙ sym (length-take n ys)

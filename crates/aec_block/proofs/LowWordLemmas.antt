@@ -22,12 +22,12 @@ low-divisor width small = one_shl width 64 (omega arith)
 
 pub ruleset low_words = (low-divisor, mod-lt, pow_pos)
 
--- a number that the low bits of the first i values spell
+-- the number that the low bits of the first i values spell
 pub record IsLowWord (width i : ℕ) (values : List ℕ) (word : ℕ) : Type 0 where
   pub below : word < 2 ^ (i * width)
   pub bits : binary (i * width) word ≡ low_parts width (take i values)
 
--- the low bits of one value more
+-- the low bits of one more value
 low_parts-more : (width i : ℕ) (values : List ℕ) → i < length values
     → low_parts width (take (i + 1) values) ≡ low_parts width (take i values) ++ binary width (get_or values i 0 % 2 ^ width)
 low_parts-more width i values within =
@@ -36,7 +36,7 @@ low_parts-more width i values within =
     ∙ flat_map-append (λ (v : ℕ). binary width (v % 2 ^ width)) (take i values) (get_or values i 0 ∷ [])
     ∙ ap (λ (bits : List Bool). low_parts width (take i values) ++ bits) (append-nil last)
 
--- a value more whose low bits still fit a word
+-- the low bits of one more value, joined: all low bits fit a word
 joined : (width i : ℕ) (values : List ℕ) (low word : ℕ) → i < length values → length values * width < 64 → low < 2 ^ width
     → IsLowWord width i values word → IsJoined (i * width) width word low
 joined width i values low word within few small so_far =
@@ -59,7 +59,7 @@ longer_low_word width i values low word within few small so_far is =
           ∙ ap (λ (v : ℕ). low_parts width (take i values) ++ binary width v) is ∙ sym (low_parts-more width i values within);
     }
 
--- the low bits of the group of n values behind i others, as one number, and those of the rest
+-- the low bits from value n * i on: those of a group of n values, as one number, and the rest
 pub low_parts-group : (width n i : ℕ) (values : List ℕ) (word : ℕ) → i < length values / n
     → let group = take (n * (i + 1) - n * i) (drop (n * i) values) in
     binary (length group * width) word ≡ low_parts width group
@@ -78,11 +78,11 @@ low_parts-group width n i values word before is =
 
 -- ---- eight at once
 
--- a number of n bits, which are those of values of k bits each
+-- a number of n bits that are the bits of values of k bits each
 abbrev pub SpellsEach : ℕ → ℕ → List ℕ → ℕ → Type 0
 SpellsEach k n values number = Spells n (flat_map (binary k) values) number
 
--- two numbers of n bits each, joined as one of m
+-- two numbers of n bits each, joined as one number of m bits
 joined_value : (n m x y : ℕ) → n + n ≡ m → m ≤ 32 → x < 2 ^ n → y < 2 ^ n → (x * 2 ^ n % 4294967296 + y) % 4294967296 ≡ x * 2 ^ n % 2 ^ 64 + y
 joined_value n m x y sum short high low =
     let narrow : x * 2 ^ n % 2 ^ 32 ≡ x * 2 ^ n = shl_whole x n n 32 high (omega (arith, sum, short)) in

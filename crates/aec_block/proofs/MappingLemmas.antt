@@ -1,4 +1,4 @@
--- The mapping table over integers is that over offsets from the least sample.
+-- The mapping table of integers is the table of offsets from the least sample.
 use Rattle.std.proofs.Common.{◌≡◌, ℕ, zero, suc, ◌+◌, ◌-◌, ◌*◌, ◌^◌, ◌<◌, ◌≤◌, min, ap, ◌∙◌, sym, inl, inr, arith, Bool, true, false}
 use Rattle.std.proofs.lemmas.Bool.{and_parts, and_from, cases_lt, cond-true, cond-false}
 use Rattle.std.proofs.lemmas.Nat.{pow_pos}
@@ -12,22 +12,22 @@ use Rattle.aec_params.specs.Mapping.{room_around, mapped_error, mapped_value}
 use Rattle.aec_params.proofs.ParamsLemmas.{pow-halves, bits-least, values-most, value-pattern}
 use Rattle.aec_block.specs.Offsets.{sample_offset, top_offset, offset_room, mapped_offset}
 
--- the room around the prediction
+-- the room around the prediction, by offsets
 room-offsets : (lo hi p : ℤ) (a top : ℕ) → p ≡ lo +ℤ pos a → hi ≡ lo +ℤ pos top → a ≤ top
     → int_min (p -ℤ lo) (hi -ℤ p) ≡ pos (min a (top - a))
 room-offsets lo hi p a top at_a at_top below = omega (arith, ints, clamps)
 
--- an error from 0 on
+-- the mapped value of an error of 0 or more
 mapped_error-above : (t k : ℕ) → mapped_error (pos t) (pos k) ≡ (if nat_le k t then 2 * k else t + k)
 mapped_error-above zero k = grind (arith, nat_tests)
 mapped_error-above (suc t) k = grind (arith, nat_tests)
 
--- an error below 0
+-- the mapped value of an error below 0
 mapped_error-below : (t k : ℕ) → mapped_error (pos t) (negsuc k) ≡ (if nat_le (k + 1) t then 2 * (k + 1) - 1 else t + (k + 1))
 mapped_error-below zero k = grind (arith, nat_tests)
 mapped_error-below (suc t) k = grind (arith, nat_tests)
 
--- offsets from lo in the place of integers
+-- the mapped value by offsets from lo instead of integers
 mapped_error-up : (a b top : ℕ) → a ≤ b → mapped_error (pos (offset_room top a)) (pos (b - a)) ≡ mapped_offset top a b
 mapped_error-up a b top up = mapped_error-above (offset_room top a) (b - a) ∙ grind (arith, nat_tests)
 
@@ -48,11 +48,11 @@ pub mapped_error-offsets : (lo hi p x : ℤ) (a b top : ℕ) → p ≡ lo +ℤ p
 mapped_error-offsets lo hi p x a b top at_a at_b at_top below =
     mapped_error-at (int_min (p -ℤ lo) (hi -ℤ p)) (x -ℤ p) a b top (room-offsets lo hi p a top at_a at_top below) (omega (arith, ints))
 
--- a number from lo on is lo and its offset
+-- a number of at least lo is lo plus its offset
 at-offset : (lo x : ℤ) → lo ≤ℤ x → x ≡ lo +ℤ pos (unsigned_abs (x -ℤ lo))
 at-offset lo x h = grind (arith, ints)
 
--- the greatest sample above the least, where t is the number of values and k half of it
+-- the greatest sample is t - 1 above the least; t is the number of values, and k half of it
 greatest-offset : (signed : Bool) (k t : ℕ) → 0 < k → t ≡ k + k
     → (if signed then pos (k - 1) else pos (t - 1)) ≡ (if signed then neg_ℤ (pos k) else pos 0) +ℤ pos (t - 1)
 greatest-offset false k t some e = omega (arith, ints)
@@ -68,7 +68,7 @@ held-between s x h =
     let parts = and_parts (int_le (x_min s) x) (int_le x (x_max s)) h in
     (grind (arith, ints, parts.0), grind (arith, ints, parts.1))
 
--- a held sample is the least one and its offset
+-- a held sample is the least sample plus its offset
 pub sample-offset : (s : Settings) (x : ℤ) → IsHeld s x → x ≡ x_min s +ℤ pos (sample_offset s x)
 sample-offset s x h = at-offset (x_min s) x (held-between s x h).0
 
@@ -86,7 +86,7 @@ mapped_value-offsets s p x a on held_p held_x =
     ∙ mapped_error-offsets (x_min s) (x_max s) p x (sample_offset s p) (sample_offset s x) (top_offset s) (sample-offset s p held_p)
     (sample-offset s x held_x) (x_max-offset s a) (sample_offset-le s p a held_p)
 
--- what lies between the least and the greatest is held
+-- a number between the least and the greatest sample is held
 held-from_between : (s : Settings) (x : ℤ) → x_min s ≤ℤ x → x ≤ℤ x_max s → IsHeld s x
 held-from_between s x low high = and_from (int_le (x_min s) x) (int_le x (x_max s)) (grind (arith, ints)) (grind (arith, ints))
 
@@ -103,13 +103,13 @@ values-some s = pow_pos s.bits
 pub mapped_value-pattern : (s : Settings) (p x : ℤ) → s.preprocess ≡ false → mapped_value s p x ≡ sample_pattern s x
 mapped_value-pattern s p x off = cond-false s.preprocess (mapped_error (room_around s p) (x -ℤ p)) (sample_pattern s x) off
 
--- what code computes from offsets
+-- the mapped value, as code computes it from offsets
 pub mapped_value-code : (s : Settings) (p x : ℤ) (top a b r : ℕ) → IsAllowed s → s.preprocess ≡ true → IsHeld s p → IsHeld s x
     → top ≡ top_offset s → a ≡ sample_offset s p → b ≡ sample_offset s x → mapped_offset top a b ≡ r → mapped_value s p x ≡ r
 mapped_value-code s p x top a b r allowed on held_p held_x at_top at_a at_b is =
     let e = mapped_value-offsets s p x allowed on held_p held_x in cc
 
--- held samples with one offset are one sample
+-- held samples with equal offsets are equal
 same-offset : (s : Settings) (x y : ℤ) → IsHeld s x → IsHeld s y → sample_offset s x ≡ sample_offset s y → x ≡ y
 same-offset s x y held_x held_y e =
     sample-offset s x held_x ∙ ap (λ (k : ℕ). x_min s +ℤ pos k) e ∙ sym (sample-offset s y held_y)
@@ -123,7 +123,7 @@ only-offset s p x y top a b m allowed on held_p held_x held_y at_top at_a at_b o
     let same : sample_offset s x ≡ b = only (sample_offset s x) (omega arith) (cc) in
     same-offset s x y held_x held_y (cc)
 
--- held samples with one pattern are one sample
+-- without preprocessing, held samples with equal patterns are equal
 pub only-pattern : (s : Settings) (p x y : ℤ) (m : ℕ) → IsAllowed s → s.preprocess ≡ false → IsHeld s x → IsHeld s y
     → sample_pattern s y ≡ m → mapped_value s p x ≡ m → x ≡ y
 only-pattern s p x y m allowed off held_x held_y at_y is =

@@ -1,4 +1,4 @@
--- Differences of near values in lanes: half of the value, with all bits turned where it is odd.
+-- Differences of near values in lanes: half of the value, with all bits inverted if it is odd.
 use Rattle.std.proofs.Common.{◌≡◌, ℕ, ◌+◌, ◌-◌, ◌/◌, ◌%◌, ◌^◌, ◌<◌, refl, ap, ap₂, ◌∙◌, sym, subst, arith, List, [], ◌∷◌, length, map, take, get_or, bit_and, inl, inr, Bool, false, nat_lt, ◌≤◌}
 use Rattle.std.specs.Simd.Lanes.{Each1, zip2, sel_l}
 use Rattle.std.specs.Simd.Lanes.{top as lane_top}
@@ -17,7 +17,7 @@ use mir.Val.{Fits}
 use borrow.Rule.Simd.Lanes.{act2}
 use borrow.Table.Row.{s_int}
 
--- what is computed in one lane
+-- what one lane computes
 abbrev lane_difference : ℕ → ℕ → ℕ → ℕ
 lane_difference x one none = bit_xor (x / 2 ^ one) ((none + (4294967296 - bit_and x one)) % 4294967296)
 
@@ -46,7 +46,7 @@ one-lane x fits =
       | inr more ↦ odd-lane x fits (omega arith)
     ]
 
--- and in all
+-- what all lanes compute
 abbrev pub lanes_of : List ℕ → List ℕ → List ℕ → List ℕ
 lanes_of xs ones zeros =
     zip2 (act2 xor_op (s_int w32) (s_int w32) (s_int w32))
@@ -72,14 +72,14 @@ pub ruleset differences = (eight-differences)
 
 -- ---- differences added up, by pairs, then fours, then eights
 
--- the numbers that are the same modulo 2^32
+-- x and y are equal modulo 2^32
 abbrev Same : ℕ → ℕ → Type 0
 Same x y = x % 4294967296 ≡ y % 4294967296
 
 both : (x y u v s : ℕ) → Same x u → Same y v → u + v ≡ s → Same ((x + y) % 4294967296) s
 both x y u v s first second sum = omega (arith, first, second, sum)
 
--- remainders that are the same
+-- numbers that equal s modulo 2^32 have equal remainders
 equal : (x y s : ℕ) → Same (x % 4294967296) s → Same (y % 4294967296) s → x % 4294967296 ≡ y % 4294967296
 equal x y s first second = omega (arith, first, second)
 
@@ -143,7 +143,7 @@ running-eight p a b c d e f g h fits =
     (d + e + f + g) (p + a + b + c) (p + a + b + c + d + e + f + g) four7 four3 (omega arith)) at7 in
     ap₂ ◌∷◌ lane0 (ap₂ ◌∷◌ lane1 (ap₂ ◌∷◌ lane2 (ap₂ ◌∷◌ lane3 (ap₂ ◌∷◌ lane4 (ap₂ ◌∷◌ lane5 (ap₂ ◌∷◌ lane6 (ap₂ ◌∷◌ lane7 refl)))))))
 
--- the same of a list
+-- for eight differences in a list, the lanes' sums are the places before the differences
 pub running-list : (p : ℕ) (ds : List ℕ) → p < 4294967296 → length ds ≡ 8
     → (added (added (added p 0) 0) 0) ∷ (added (added (added (get_or ds 0 0) p) 0) 0) ∷ (added (added (added (get_or ds 1 0) (get_or ds 0 0)) (added p 0)) 0)
     ∷ (added (added (added (get_or ds 2 0) (get_or ds 1 0)) (added (get_or ds 0 0) p)) 0)
@@ -165,7 +165,7 @@ running-list p (a ∷ b ∷ c ∷ d ∷ e ∷ f ∷ []) fits long = absurd (omeg
 running-list p (a ∷ b ∷ c ∷ d ∷ e ∷ f ∷ g ∷ []) fits long = absurd (omega arith)
 running-list p (a ∷ b ∷ c ∷ d ∷ e ∷ f ∷ g ∷ h ∷ i ∷ more) fits long = absurd (omega arith)
 
--- where each difference leads, from the places before
+-- the places after the differences, from the places before them
 pub next_places : (p : ℕ) (before ds : List ℕ) → before ≡ places_before p ds
     → zip2 (act2 wrap_add (s_int w32) (s_int w32) (s_int w32)) before ds ≡ places_after p ds
 next_places p before ds is = ap (λ (xs : List ℕ). zip2 (act2 wrap_add (s_int w32) (s_int w32) (s_int w32)) xs ds) is ∙ from p ds
@@ -176,7 +176,7 @@ next_places p before ds is = ap (λ (xs : List ℕ). zip2 (act2 wrap_add (s_int 
 
 -- ---- rooms
 
--- what is left of each value without its half
+-- a value minus its half
 needed_one : (v : ℕ) → v < 4294967296 → (v + (4294967296 - v / 2 ^ 1)) % 4294967296 ≡ v - v / 2
 needed_one v fits = omega (arith, fits)
 
@@ -199,7 +199,7 @@ needed_eight xs long fit =
 
 pub ruleset room_lanes = (needed_eight)
 
--- what the lesser of a place and of what is left above it comes to
+-- the lesser of a place and of what is left above it is the room around the place
 lesser_room : (top p : ℕ) → top < 4294967296 → p ≤ top
     → cond (nat_lt p ((top + (4294967296 - p)) % 4294967296)) p ((top + (4294967296 - p)) % 4294967296) ≡ offset_room top p
 lesser_room top p small within =

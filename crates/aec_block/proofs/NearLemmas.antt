@@ -1,5 +1,5 @@
--- Values that are near: where their differences lead, what a bound for all of them shows, and that
--- a near value is that of its offset.
+-- Near values: the offsets that their differences lead to, what a bound for all of them proves, and
+-- that a near value is the mapped value of its offset.
 use Rattle.std.proofs.Common.{◌≡◌, ℕ, suc, ◌+◌, ◌-◌, ◌*◌, ◌%◌, ◌<◌, ◌≤◌, List, [], ◌∷◌, ◌++◌, length, map, take, drop, get_or, arith, subst, sym, ap, ◌∙◌, refl, drop-cons, add-one}
 use Rattle.std.proofs.Math.Seq.{take-add}
 use Rattle.std.proofs.lemmas.List.{get_or-map, get_or-drop, drop-drop, length-map}
@@ -10,7 +10,7 @@ use Rattle.aec_params.proofs.ParamsLemmas.{values-most}
 use Rattle.aec_block.specs.Offsets.{top_offset, offset_room, near_offset, near_difference, mapped_offset, places_before, places_after, AreNear}
 use Rattle.aec_block.proofs.MappingLemmas.{values-some}
 
--- where a difference leads, modulo 2^32
+-- the offset that a difference leads to, modulo 2^32
 pub near_offset-difference : (top p m d : ℕ) → top < 4294967296 → p ≤ top → m ≤ 2 * offset_room top p → d ≡ near_difference m
     → (p + d) % 4294967296 ≡ near_offset p m
 near_offset-difference top p m d small within near is = grind (arith, nat_tests)
@@ -27,7 +27,7 @@ AreNear-next top p values i within near =
     let cut : drop i values ≡ get_or values i 0 ∷ drop (i + 1) values = rw (add-one, drop-cons values i 0 within) refl in
     subst (AreNear top p) cut near
 
--- values are near where each is at its place, as far as that is an offset
+-- values are near if each value whose place is an offset is near at this place
 pub AreNear-at_places : (top p : ℕ) (values : List ℕ) → top < 4294967296 → p ≤ top
     → ((i : ℕ) → i < length values → get_or (places_before p (map near_difference values)) i 0 ≤ top
     → get_or values i 0 ≤ 2 * offset_room top (get_or (places_before p (map near_difference values)) i 0))
@@ -42,7 +42,7 @@ AreNear-at_places top p (m ∷ values) small within each =
           (AreNear-at_places top ((p + near_difference m) % 4294967296) values small below (λ i later. each (suc i) (omega (arith, later)))),
     )
 
--- where the differences from one on lead
+-- the next place, and the places that the other differences lead to
 pub places_after-next : (p : ℕ) (ds all : List ℕ) (i : ℕ) → i < length ds → drop i all ≡ places_after p (drop i ds)
     → (get_or all i 0 ≡ (p + get_or ds i 0) % 4294967296) × (drop (i + 1) all ≡ places_after (get_or all i 0) (drop (i + 1) ds))
 places_after-next p ds all i within is =
@@ -55,7 +55,7 @@ places_after-next p ds all i within is =
       sym (drop-drop 1 i all) ∙ ap (drop 1) now ∙ ap (λ (q : ℕ). places_after q (drop (i + 1) ds)) (sym first),
     )
 
--- eight values of which each is near at its place
+-- eight values are near if each is near at its place
 pub AreNear-eight : (s : Settings) (p top : ℕ) (values before differences : List ℕ) → IsAllowed s → top ≡ top_offset s → p ≤ top_offset s → length values ≡ 8
     → differences ≡ map near_difference values → before ≡ places_before p differences
     → ((i : ℕ) → i < 8 → get_or before i 0 ≤ top → get_or values i 0 ≤ 2 * offset_room top (get_or before i 0))
@@ -67,7 +67,7 @@ AreNear-eight s p top values before differences allowed is within long all place
     (AreNear-at_places top p values small (omega (arith, is, within))
     (λ i here. subst (λ (xs : List ℕ). get_or xs i 0 ≤ top → get_or values i 0 ≤ 2 * offset_room top (get_or xs i 0)) at (each i (omega (arith, here, long)))))
 
--- one near value more in a loop over offsets
+-- one more near value in a loop over offsets
 near-step : (s : Settings) (values : List ℕ) (i place next : ℕ) → IsAllowed s → i < length values → place ≤ top_offset s
     → ((top : ℕ) → top < 4294967296 → place ≤ top → get_or values i 0 ≤ 2 * offset_room top place → next ≡ near_offset place (get_or values i 0))
     → AreNear (top_offset s) place (drop i values)
@@ -85,7 +85,7 @@ near-step s values i place next allowed here within led near =
       subst (λ (n : ℕ). AreNear (top_offset s) n (drop (i + 1) values)) (sym is) parts.1,
     )
 
--- the same where it is the next of the places to which the differences lead
+-- one more near value, whose offset is the next of the places that the differences lead to
 pub near_place-step : (s : Settings) (values places : List ℕ) (i place : ℕ) → IsAllowed s → i < length values → place ≤ top_offset s
     → drop i places ≡ places_after place (drop i (map near_difference values))
     → AreNear (top_offset s) place (drop i values)
@@ -101,7 +101,7 @@ near_place-step s values places i place allowed here within all near =
       more.1,
     )
 
--- eight values more
+-- the first 8 * i values, and eight more
 pub take-eight : (values : List ℕ) (i : ℕ) → take (8 * i) values ++ take (8 * i + 8 - 8 * i) (drop (8 * i) values) ≡ take (8 * (i + 1)) values
 take-eight values i =
     let more : 8 * (i + 1) ≡ 8 * i + 8 = omega arith in

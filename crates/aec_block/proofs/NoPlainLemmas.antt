@@ -1,4 +1,4 @@
--- Where no plain coded data set begins, or one with a value too large.
+-- When no plain coded data set begins the bits, or one with a value that is too large.
 use Rattle.std.proofs.Common.{◌≡◌, ℕ, ◌+◌, ◌/◌, ◌^◌, Bool, true, false, Option, Some, None, Result, Ok, Err, is_ok, List, length, drop, sym, ap, ◌∙◌, refl}
 use Rattle.std.specs.Result.{result_unwrap_or}
 use Rattle.aec_params.specs.declared.settings.Settings.{Settings}
@@ -18,16 +18,16 @@ use Rattle.aec_block.proofs.SetLemmas.{what_is_spelled_is_read}
 use Rattle.aec_block.proofs.StandingLemmas.{unmapped}
 use Rattle.aec_bits.specs.BitReader.{Cursor}
 
--- behind the identifier and the reference sample
+-- after the identifier and the reference sample
 module _ (s : Settings) (is_reference : Bool) (kind : Kind) (reference : Option ℕ) (bits after : List Bool)
     (begun : cds_at s is_reference bits ≡ map_taken (set_of reference) (body_at s is_reference kind after)) where
-  -- no body
+  -- no body begins the bits
   pub no_body : body_at s is_reference kind after ≡ nothing → HasNoPlain s is_reference bits
   no_body none c rest read plain =
       let both : nothing ≡ taken c rest = sym (begun ∙ ap (map_taken (set_of reference)) none) ∙ read in
       absurd (cc)
 
-  -- split values of which one is too large
+  -- one of the split values is too large
   pub large_split : (k n : ℕ) (rest : List Bool) → kind ≡ Split k → n ≡ written_count s is_reference
       → map_taken (small_values (2 ^ s.bits)) (split_at k n after) ≡ taken None rest → HasNoPlain s is_reference bits
   large_split k n rest is_kind count large c end read plain =
@@ -45,19 +45,19 @@ module _ (s : Settings) (is_reference : Bool) (kind : Kind) (reference : Option 
       unfit true values e = absurd (cc)
       unfit false values e = refl
 
--- the coded data set behind its identifier
+-- the coded data set after its identifier
 begun_other : (s : Settings) (kind : Kind) (bits behind : List Bool) → kind_at (id_len s) bits ≡ taken kind behind
     → cds_at s false bits ≡ map_taken (set_of None) (body_at s false kind behind)
 begun_other s kind bits behind kind_read = ap (λ t. then_at t (set_after_kind s false)) kind_read
 
--- the coded data set behind its identifier and its reference sample
+-- the coded data set after its identifier and its reference sample
 begun_first : (s : Settings) (kind : Kind) (pattern : ℕ) (bits behind after : List Bool) → kind_at (id_len s) bits ≡ taken kind behind
     → binary_at s.bits behind ≡ taken pattern after → cds_at s true bits ≡ map_taken (set_of (Some pattern)) (body_at s true kind after)
 begun_first s kind pattern bits behind after kind_read pattern_read =
     ap (λ t. then_at t (set_after_kind s true)) kind_read
     ∙ ap (λ t. then_at (map_taken (λ r. Some r) t) (set_after_reference s true kind)) pattern_read
 
--- where the identifier of a plain one doesn't begin the bits
+-- if no identifier of a plain coded data set begins the bits, no plain one does
 pub not_begun : (s : Settings) (is_reference : Bool) (bits : List Bool) → begins_plain s bits ≡ false → HasNoPlain s is_reference bits
 not_begun s is_reference bits none c rest read plain = by_kind (kind_at (id_len s) bits) none read
   where
@@ -83,8 +83,8 @@ not_begun s is_reference bits none c rest read plain = by_kind (kind_at (id_len 
     by_kind nothing none there = absurd (cc)
     by_kind (taken kind behind) none there = by_reference kind (reference_at s is_reference behind) none there
 
--- what a reading of plain values tells of the bits: the coded data set that begins them, or that
--- none does
+-- what a reading of plain values says about the bits: a coded data set begins them, or no plain one
+-- with small values does
 pub record IsJudged (s : Settings) (bits rest : List Bool) (values : List ℕ) (read : Bool) : Type 0 where
   pub there : read ≡ true → map_taken (checked s) (cds_at s false bits) ≡ taken (Some (Single (block_of_values None values))) rest
   pub none : read ≡ false → HasNoPlain s false bits
@@ -125,7 +125,7 @@ pub none_judged : (s : Settings) (bits rest : List Bool) (values : List ℕ) (re
     → IsJudged s bits rest values read
 none_judged s bits rest values read is none = record { there = λ yes. absurd (cc); none = λ no. not_begun s false bits none }
 
--- the same where it was read to
+-- the same for an equal cursor and equal values
 pub judged_to : (s : Settings) (bits : List Bool) (new now : Cursor) (found values : List ℕ) (read : Bool) → now ≡ new → values ≡ found
     → IsJudged s bits (bits_at new) found read → IsJudged s bits (bits_at now) values read
 judged_to s bits new now found values read place is judged = rw (place, is) judged
@@ -139,7 +139,7 @@ first_large s kind k n pattern bits behind after rest values fit is_kind count k
     large_split s true kind (Some pattern) bits after (begun_first s kind pattern bits behind after kind_read pattern_read) k n rest is_kind
     (written s n count) (found ∙ ap (λ fit. taken (when fit values) rest) unfit)
 
--- so none stands at the position
+-- if no plain coded data set with small values begins the bits, none is at the cursor's position
 pub none_stands : (s : Settings) (is_reference : Bool) (old : Cursor) → IsAllowed s → HasNoPlain s is_reference (bits_at old)
     → (c : CodedDataSet) → IsSetAt s is_reference old.list old.pos c → is_plain_body c.body ≡ true → has_small_values s c ≡ false
 none_stands s is_reference old allowed none c set plain =

@@ -1,4 +1,4 @@
--- Pair numbers, and the codewords of pairs: each number is that of one pair.
+-- Pair numbers, and the codewords of pairs: each number is the number of one pair.
 use Rattle.std.proofs.Common.{◌≡◌, ℕ, zero, suc, ◌+◌, ◌-◌, ◌*◌, ◌≤◌, Bool, refl, sym, ap, ◌∙◌, add-one, zero-add, append_assoc, List, [], ◌∷◌, ◌++◌, length, arith}
 use Rattle.aec_params.specs.Codewords.{fs}
 use Rattle.aec_params.specs.CodedDataSets.{pair_number, pair_bits}
@@ -21,7 +21,7 @@ le_triangle : (n : ℕ) → n ≤ triangle n
 le_triangle zero = omega arith
 le_triangle (suc n) = omega (arith, le_triangle n)
 
--- the pair before another has the number before
+-- the pair (a, b) is the pair of its number
 pub pair_with_number-number : (m a b : ℕ) → triangle (a + b) + b ≡ m → pair_with_number m ≡ record { first = a; second = b }
 pair_with_number-number zero a b e =
     let low = le_triangle (a + b) in
@@ -45,7 +45,7 @@ pair_with_number-number (suc m) a (suc b) e =
 pub pair_with_number-pair_number : (a b : ℕ) → pair_with_number (pair_number a b) ≡ record { first = a; second = b }
 pair_with_number-pair_number a b = pair_with_number-number (pair_number a b) a b (sym (pair_number-triangle a b))
 
--- the pair by its sum and its second member
+-- the pair of a number, by the pair's sum and its second member
 pub pair_with_number-sum : (m sum second : ℕ) → triangle sum + second ≡ m → second ≤ sum → pair_with_number m ≡ record { first = sum - second; second = second }
 pair_with_number-sum m sum second number within =
     let whole : sum - second + second ≡ sum = omega arith in

@@ -1,4 +1,4 @@
--- A coded data set of one block without a reference sample, whose values are written one by one.
+-- A coded data set of one block whose values are written one by one, read part by part.
 use Rattle.std.proofs.Common.{◌≡◌, ℕ, ◌+◌, ◌<◌, ◌^◌, Bool, true, false, Option, Some, None, Result, Ok, Err, IfOk, IfSome, List, [], ◌∷◌, ◌++◌, ◌-◌, slice_set, length, drop, append-nil, refl, sym, ap, ◌∙◌, subst, arith}
 use Rattle.std.specs.Option.{is_some}
 use Rattle.std.proofs.lemmas.Nat.{pow_pos}
@@ -26,7 +26,7 @@ map_taken-map_taken : {X Y Z : Type 0} (g : X → Y) (f : Y → Z) (t : Taken X)
 map_taken-map_taken g f nothing = refl
 map_taken-map_taken g f (taken x rest) = refl
 
--- what was read behind its identifier is the coded data set
+-- the body read after the identifier makes the coded data set
 pub plain_set : (s : Settings) (kind : Kind) (start behind rest : List Bool) (answer : Option Cds) → kind_at (id_len s) start ≡ taken kind behind
     → map_taken (checked_body s None) (body_at s false kind behind) ≡ taken answer rest → map_taken (checked s) (cds_at s false start) ≡ taken answer rest
 plain_set s kind start behind rest answer kind_read body_read =
@@ -67,7 +67,7 @@ numbers_set s kind width n start behind rest values is_kind width_is count kind_
 
 -- ---- with a reference sample
 
--- what was read behind its identifier and its reference sample is the coded data set
+-- the body read after the identifier and the reference sample makes the coded data set
 first_set : (s : Settings) (kind : Kind) (pattern : ℕ) (start behind after rest : List Bool) (answer : Option Cds)
     → kind_at (id_len s) start ≡ taken kind behind → binary_at s.bits behind ≡ taken pattern after
     → map_taken (checked_body s (Some pattern)) (body_at s true kind after) ≡ taken answer rest
@@ -104,7 +104,7 @@ first_numbers s kind width n pattern start behind after rest values is_kind widt
 
 -- ---- what was read is plain
 
--- behind the identifier of a plain body one stands
+-- a body read after the identifier of a plain body is plain
 plain_body_at : (s : Settings) (kind : Kind) (behind rest : List Bool) (body : Body) → is_plain kind ≡ true → body_at s false kind behind ≡ taken body rest
     → is_plain_body body ≡ true
 plain_body_at s ZeroBlocks behind rest body plain read = absurd (cc)
@@ -151,7 +151,7 @@ plain-below s old new values read = by_body read.set.reference read.set.body rea
     by_body None (split_values k found) none small is = below-from_test (2 ^ s.bits) values (ap (all_below (2 ^ s.bits)) is ∙ small)
     by_body None (zero_blocks m) none small is = subst (AllByRecursion (λ v. v < 2 ^ s.bits)) (sym is) tt
 
--- the values of a block with a reference sample, with 0 in its place
+-- the values of a block with a reference sample, and the 0 in its place, are below 2^n
 pub first-below : (s : Settings) (old new : Cursor) (pattern : ℕ) (values : List ℕ) → IsReadFirst s old new pattern values
     → AllByRecursion (λ v. v < 2 ^ s.bits) values
 first-below s old new pattern values read =
@@ -168,14 +168,14 @@ first-below s old new pattern values read =
     by_body (Some r) (split_values k found) has small is = behind found small is
     by_body (Some r) (zero_blocks m) has small is = subst (AllByRecursion (λ v. v < 2 ^ s.bits)) (sym is) tt
 
--- values of which the first is 0, and the others stand behind it
+-- 0 put first, and a part put after it
 pub placed_first : (items part : List ℕ) → 0 < length items → put_mid 1 (length (slice_set items 0 0) - 1) (slice_set items 0 0) part ≡ 0 ∷ part
 placed_first [] part some = absurd (omega arith)
 placed_first (v ∷ items) part some =
     let nothing : drop (length (0 ∷ items) - 1) items ≡ [] = drop_all (length (0 ∷ items) - 1) items (omega arith) in
     ap (λ l. 0 ∷ l) (ap (λ l. part ++ l) nothing ∙ append-nil part)
 
--- what is said of a value, where there is one
+-- a statement about an optional value, if there is one, is about this value
 pub of_some : {X : Type 0} (P : X → Type 0) (o : Option X) (x : X) → o ≡ Some x → IfSome o P → P x
 of_some P o x is said = subst (λ o. IfSome o P) is said
 

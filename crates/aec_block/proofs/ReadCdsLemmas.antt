@@ -1,4 +1,4 @@
--- What the parts of a coded data set stand for, from what was taken of them.
+-- What the parts of a coded data set stand for, from the bits that were taken.
 use Rattle.std.proofs.Common.{◌≡◌, ℕ, ◌+◌, ◌-◌, ◌/◌, ◌^◌, ◌<◌, ◌≤◌, Bool, true, false, Option, Some, None, List, refl, sym, ap, ◌∙◌, arith}
 use Rattle.std.specs.Option.{is_some}
 use Rattle.std.specs.List.{AllByRecursion}
@@ -30,7 +30,7 @@ when_same true false x y e = absurd (cc)
 when_same false true x y e = absurd (cc)
 when_same false false x y e = record { test = refl; value = λ t. absurd (cc) }
 
--- high parts that were read, all of which are small, or not all
+-- high parts that were read, and whether all are small
 pub record AreRead (limit n : ℕ) (start middle : List Bool) (highs : List ℕ) (fit : Bool) : Type 0 where
   pub read : values_at fs_at n start ≡ taken highs middle
   pub test : all_below limit highs ≡ fit
@@ -43,7 +43,7 @@ highs_read limit n start middle highs fit read =
     let same = when_same (all_below limit m.value) fit m.value highs m.after in
     (m.value, (record { read = m.before; test = same.test }, λ small. same.value (same.test ∙ small)))
 
--- with their low bits
+-- high parts and low bits that were read make split values
 pub split_read : (limit k n : ℕ) (start middle rest : List Bool) (highs lows : List ℕ) → values_at fs_at n start ≡ taken highs middle
     → values_at (binary_at k) n middle ≡ taken lows rest
     → map_taken (small_values limit) (split_at k n start) ≡ taken (small_values limit (joined_values k highs lows)) rest
@@ -80,7 +80,7 @@ small_highs m limit high_limit k n start middle highs fit within some fits is_hi
     rw (← h.1.1 small) (ap (λ l. all_below l h.0) (sym is_high_limit) ∙ (h.1.0.test ∙ small)) in
     highs_below m k limit highs within some fits (below-from_test ((limit - 1) / 2 ^ k + 1) highs test)
 
--- where k is at most the width, they make small values
+-- if k is at most n, small high parts make small values
 pub split_fits : (bits limit high_limit k n : ℕ) (start middle rest : List Bool) (highs lows values : List ℕ) (fit : Bool)
     → limit ≡ 2 ^ bits → high_limit ≡ (limit - 1) / 2 ^ k + 1 → k ≤ bits → fit ≡ true
     → map_taken (small_values high_limit) (values_at fs_at n start) ≡ taken (when fit highs) middle
@@ -94,7 +94,7 @@ split_fits bits limit high_limit k n start middle rest highs lows values fit is_
     split_small bits limit high_limit k n start middle rest highs lows values fit is_limit small high_read low_read joined
     ∙ ap (λ b. taken (when b values) rest) all
 
--- ---- values in as many bits as a sample has
+-- ---- values of n bits
 
 plain_checked : (s : Settings) (reference : Option ℕ) (values : List ℕ) → AllByRecursion (λ v. v < 2 ^ s.bits) values
     → checked_body s reference (uncompressed_values values) ≡ Some (Single (block_of_values reference values))

@@ -1,4 +1,4 @@
--- A run of zero blocks that was read, and where none begins.
+-- A run of zero blocks that was read, and when no run begins the bits.
 use Rattle.std.proofs.Common.{◌≡◌, ℕ, ◌+◌, Bool, true, false, Option, List, [], ◌∷◌, ◌++◌, length, drop, append_assoc, refl, ap, ◌∙◌}
 use Rattle.aec_params.specs.declared.settings.Settings.{Settings}
 use Rattle.aec_params.specs.Codewords.{fs}
@@ -19,7 +19,7 @@ has_one-behind [] ys one = one
 has_one-behind (true ∷ xs) ys one = refl
 has_one-behind (false ∷ xs) ys one = has_one-behind xs ys one
 
--- its code ends in a one
+-- the code of a run has a 1
 pub run-has_one : (s : Settings) (due : Bool) (old new : Cursor) (reference : Option ℕ) (len : RunLen)
     → (c : CodedDataSet) × IsReadAs s due old new c (Zeros reference len) → has_one (bits_at old) ≡ true
 run-has_one s due old new reference len read = by_body c.body read.1.answer (ap has_one read.1.set.stands)
@@ -41,7 +41,7 @@ run-has_one s due old new reference len read = by_body c.body read.1.answer (ap 
         stands ∙ (ap has_one (append_assoc front (middle ++ fs m) rest ∙ ap (λ l. front ++ l) (append_assoc middle (fs m) rest))
         ∙ has_one-behind front (middle ++ (fs m ++ rest)) (has_one-behind middle (fs m ++ rest) (has_one-fs (fs m ++ rest) rest m refl)))
 
--- ---- where none begins
+-- ---- when no run begins the bits
 
 pub no_run-stands : (s : Settings) (due : Bool) (old : Cursor) → IsAllowed s → HasNoRun s due (bits_at old)
     → (c : CodedDataSet) → IsSetAt s due old.list old.pos c → is_run_body c.body ≡ false

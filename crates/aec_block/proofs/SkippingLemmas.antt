@@ -1,5 +1,5 @@
--- Values that are gone over: their length alone where nothing judges them, and split values by
--- their high parts.
+-- Skipped values: only their length counts if no value can be too large, and only the high parts of
+-- split values are checked.
 use Rattle.std.proofs.Common.{◌≡◌, ℕ, zero, suc, ◌+◌, ◌-◌, ◌*◌, ◌/◌, ◌^◌, ◌<◌, ◌≤◌, Bool, true, false, Option, Some, None, Result, Ok, Err, List, [], ◌∷◌, length, take, drop, refl, sym, ap, ◌∙◌, inl, inr, arith}
 use Rattle.std.specs.Option.{is_some}
 use Rattle.std.specs.Prelude.{OnOk, MatchResult}
@@ -27,7 +27,7 @@ use Rattle.aec_block.proofs.StandingLemmas.{unmapped}
 use Rattle.aec_block.proofs.LengthLemmas.{length-fs}
 use Rattle.aec_block.proofs.JoiningLemmas.{below-from_test, test-from_below, highs_below, joined_below, high_fails}
 
--- ---- numbers that nothing judges
+-- ---- numbers that aren't checked
 
 none_kept : (f : List ℕ → List ℕ) (t : Taken (List ℕ)) → map_taken no_values (map_taken f t) ≡ map_taken no_values t
 none_kept f nothing = refl
@@ -53,7 +53,7 @@ numbers_gone_over w n m old new (Ok v) count moves refuses inside same =
 numbers_gone_over w n m old new (Err e) count moves refuses inside same =
     ap (map_taken no_values) (values_at-missing w n (bits_at old) (omega (arith, length-drop old.pos old.list, refuses.0)))
 
--- ---- high parts that the ones tell
+-- ---- high parts found by their 1 bits
 
 abbrev pub total : List ℕ → ℕ
 total [] = 0
@@ -107,12 +107,12 @@ ones_missing (suc n) (true ∷ bits) e = rw (ones_missing n bits (further-none 1
 ones_missing (suc n) (false ∷ bits) e =
     missing_behind_zero n bits (ones_missing (suc n) bits (further-none 1 (behind_ones (suc n) bits) e))
 
--- none of the numbers is above their sum
+-- if the sum of numbers is below a limit, each number is
 below-total : (limit : ℕ) (numbers : List ℕ) → total numbers < limit → all_below limit numbers ≡ true
 below-total limit [] small = refl
 below-total limit (v ∷ numbers) small = rw (lt-ltb v limit (omega arith), below-total limit numbers (omega arith)) refl
 
--- the fundamental sequences of numbers are as long as their sum and their number
+-- the length of fundamental sequences: the sum of their numbers, plus one for each
 length-sequences : (numbers : List ℕ) → length (flat_map fs numbers) ≡ total numbers + length numbers
 length-sequences [] = refl
 length-sequences (v ∷ numbers) =
@@ -130,7 +130,7 @@ small_sum n gone limit old new found moves same small =
 
 -- ---- split values
 
--- where k is at most the width, the high parts alone say whether the values are small
+-- if k is at most n, the high parts alone decide whether the values are small
 judged_by_highs : (bits k n : ℕ) (highs lows : List ℕ) → k ≤ bits → AreBelow (2 ^ k) lows → length highs ≡ length lows
     → all_below (2 ^ bits) (joined_values k highs lows) ≡ all_below ((2 ^ bits - 1) / 2 ^ k + 1) highs
 judged_by_highs bits k n highs lows within below same =
@@ -154,7 +154,7 @@ split_gone_over bits limit high_limit k n start middle rest fit is_limit is_high
     let high_limit_is : high_limit ≡ (2 ^ bits - 1) / 2 ^ k + 1 = is_high_limit ∙ ap (λ l. (l - 1) / 2 ^ k + 1) is_limit in
     rw (highs.before, lows.before) (ap (λ b. taken b rest) (judged ∙ (ap (λ l. all_below l highs.value) (sym high_limit_is) ∙ highs.after)))
 
--- ---- what stands behind the reference sample
+-- ---- what follows the reference sample
 
 pub uncompressed_body : (s : Settings) (reference : Option ℕ) (is_reference : Bool) (kind : Kind) (start rest : List Bool)
     → is_reference ≡ is_some reference → kind ≡ NoCompression

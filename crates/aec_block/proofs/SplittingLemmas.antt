@@ -1,4 +1,4 @@
--- The first k that one more doesn't make shorter is the best.
+-- The first k whose successor isn't shorter is the best.
 use Rattle.std.proofs.Common.{◌≡◌, ℕ, zero, suc, refl, ap, ◌∙◌, ◌+◌, ◌-◌, ◌*◌, ◌/◌, ◌^◌, ◌<◌, ◌≤◌, subst, arith, ⊎_elim, inl, inr, List, [], ◌∷◌, length}
 use Rattle.std.proofs.lemmas.Bool.{cases_lt}
 use lib.Count.{count_leading_zeros, leading_of_zero}
@@ -8,7 +8,7 @@ use Rattle.std.proofs.Math.Nat.{lt-div-mul-add, div-mul-le_self, add-mul, mul-le
 use Rattle.std.proofs.lemmas.List.Sums.{sum_by-cons}
 use Rattle.aec_block.specs.Lengths.{sum_of_shifted, split_values_length, IsBestSplit}
 
--- the sum falls by half at least
+-- with one more low bit removed, the sum is at most half
 pub sum_of_shifted-halved : (k : ℕ) (values : List ℕ) → 2 * sum_of_shifted (k + 1) values ≤ sum_of_shifted k values
 sum_of_shifted-halved k [] = omega arith
 sum_of_shifted-halved k (v ∷ values) =
@@ -18,8 +18,8 @@ sum_of_shifted-halved k (v ∷ values) =
     let half : v / 2 ^ k / 2 ≡ v / 2 ^ (k + 1) = shr-shr v k 1 in
     omega arith
 
--- where the sum is no more than the number of values, each k from there on is no shorter than the
--- one before
+-- if the sum for k is at most the number of values, so is each later sum; then no later k is
+-- shorter than the k before it
 sum_of_shifted-small : (k d : ℕ) (values : List ℕ) → sum_of_shifted k values ≤ length values → sum_of_shifted (k + d) values ≤ length values
 sum_of_shifted-small k zero values small = subst (λ j. sum_of_shifted j values ≤ length values) (omega arith) small
 sum_of_shifted-small k (suc d) values small =
@@ -46,7 +46,7 @@ more k (suc d) values small =
     after : (a b c : ℕ) → a ≤ b → b ≤ c → a ≤ c
     after a b c f g = omega arith
 
--- no later k is shorter
+-- if k + 1 isn't shorter than k, no later k is
 no_later : (k j : ℕ) (values : List ℕ) → sum_of_shifted k values ≤ sum_of_shifted (k + 1) values + length values → k < j
     → split_values_length k values ≤ split_values_length j values
 no_later k j values stop later =
@@ -60,14 +60,14 @@ no_later k j values stop later =
     after : (a b c : ℕ) → a ≤ b → b ≤ c → a ≤ c
     after a b c f g = omega arith
 
--- each k before is longer than k
+-- each j below k is longer than k
 abbrev pub FallsTo : ℕ → List ℕ → Type 0
 FallsTo k values = (j : ℕ) → j < k → split_values_length k values < split_values_length j values
 
 pub falls_to-none : (values : List ℕ) → FallsTo 0 values
 falls_to-none values j h = absurd (omega arith)
 
--- one more is shorter
+-- if k + 1 is shorter than k, the lengths fall to k + 1
 falls_to-next : (k : ℕ) (values : List ℕ) → FallsTo k values → split_values_length (k + 1) values < split_values_length k values → FallsTo (k + 1) values
 falls_to-next k values falls step j h =
     ⊎_elim (λ e. after (split_values_length (k + 1) values) (split_values_length k values) (split_values_length j values) step (falls j e))
@@ -82,7 +82,7 @@ falls_to-more k sum next values falls at_k at_next shorter =
     let step : split_values_length (k + 1) values < split_values_length k values = omega arith in
     falls_to-next k values falls step
 
--- a sum by its quotients: what the low bits can add
+-- a bound of the sum of values, by their high parts and what their low bits can add
 sum_of_shifted-whole : (k : ℕ) (values : List ℕ) → sum_of_shifted 0 values + length values ≤ sum_of_shifted k values * 2 ^ k + length values * 2 ^ k
 sum_of_shifted-whole k [] = omega arith
 sum_of_shifted-whole k (v ∷ values) =
@@ -97,8 +97,7 @@ sum_of_shifted-whole k (v ∷ values) =
     let all_counts = ap (λ (n : ℕ). n * 2 ^ k) one_more ∙ counts in
     omega arith
 
--- where the values add up to more than three times their number with k low bits, one low bit more
--- makes them shorter
+-- if the values add up to more than 3 * 2 ^ k times their number, k + 1 makes them shorter
 longer_before : (k : ℕ) (values : List ℕ) → 3 * length values * 2 ^ k < sum_of_shifted 0 values
     → split_values_length (k + 1) values < split_values_length k values
 longer_before k values past =
@@ -119,7 +118,7 @@ falls_to-first (suc k) sum values is past =
     subst (λ i. FallsTo i values) (omega arith)
     (falls_to-next k values before (longer_before k values (subst (λ t. 3 * length values * 2 ^ k < t) is (past k (omega arith)))))
 
--- a number of fewer bits than another, with so many zeros behind it as make up for them, is less
+-- if `most` shifted left by j has fewer bits than `sum`, it is less than `sum`
 pub wider : (sum most j : ℕ) → sum < 2 ^ 64 → most < 2 ^ 64 → j < count_leading_zeros 64 most - count_leading_zeros 64 sum → most * 2 ^ j < sum
 wider zero most j sum_fits fits before =
     let none = leading_of_zero 64 in
@@ -136,7 +135,7 @@ wider (suc n) most j sum_fits fits before =
     let least = top.2 in
     omega arith
 
--- and with one zero more it is as great
+-- shifted left until it has more bits than `sum`, `most` is at least `sum`
 pub as_wide : (sum most : ℕ) → sum < 2 ^ 64 → most < 2 ^ 64 → 0 < most
     → sum ≤ most * 2 ^ (count_leading_zeros 64 most - count_leading_zeros 64 sum + 1)
 as_wide sum most sum_fits fits some =
@@ -153,13 +152,13 @@ as_wide sum most sum_fits fits some =
 
 pub ruleset widths = (wider, as_wide, leading_le)
 
--- one k more is past
+-- one more k whose bound is below the sum
 pub one_more_past : (k sum count : ℕ) → ((j : ℕ) → j < k → 3 * count * 2 ^ j < sum) → 3 * count * 2 ^ k < sum
     → (j : ℕ) → j < k + 1 → 3 * count * 2 ^ j < sum
 one_more_past k sum count before past j h =
     ⊎_elim (before j) (λ e. subst (λ i. 3 * count * 2 ^ i < sum) (omega arith) past) (cases_lt j k)
 
--- no values are no more than any number of them
+-- the bound holds also if there are no values
 pub close_or_none : (sum count k : ℕ) → (count ≡ 0 → sum ≡ 0) → (0 < count → sum ≤ 3 * count * 2 ^ (k + 1)) → sum ≤ 3 * count * 2 ^ (k + 1)
 close_or_none sum zero k none close = let empty = none refl in omega arith
 close_or_none sum (suc n) k none close = close (omega arith)
@@ -173,7 +172,7 @@ pub best-stopped : (options k sum next : ℕ) (values : List ℕ) → FallsTo k 
 best-stopped options k sum next values falls within at_k at_next stop =
     record { within = within; before = falls; after = λ j later below. no_later k j values (omega arith) later }
 
--- what is left of the values without k low bits, times 2^k, is no more than the values
+-- the sum of the high parts, times 2^k, is at most the sum of the values
 sum_of_shifted-product : (k : ℕ) (values : List ℕ) → sum_of_shifted k values * 2 ^ k ≤ sum_of_shifted 0 values
 sum_of_shifted-product k [] = omega arith
 sum_of_shifted-product k (v ∷ values) =
@@ -188,7 +187,8 @@ sum_of_shifted-product k (v ∷ values) =
 pub sum_of_shifted-few : (k : ℕ) (values : List ℕ) → sum_of_shifted 0 values ≤ 3 * length values * 2 ^ k → sum_of_shifted k values ≤ 3 * length values
 sum_of_shifted-few k values few = le_of_mul-le-mul_right (omega (arith, sum_of_shifted-product k values)) (pow_pos k)
 
--- the k to begin with, and the two behind it
+-- for each j below k, the values add up to more than 3 * 2 ^ j times their number, so the search
+-- may begin at k; it tries k, k + 1 and k + 2
 abbrev pub Begins : ℕ → List ℕ → Type 0
 Begins k values = (j : ℕ) → j < k → 3 * length values * 2 ^ j < sum_of_shifted 0 values
 

@@ -1,4 +1,4 @@
--- From what is taken of the bits that are left to the coded data set that stands at the position.
+-- From what is taken of the bits that are left, to the coded data set at the position.
 use Rattle.std.proofs.Common.{◌≡◌, ℕ, zero, suc, zero-add, [], ◌∷◌, ◌+◌, ◌-◌, ◌≤◌, Bool, true, false, Option, Some, None, List, ◌++◌, length, drop, refl, sym, ap, ◌∙◌, arith}
 use Rattle.std.proofs.lemmas.List.{length-append, length-drop}
 use Rattle.std.proofs.Math.Seq.{drop-append_seam, drop-nil}
@@ -27,7 +27,7 @@ drop-add (bit ∷ bits) (suc b) n =
     let place : suc b + n ≡ suc (b + n) = omega arith in
     ap (λ m. drop m (bit ∷ bits)) place ∙ drop-add bits b n
 
--- the position is behind the front of what is left
+-- the bits after `front`, which begins at place b, are the rest
 drop-behind : (bits front rest : List Bool) (b : ℕ) → drop b bits ≡ front ++ rest → drop (b + length front) bits ≡ rest
 drop-behind bits front rest b begins =
     drop-add bits b (length front) ∙ (ap (drop (length front)) begins ∙ drop-append_seam front rest)
@@ -35,7 +35,7 @@ drop-behind bits front rest b begins =
 pub stands_from : (bits : List Bool) (b : ℕ) (s : Settings) (c : CodedDataSet) (rest : List Bool) → drop b bits ≡ cds_bits s c ++ rest → StandsAt s bits b c
 stands_from bits b s c rest begins = begins ∙ ap (λ l. cds_bits s c ++ l) (sym (drop-behind bits (cds_bits s c) rest b begins))
 
--- what a coded data set tells, where its values are at most 2^n - 1
+-- what `told` says about a coded data set, if its values are at most 2^n - 1
 abbrev pub told_small : {Y : Type 0} → (CodedDataSet → Y) → Settings → CodedDataSet → Option Y
 told_small told s c = when (has_small_values s c) (told c)
 
@@ -84,8 +84,8 @@ same_cursor old new front inside_old inside_new same begins =
     omega (arith, length-drop old.pos old.list, length-append front (bits_at new)) in
     cursor_is old new (old.pos + length front) same pos
 
--- the coded data set c, whose values are at most 2^n - 1, tells the answer, and the cursor moves
--- behind it
+-- the coded data set c, whose values are at most 2^n - 1, is at the old cursor, the new cursor is
+-- after it, and the answer is what `told` says about it
 record IsToldBy {Y : Type 0} (told : CodedDataSet → Y) (s : Settings) (is_reference : Bool) (old new : Cursor) (c : CodedDataSet) (answer : Y) : Type 0 where
   set : IsSetAt s is_reference old.list old.pos c
   small : has_small_values s c ≡ true

@@ -14,7 +14,7 @@ use Rattle.aec_block.specs.Lengths.{sum_of_shifted}
 use Rattle.aec_block.proofs.LanesLemmas.{eight_more}
 use Rattle.aec_block.proofs.SplittingLemmas.{sum_of_shifted-halved}
 
--- what adding lane to lane and adding up the lanes show as
+-- adding lane to lane adds the sums of the lanes; adding up the lanes makes their sum
 pub sum_l-added : (xs ys : List ℕ) → length xs ≡ 8 → length ys ≡ 8
     → sum_l (zip2 (act2 (add unsigned) (s_int w32) (s_int w32) (s_int w32)) xs ys) ≡ sum_l xs + sum_l ys
 sum_l-added xs ys long_x long_y = sum-zip2 xs ys (long_x ∙ sym long_y)
@@ -24,16 +24,16 @@ fold_l-added xs = omega (arith, fold-sum 0 xs)
 
 pub ruleset additions = (adds_fit, sum_fits, sum_l-added, fold_l-added, length-zip2)
 
--- a front has no greater sum
+-- the first n values add up to at most the sum of all
 front-le : (k n : ℕ) (values : List ℕ) → sum_of_shifted k (take n values) ≤ sum_of_shifted k values
 front-le k n values = omega (arith, sum_by-take-drop (λ (v : ℕ). v / 2 ^ k) values n)
 
--- eight values more, which leave the sum small
+-- with eight more values, the sum is still below 2^32
 pub eight_more-fits : (k i : ℕ) (values : List ℕ) → sum_of_shifted k values < 2 ^ 32
     → sum_of_shifted k (take (8 * i) values) + sum_of_shifted k (take (8 * i + 8 - 8 * i) (drop (8 * i) values)) < 2 ^ 32
 eight_more-fits k i values small = omega (arith, eight_more k i values, front-le k (8 * (i + 1)) values)
 
--- one low bit less leaves no more
+-- with one more low bit removed, the sum is still below 2^32
 pub less-small : (k : ℕ) (values : List ℕ) → sum_of_shifted k values < 2 ^ 32 → sum_of_shifted (k + 1) values < 2 ^ 32
 less-small k values small = omega (arith, sum_of_shifted-halved k values)
 
@@ -42,7 +42,7 @@ two_less-small k values small =
     let two : k + 1 + 1 ≡ k + 2 = omega arith in
     subst (λ i. sum_of_shifted i values < 2 ^ 32) two (less-small (k + 1) values (less-small k values small))
 
--- nor has a part
+-- the sum of a part of the values is below 2^32 too
 pub part-small : (k m n : ℕ) (values : List ℕ) → sum_of_shifted k values < 2 ^ 32 → sum_of_shifted k (take m (drop n values)) < 2 ^ 32
 part-small k m n values small =
     omega (arith, sum_by-take-drop (λ (v : ℕ). v / 2 ^ k) values n, sum_by-take-drop (λ (v : ℕ). v / 2 ^ k) (drop n values) m)
@@ -50,7 +50,7 @@ part-small k m n values small =
 pub front-small : (k n : ℕ) (values : List ℕ) → sum_of_shifted k values < 2 ^ 32 → sum_of_shifted k (take n values) < 2 ^ 32
 front-small k n values small = omega (arith, front-le k n values)
 
--- values of few bits add up to less than 2^32
+-- values of n bits add up to at most 2 ^ n - 1 times their number
 below-sum : (n : ℕ) (values : List ℕ) → AllByRecursion (λ v. v < 2 ^ n) values → sum_of_shifted 0 values + length values ≤ length values * 2 ^ n
 below-sum n [] below = omega arith
 below-sum n (v ∷ values) below =
@@ -59,7 +59,7 @@ below-sum n (v ∷ values) below =
     let here = below.0 in
     omega arith
 
--- a quotient has the fewer bits
+-- values of m + k bits without k low bits add up to at most 2 ^ m - 1 times their number
 shifted-below : (k n m : ℕ) (values : List ℕ) → n ≤ m + k → AllByRecursion (λ v. v < 2 ^ n) values
     → sum_of_shifted k values + length values ≤ length values * 2 ^ m
 shifted-below k n m [] wide below = omega arith

@@ -1,4 +1,4 @@
--- Samples put in the place of others: the front that is done, with one sample or eight more.
+-- Samples that replace others: the first part that is done, with one or eight more samples.
 use Rattle.std.proofs.Common.{◌≡◌, ℕ, ◌+◌, ◌-◌, ◌<◌, ◌≤◌, ◌∙◌, ℤ, List, [], ◌∷◌, ◌++◌, length, take, drop, slice_set, refl, sym, ap, subst, arith}
 use Rattle.std.proofs.lemmas.Grind.{take-set_at}
 use Rattle.std.proofs.lemmas.List.{take_all, length-take, length-drop}
@@ -11,7 +11,7 @@ use borrow.Rule.Slice.PartMut.{mid_of, put_mid, same_len_mid}
 pub one_more : (xs : List ℤ) (i : ℕ) (x : ℤ) → i < length xs → take (i + 1) (slice_set xs i x) ≡ take i xs ++ x ∷ []
 one_more xs i x within = take-set_at xs i (i + 1) x refl within
 
--- the same samples behind others
+-- the samples of values, appended to other samples
 abbrev pub unmaps-behind : (s : Settings) (p : ℤ) (values : List ℕ) (old new : List ℤ) → Unmaps s p values [] new → Unmaps s p values old (old ++ new)
 unmaps-behind s p values old new unmaps =
     record { more = unmaps.more; appended = ap (λ xs. old ++ xs) unmaps.appended; held = unmaps.held; mapped = unmaps.mapped }
@@ -22,7 +22,7 @@ unmaps_to-behind s p q values old new to = record { so_far = unmaps-behind s p v
 length-mid : (at : ℕ) (samples : List ℤ) → length (mid_of at (length samples - at) samples) ≡ length samples - at
 length-mid at samples = omega (arith, length-take (length samples - at) (drop at samples), length-drop at samples)
 
--- a part more, of which the samples stand where it does
+-- one more part of the values, whose samples are put at its place
 pub part_more : (s : Settings) (p q r : ℤ) (values others all : List ℕ) (samples part : List ℤ) (at k n : ℕ) → values ++ others ≡ all → n ≡ at + k
     → at + k ≤ length samples → length part ≡ k → UnmapsTo s p q values [] (take at samples) → UnmapsTo s q r others [] part
     → UnmapsTo s p r all [] (take n (put_mid at k samples part))
@@ -31,7 +31,7 @@ part_more s p q r values others all samples part at k n all_is sum within len fr
     unmaps_to-join s p q r values others [] (take at samples) (take at samples ++ part) front (unmaps_to-behind s q r others (take at samples) part more) in
     rw (← all_is, take-put_mid at k samples part n (omega (arith, sum, len)) (omega (arith, within))) done
 
--- the part up to the end
+-- the part of the values up to the end
 pub rest_more : (s : Settings) (p q start : ℤ) (values others all : List ℕ) (samples part : List ℤ) (at : ℕ) → start ≡ p → values ++ others ≡ all
     → at ≤ length samples → length part ≡ length samples - at → UnmapsTo s start q values [] (take at samples) → Unmaps s q others [] part
     → Unmaps s p all [] (put_mid at (length samples - at) samples part)

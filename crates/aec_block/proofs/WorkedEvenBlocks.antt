@@ -1,5 +1,5 @@
--- Ten values as the loops over eights, fours and pairs see them: groups, and a rest of two. Each
--- value is worked out by hand.
+-- Ten values in the loops over eights, fours and pairs: groups, and a rest of two. Each value is
+-- worked out by hand.
 use Rattle.std.proofs.Common.{◌≡◌, ℕ, List, [], ◌∷◌, ◌++◌, true, pos, take, drop, map, replicate, refl, rules}
 use Rattle.aec_params.specs.Codewords.{binary}
 use Rattle.aec_params.specs.CodedDataSets.{pair_bits}
@@ -39,8 +39,8 @@ high_parts_in_a_word = refl
 pub high_parts_of_the_rest : high_parts 2 (drop 8 ten_numbers) ≡ binary 6 0x9
 high_parts_of_the_rest = refl
 
--- ---- low bits of eight, four and two values at a time, and of the last two; nine values, as a
--- reference block writes them, leave one behind twos
+-- ---- low bits of eight, four and two values at a time, and of the rest: two of ten values, or one
+-- of nine, as a reference block writes them
 
 pub low_parts_by_eights : low_parts 2 ten_numbers ≡ binary 16 0x1B1B ++ binary 4 0x1
 low_parts_by_eights = refl

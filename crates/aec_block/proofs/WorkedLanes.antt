@@ -1,5 +1,5 @@
--- Eight values as the lanes see them: where near values lead, and the low bits of eight values as
--- one number. Each value is worked out by hand.
+-- Values in lanes: the offsets that near values lead to, and the low bits of eight values as one
+-- number. Each value is worked out by hand.
 use Rattle.std.proofs.Common.{◌≡◌, ◌+◌, ◌*◌, ◌^◌, [], ◌∷◌, map, refl, arith}
 use Rattle.aec_block.specs.Offsets.{near_difference, places_before, places_after}
 use Rattle.aec_block.proofs.LowWordLemmas.{SpellsEach}
@@ -9,7 +9,7 @@ pub differences_of_near_values : map near_difference (0 ∷ 1 ∷ 2 ∷ 3 ∷ 4 
     ≡ 0 ∷ 4294967295 ∷ 1 ∷ 4294967294 ∷ 2 ∷ 4294967293 ∷ []
 differences_of_near_values = refl
 
--- from 250 on by 3, -1, 0 and -2
+-- from 250, by the differences 3, -1, 0 and -2
 pub places_before_each : places_before 250 (3 ∷ 4294967295 ∷ 0 ∷ 4294967294 ∷ []) ≡ 250 ∷ 253 ∷ 252 ∷ 252 ∷ []
 places_before_each = refl
 
@@ -24,6 +24,6 @@ places_past_the_ends = refl
 pub three_bits_each : SpellsEach 3 24 (5 ∷ 0 ∷ 0 ∷ 0 ∷ 0 ∷ 0 ∷ 0 ∷ 3 ∷ []) 0xA00003
 three_bits_each = record { below = omega arith; bits = refl }
 
--- the greatest of seven bits in front, and a 1 at the end
+-- first the greatest number of seven bits, last a 1
 pub seven_bits_each : SpellsEach 7 56 (127 ∷ 0 ∷ 0 ∷ 0 ∷ 0 ∷ 0 ∷ 0 ∷ 1 ∷ []) (127 * 2 ^ 49 + 1)
 seven_bits_each = record { below = omega arith; bits = refl }

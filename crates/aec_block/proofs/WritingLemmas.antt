@@ -1,4 +1,4 @@
--- Codewords appended one after another into reserved room.
+-- Codewords appended one by one within reserved room.
 use Rattle.std.proofs.Common.{◌≡◌, ℕ, zero, suc, ◌+◌, ◌-◌, ◌*◌, ◌/◌, ◌%◌, ◌^◌, ◌<◌, ◌≤◌, refl, ap, ◌∙◌, sym, subst, arith, Bool, Option, Some, None, List, [], ◌∷◌, ◌++◌, length, take, drop, get_or, drop-cons, append_assoc, append-nil, length-append, length-drop, if◌then◌else◌, nat_le, lit<}
 use Rattle.std.specs.List.{flat_map, AllByRecursion}
 use Rattle.std.proofs.lemmas.List.{take_rest}
@@ -16,7 +16,7 @@ use Rattle.aec_bits.specs.BitBuf.{Bits}
 use Rattle.aec_block.specs.Written.{high_parts, low_parts, split_parts, Adds, GathersBits}
 use Rattle.aec_block.proofs.LengthLemmas.{length-fs, length-binary, length-reference_bits}
 
--- the next codeword is gathered: what was held before may be in the list now
+-- the next codeword is gathered; bits held before it may now be in the list
 pub gathering-more : (old new next : Bits) (done held kept todo codeword rest : List Bool) → GathersBits done old (held ++ todo) new
     → todo ≡ codeword ++ rest → GathersBits (held ++ codeword) new kept next → GathersBits done old (kept ++ rest) next
 gathering-more old new next done held kept todo codeword rest so_far split step = record {
@@ -33,14 +33,14 @@ gathering-more old new next done held kept todo codeword rest so_far split step 
       omega arith;
 }
 
--- a part behind what was gathered, and one more
+-- a part appended after what was gathered, and then one more part
 pub parts-joined : (old middle new held between kept first second : List Bool) → middle ++ between ≡ old ++ (held ++ first)
     → new ++ kept ≡ middle ++ (between ++ second) → new ++ kept ≡ old ++ (held ++ (first ++ second))
 parts-joined old middle new held between kept first second begun added =
     added ∙ sym (append_assoc middle between second) ∙ ap (λ (bits : List Bool). bits ++ second) begun
     ∙ append_assoc old (held ++ first) second ∙ ap (λ (bits : List Bool). old ++ bits) (append_assoc held first second)
 
--- bits are gathered after others
+-- bits gathered after other bits
 pub gathers-then : (old middle new : Bits) (done held more kept : List Bool) → GathersBits done old held middle → GathersBits (held ++ more) middle kept new
     → GathersBits (done ++ more) old kept new
 gathers-then old middle new done held more kept first second = record {
@@ -54,7 +54,7 @@ gathers-then old middle new done held more kept first second = record {
       omega arith;
 }
 
--- what is held is appended: these are the bits
+-- if the held bits are appended, all gathered bits are appended
 pub gathers-added : (old middle new : Bits) (done held bits : List Bool) → GathersBits done old held middle → Adds held middle new → done ≡ bits
     → Adds bits old new
 gathers-added old middle new done held bits first last is = record {
@@ -103,7 +103,7 @@ length-parts todo codeword rest n split is =
     let total = ap (length {A = Bool}) split ∙ length-append codeword rest in
     omega arith
 
--- nothing is left
+-- if no codeword is left, all are gathered
 pub gathered-all : (old new : Bits) (done held todo : List Bool) → GathersBits done old (held ++ todo) new → todo ≡ [] → GathersBits done old held new
 gathered-all old new done held todo so_far none =
     subst (λ bits. GathersBits done old bits new) (ap (λ (bits : List Bool). held ++ bits) none ∙ append-nil held) so_far

@@ -1,5 +1,5 @@
--- What coding and decoding answer, from what the calls of the engine say of their parameters t and
--- limits.
+-- The answers of coding, decoding and ranges, from the contracts of the engine's calls, whose
+-- settings and limits are equal to the given ones.
 use Rattle.std.proofs.Common.{◌≡◌, ℕ, false, Option, Result, Ok, Err, List, inl, inr, refl, sym, subst}
 use Rattle.aec_params.specs.declared.settings.Settings.{Settings}
 use Rattle.aec_params.specs.declared.fault.Fault.{Fault}
@@ -12,7 +12,7 @@ use Rattle.aec_engine.proofs.InMemoryLemmas.{code_of, code_refusal, reading_of, 
 use Rattle.aec_engine.proofs.BufferLemmas.{fills_map}
 use Rattle.aec_c.specs.Calls.{most, IsCoding, coded, not_coded, lacks_memory, IsDecoding, decoded, not_decoded, no_memory, IsRanging, ranged, no_room}
 
--- a claim on the settings and the greatest limits
+-- a statement about settings and limits that are equal to s and the greatest limits
 at_most : (P : Settings → Caps → Type 0) (s t : Settings) (caps : Caps) → t ≡ s → caps ≡ most → P t caps → P s most
 at_most P s t caps same greatest holds = subst (λ t. P t most) same (subst (λ caps. P t caps) greatest holds)
 

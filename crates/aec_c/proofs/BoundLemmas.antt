@@ -1,4 +1,4 @@
--- The numbers of a bound fit 64 bits.
+-- The numbers from which a bound is computed fit 64 bits.
 use Rattle.std.proofs.Common.{◌≡◌, ℕ, ◌+◌, ◌*◌, ◌^◌, ◌<◌, ◌≤◌, leb, ap, sym, ◌∙◌, subst, Fits, w64, arith}
 use Rattle.std.proofs.Math.Facts.{Fits-of_lt}
 use Rattle.std.specs.Int.{div_ceil}
@@ -16,7 +16,7 @@ bits-most s allowed = leb-true s.bits 32 (and_parts (leb 1 s.bits) (leb s.bits 3
 interval-most : (s : Settings) → IsAllowed s → s.interval ≤ 4096
 interval-most s allowed = leb-true s.interval 4096 (and_parts (leb 1 s.interval) (leb s.interval 4096) allowed.interval).1
 
--- a rounded quotient is below the sum of its numbers
+-- a quotient, rounded up, is below the sum of dividend and divisor
 ceil-below : (m n : ℕ) → 0 < n → div_ceil m n < m + n
 ceil-below m n some =
     let below : div_ceil m n * n < m + n = (ceil_bounds m n some).1 in
@@ -41,7 +41,7 @@ bits_of_blocks s samples size width blocks sizes widths counts =
     ap (λ n. n * (5 + size * width)) counts ∙ (ap (λ j. div_ceil samples j * (5 + j * width)) sizes
     ∙ ap (λ n. div_ceil samples s.block_size * (5 + s.block_size * n)) widths)
 
--- the bits of all blocks
+-- the number of bits of all blocks fits 64 bits
 pub bits_fit : (s : Settings) (samples size width blocks : ℕ) → IsAllowed s → samples ≤ 2 ^ 32 → size ≡ s.block_size → width ≡ s.bits
     → blocks ≡ div_ceil samples size → Fits w64 (blocks * (5 + size * width))
 bits_fit s samples size width blocks allowed few sizes widths counts =
@@ -49,7 +49,7 @@ bits_fit s samples size width blocks allowed few sizes widths counts =
     let same = bits_of_blocks s samples size width blocks sizes widths counts in
     let below : blocks * (5 + size * width) < 18446744073709551616 = omega arith in Fits-of_lt below
 
--- their bytes, and one for each interval
+-- the number of bytes of all blocks, plus one for each interval, fits 64 bits
 pub bytes_fit : (s : Settings) (samples size width blocks interval bytes intervals : ℕ) → IsAllowed s → samples ≤ 2 ^ 32 → size ≡ s.block_size
     → width ≡ s.bits → blocks ≡ div_ceil samples size → bytes ≡ div_ceil (blocks * (5 + size * width)) 8 → interval ≡ s.interval
     → intervals ≡ div_ceil blocks interval → Fits w64 (bytes + intervals)

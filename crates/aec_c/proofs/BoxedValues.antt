@@ -1,4 +1,4 @@
--- A box of what a handle holds, as the box's own proofs see one.
+-- The box of what a handle holds, in the form that the proofs of `Box` use.
 use mathlib.Core.List.{[]}
 use mir.Syntax.{impl, tnil, dnil}
 use denote.RattleType.{RattleType}

@@ -1,5 +1,4 @@
--- A code is no longer than five bits and the plain samples for each block, and a byte for each
--- interval.
+-- A code has at most five bits and the plain samples for each block, and a byte for each interval.
 use Rattle.std.proofs.Common.{◌≡◌, ℕ, suc, ◌+◌, ◌-◌, ◌*◌, ◌^◌, ◌<◌, ◌≤◌, Bool, true, false, cond, if◌then◌else◌, Option, Some, None, ℤ, List, [], ◌∷◌, ◌++◌, length, map, sym, ap, ◌∙◌, subst, arith, ⊎_elim}
 use Rattle.std.specs.Prelude.{nat_lt, nat_le}
 use Rattle.std.specs.List.{AllByRecursion, flat_map, best_of}
@@ -51,7 +50,7 @@ length-binaries : (w : ℕ) (values : List ℕ) → length (flat_map (binary w) 
 length-binaries w [] = omega arith
 length-binaries w (v ∷ values) = omega (arith, length-append (binary w v) (flat_map (binary w) values), length-binary w v, length-binaries w values)
 
--- the reference sample and the values behind it, or all values
+-- the reference sample and the values after it, or all values, have n bits for each value
 length-written : (s : Settings) (reference : Option ℕ) (values : List ℕ) → 0 < length values
     → length (reference_bits s reference ++ flat_map (binary s.bits) (after_reference reference values)) ≡ length values * s.bits
 length-written s None values some = length-binaries s.bits values
@@ -84,7 +83,7 @@ single-most s b allowed full =
 run_code-next : (z : ℕ) (t : Bool) → run_code (z + 1) t ≤ run_code z t + 2
 run_code-next z t = grind (arith, nat_tests)
 
--- a run of one has fewer bits than a block, and one block more in a run adds fewer
+-- n + 2 is at most J * n: the code of a run of one, and one more block in a run, fit `block_most`
 run-most : (s : Settings) → IsAllowed s → s.bits + 2 ≤ s.block_size * s.bits
 run-most s allowed = omega (arith, mul-le-mul_right {m = 8} {n = s.block_size} s.bits (block_size-least s allowed), at_least_one_bit s allowed)
 
@@ -123,7 +122,7 @@ zero_block-most s reference (zero_run later z ∷ groups) allowed =
       run-most s allowed,
     )
 
--- blocks of as many values as the settings have
+-- blocks of J values each
 abbrev AreFull : Settings → List Block → Type 0
 AreFull s blocks = AllByRecursion (λ b. length b.values ≡ s.block_size) blocks
 
@@ -183,7 +182,7 @@ interval-most s v allowed =
 
 -- ---- all samples
 
--- the most bits of so many samples, and with them a byte for each interval
+-- the most bits of n samples: those of their blocks, and a byte for each interval
 abbrev samples_most : Settings → ℕ → ℕ
 samples_most s n = div_ceil n s.block_size * block_most s + 8 * div_ceil (div_ceil n s.block_size) s.interval
 

@@ -1,4 +1,4 @@
--- The bytes that are taken piece by piece are those of all bits.
+-- Bytes that are taken piece by piece are the bytes of all bits.
 use Rattle.std.proofs.Common.{◌≡◌, ℕ, zero, suc, ◌+◌, ◌*◌, ◌/◌, ◌<◌, ◌≤◌, Bool, false, List, ◌∷◌, ◌++◌, length, take, drop, replicate, sym, ap, ◌∙◌, arith}
 use Rattle.std.proofs.lemmas.List.{take-append-le, drop-append-le, drop-drop, length-drop, length-append}
 use Rattle.std.specs.Prelude.{map}

@@ -1,4 +1,4 @@
--- What the calls on a coder do, from what their steps say.
+-- What the calls on a coder do, from the contracts of their steps.
 use Rattle.std.proofs.Common.{◌≡◌, ℕ, ◌*◌, ◌/◌, ◌<◌, ◌≤◌, Bool, Option, None, Some, Result, Ok, Err, List, length, take, drop, refl, sym, ap, subst, ◌∙◌, arith}
 use Rattle.std.specs.Prelude.{IfErr, MatchOption}
 use Rattle.std.specs.Int.{div_ceil}
@@ -14,7 +14,7 @@ use Rattle.aec_c.specs.declared.reply.Reply.{Reply}
 use Rattle.aec_c.specs.Replies.{reply_to}
 use Rattle.aec_c.specs.Coders.{ready_bytes, TakesBytes, taken, no_room}
 
--- a refusal of a coder: its own, or that of the call
+-- the fault of a refused call: the coder's earlier refusal, or else the call's own
 refused_by : {U : Type 0} (Q : Type 0) (o : Option Fault) (r : Result U Fault) (fault : Fault) (Stops : Fault → Type 0) → r ≡ Err fault
     → MatchOption o (IfErr r Stops) (λ was. (r ≡ Err was) × Q) → MatchOption o (Stops fault) (λ was. (fault ≡ was) × Q)
 refused_by Q None r fault Stops e is = subst (λ r. IfErr r Stops) e is

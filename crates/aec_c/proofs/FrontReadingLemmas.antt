@@ -1,4 +1,4 @@
--- With a count, what the front of coded bytes is read as all of them are read as.
+-- With a count, if a first part of coded bytes can be read, all the bytes have the same reading.
 use Rattle.std.proofs.Common.{◌≡◌, ℕ, ◌+◌, ◌%◌, ◌≤◌, ◌==◌, min, Bool, true, false, ◌&&◌, if◌then◌else◌, Some, Result, Ok, Err, List, [], ◌∷◌, ◌++◌, length, take, drop, ◌^◌, inl, inr, ℤ, refl, sym, ap, subst, ◌∙◌, arith}
 use Rattle.std.specs.Int.{next_multiple_of}
 use Rattle.std.proofs.lemmas.List.{take-append-drop, drop-append-le, length-drop, length-append, append_assoc}
@@ -103,7 +103,7 @@ module _ (s : Settings) (caps : Caps) (n : ℕ) (front rest : List ℕ) (short :
       let same : _ ≡ bytes = cc in
       subst (λ bytes. IsRanged s caps (Some n) first len (input_of (front ++ rest) false) (Ok bytes)) same (cut_out samples (read_on samples read) within)
 
--- what was put into a buffer by an answer that is lawful of other bytes too
+-- if A implies B for each answer with bytes, a buffer filled as A states is filled as B states
 module _ (A B : Result (List ℕ) Fault → Type 0) (on : (answer : Result (List ℕ) Fault) (bytes : List ℕ) → answer ≡ Ok bytes → A answer → B (Ok bytes)) where
   fills_on : (before after : List ℕ) (len : ℕ) → FillsOne (OrMemory A) before after (Ok len) → FillsOne (OrMemory B) before after (Ok len)
   fills_on before after len one = by_answer one.answer refl
@@ -128,7 +128,7 @@ module _ (s : Settings) (caps : Caps) (n front : ℕ) (bytes before after : List
   in_most : length (take front bytes ++ drop front bytes) ≤ most.bytes
   in_most = subst (λ b. length b ≤ 2 ^ 40) (sym whole) short
 
-  -- the same of bytes that are cut
+  -- what decoding the first `front` bytes puts into a buffer, decoding all bytes puts there too
   pub fills_whole : FillsOne (OrMemory (IsDecoded s caps (Some n) (input_of (take front bytes) false))) before after (Ok len)
       → FillsOne (OrMemory (IsDecoded s most (Some n) (input_of bytes false))) before after (Ok len)
   fills_whole one =
@@ -136,7 +136,7 @@ module _ (s : Settings) (caps : Caps) (n front : ℕ) (bytes before after : List
       (fills_on _ _ (decoded_on s most n (take front bytes) (drop front bytes) in_most) before after len
       (subst (λ caps. FillsOne (OrMemory (IsDecoded s caps (Some n) (input_of (take front bytes) false))) before after (Ok len)) greatest one))
 
-  -- and of a range
+  -- the same for a range
   pub ranges_whole : (first length : ℕ) → FillsOne (OrMemory (IsRanged s caps (Some n) first length (input_of (take front bytes) false))) before after (Ok len)
       → FillsOne (OrMemory (IsRanged s most (Some n) first length (input_of bytes false))) before after (Ok len)
   ranges_whole first length one =

@@ -1,4 +1,4 @@
--- What a handle holds, from what taking it out and putting it back say.
+-- What a handle holds, from the contracts of taking its value out and putting it back.
 use Rattle.std.proofs.Common.{◌≡◌, ℕ, Option, None, Some, Result, Ok, Err, List, length, take, drop, ap, sym, ◌∙◌}
 use Rattle.std.specs.Prelude.{ℤ, IfOk, IfErr, OnOk}
 use Rattle.aec_params.specs.declared.fault.Fault.{Fault}
@@ -11,19 +11,19 @@ use Rattle.aec_c.specs.HandleCalls.{format_of}
 use Rattle.aec_c.specs.HandleReads.{IsCodeOf, IsRangeOf}
 use Rattle.aec_c.specs.declared.handle.OpenWorkspace.{OpenWorkspace}
 
--- what is taken out of a handle is what was held
+-- the value that is taken out of a handle is the value that it held
 pub was_in : {H X : Type 0} (value : H → Option X) (handle held : H) (inside before : X) → held ≡ handle → value held ≡ Some inside → before ≡ inside
     → value handle ≡ Some before
 was_in value handle held inside before same is seen = ap value (sym same) ∙ (is ∙ ap Some (sym seen))
 
--- what coding answers
+-- the answer of coding: the bytes of the code, or `Memory`
 pub code_answer : {X : Type 0} (w : OpenWorkspace) (view : X → List ℕ) (r : Result X Fault)
     → IfOk r (λ x. view x ≡ bytes_of (code_of (format_of w) w.workspace.samples))
     → IfErr r (λ fault. fault ≡ Memory) → IsCodeOf w (answer_by view r)
 code_answer w view (Ok x) is memory = is
 code_answer w view (Err fault) is memory = memory
 
--- what a range answers
+-- the answer of a range: its samples, or why they are refused
 pub range_answer : {X : Type 0} (samples : List ℤ) (first len : ℕ) (view : X → List ℤ) (r : Result X Fault)
     → IfOk r (λ x. view x ≡ take len (drop first samples)) → OnOk r (range_refusal (length samples) first len ≡ None)
     → IfErr r (λ fault. IsDue (range_refusal (length samples) first len) fault) → IsRangeOf samples first len (answer_by view r)

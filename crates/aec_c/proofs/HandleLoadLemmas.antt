@@ -1,4 +1,4 @@
--- What loading a handle does, from what its steps say.
+-- What loading a handle does, from the contracts of its steps.
 use Rattle.std.proofs.Common.{◌≡◌, ℕ, zero, suc, ◌+◌, ◌-◌, ◌/◌, ◌%◌, ◌==◌, min, false, if◌then◌else◌, ◌⊎◌, inl, inr, Option, None, Some, Ok, Err, List, [], length, ap, sym, ◌∙◌, ◌^◌, arith}
 use Rattle.std.specs.Prelude.{ℤ, MatchOption}
 use Rattle.std.specs.Int.{div_ceil}
@@ -24,7 +24,7 @@ why : (due : Option Fault) (needed calls after : ℕ) (fault : Fault)
 why None needed calls after fault lacks = inl lacks.fault_is
 why (Some d) needed calls after fault is = inr (ap Some (sym is.0))
 
--- an append to no samples codes each interval of the new ones
+-- an append to an empty list codes each interval of the new samples
 count_first : (n count : ℕ) → (if count == 0 then 0 else div_ceil (0 + count) n - 0 / n) ≡ div_ceil count n
 count_first n zero = sym (ap (λ q. q + min 1 (0 % n)) (zero-div n) ∙ ap (λ r. 0 + min 1 r) (zero-mod n))
 count_first n (suc k) =

@@ -1,5 +1,5 @@
--- The machine value of a handle, and what it owns, put beside it and taken from it. Assumes
--- `Logic`.
+-- The machine value of a handle: its fields, joined to what the handle owns and removed again.
+-- Assumes `Logic`.
 use Rattle.std.proofs.Common.{Bool, List, [], ◌∷◌, refl, lit<}
 use lib.Dec.{T}
 use seplogic.Ra.Ura.{Ura}
@@ -19,7 +19,7 @@ use denote.Struct.Struct.{Shape, Struct, layout, within}
 abbrev pub word : Ptr → Bool → Val
 word p full = vstruct (vcons (ptr_val p) (vcons (vbool full) vnil))
 
--- the fields of each kind of handle
+-- the fields of a handle of any kind: a pointer and a flag
 abbrev pub fields_of : Sym → Shape
 fields_of name = record { name = name; args = []; types = []; fields = RawPtr ∷ bool ∷ [] }
 

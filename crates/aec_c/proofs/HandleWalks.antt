@@ -48,7 +48,7 @@ module _ (R : RattleType) (L : Laws R) where
   abbrev pub made : Global → ℕ → ℕ → R.Denot → Loose.Denot
   made a b o x = record { at = block_ptr b o; alloc = a; value = x }
 
-  -- the code of `into_loose`, which names no type of what is held
+  -- the code of `into_loose`, which doesn't name the type of what is held
   abbrev taken : Body
   taken = seq (assign (place 7 []) (rv_opd (copy (place 3 []))))
       (seq (assign (place 8 []) (aggregate (copy (place 7 []) ∷ copy (place 2 []) ∷ [])))
@@ -84,12 +84,12 @@ module _ (R : RattleType) (L : Laws R) where
     hv_good : T (has_ty (layout_of heap.the_row) hv) × WT hv
     hv_good = (tt, ((tt, tt), tt))
 
-    -- what lies at a place, as a generic proof has it
+    -- the value at a place, in the form of a generic proof
     as_param : (b o : ℕ) (x : R.Denot) → ent 𝓤 (sem 𝓛 (part_at R full_share x b o)) (sem 𝓛 (part_at (box.R E) full_share x b o))
     as_param b o x =
         subst (λ (τs : List Ty). ent 𝓤 (sem 𝓛 (part_at R full_share x b o)) (sem 𝓛 (part_of (raw_all τs) R.own_val full_share x b o))) L.one (id⊢ 𝓤 _)
 
-    -- from what the caller makes of the result: at a handle that is full, and at one that is empty
+    -- for any `Post` that the result implies: `full` for a full handle, `none` for an empty one
     module _ (Post : Ptr → Bool → Option R.Denot → Val → SProp 𝓤)
         (full : (b o : ℕ) (x : R.Denot) (v : Val) → ent 𝓤 (sem 𝓛 (Out.own_val (Some (made a b o x)) (v ∷ []))) (Post (block_ptr b o) true (Some x) v))
         (none : (p : Ptr) (v : Val) → ent 𝓤 (sem 𝓛 (Out.own_val None (v ∷ []))) (Post p false None v)) where

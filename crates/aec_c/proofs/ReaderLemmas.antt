@@ -1,4 +1,4 @@
--- What the calls on a reader do, from what their steps say.
+-- What the calls on a reader do, from the contracts of their steps.
 use Rattle.std.proofs.Common.{leb, ◌≡◌, ℕ, ◌*◌, ◌^◌, ◌<◌, ◌≤◌, Ok, List, ℤ, ◌++◌, length, drop, refl, sym, ap, subst, ◌∙◌, arith, Option, Some}
 use Rattle.std.specs.Prelude.{nat_le, IfSome}
 use Rattle.std.proofs.Math.Nat.{mul-le-mul_left, mul-le-mul_right}
@@ -46,7 +46,7 @@ module _ (s : Settings) (samples : List ℤ) (old : List ℕ) (size : ℕ) (is :
       ∙ sym (cond-false (nat_le (length bytes) (length old)) (done (length bytes)) (wants_room (length bytes))
       (lt-leb (length bytes) (length old) (omega (arith, bytes_are, long))))
 
--- an interval was put, and the reader went on behind it
+-- the next interval was put into the buffer, and the reader is after it
 pub puts_next : (before after : OpenReader) (old new : List ℕ) (reply : Reply) (samples : List ℤ) (q : Place) (size : ℕ)
     → size ≡ storage_len before.reader.place.settings * length samples → ReadsInterval before.reader.place samples q → after.reader.place ≡ q
     → size ≤ length old → new ≡ all_stored before.reader.place.settings samples ++ drop size old → reply ≡ done size
@@ -56,7 +56,7 @@ puts_next before after old new reply samples q size is read there short put told
     next samples (subst (ReadsInterval before.reader.place samples) (sym there) read) (omega (arith, bytes_are s samples old size is, short))
     (put_left s samples old size is new short put) (put_reply s samples old size is reply short told)
 
--- there was no room, and the reader is where it was
+-- the buffer has no room for the next interval, and the reader is unchanged
 pub lacks_room : (before after : OpenReader) (old : List ℕ) (reply : Reply) (samples : List ℤ) (q : Place) (size : ℕ)
     → size ≡ storage_len before.reader.place.settings * length samples → ReadsInterval before.reader.place samples q → after.reader ≡ before.reader
     → length old < size → reply ≡ wants_room size → ReadsNext before after old old reply
@@ -64,7 +64,7 @@ lacks_room before after old reply samples q size is read stays long told =
     let s = before.reader.place.settings in
     no_room samples q read (omega (arith, bytes_are s samples old size is, long)) stays refl (long_reply s samples old size is reply long told)
 
--- the bytes of an interval are few
+-- the samples of an interval take at most 2^20 bytes
 pub bytes-most : (s : Settings) (n w : ℕ) → IsAllowed s → n ≤ interval_len s → w ≡ storage_len s → n * w ≤ 2 ^ 20
 bytes-most s n w a len width =
     let long : s.interval ≤ 4096 = leb-true s.interval 4096 (and_parts (leb 1 s.interval) (leb s.interval 4096) a.interval).1 in
@@ -75,7 +75,7 @@ bytes-most s n w a len width =
 pub if_some : {X : Type 0} (P : X → Type 0) (o : Option X) (x : X) → o ≡ Some x → IfSome o P → P x
 if_some P o x is holds = subst (λ o. IfSome o P) is holds
 
--- with room for an interval there is no want of memory
+-- with room for an interval, the fault is one of the bits, not `Memory`
 pub fault_at : (p : Place) (fault : Fault) (room : ℕ) → RefusesAt p fault → (fault ≡ Memory → room < interval_len p.settings)
     → interval_len p.settings ≤ room → IsFaultAt p fault
 fault_at p fault room (reached.no_room h within) full roomy = absurd (omega (arith, full refl, roomy))

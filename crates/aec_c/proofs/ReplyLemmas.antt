@@ -1,4 +1,4 @@
--- Replies to answers that were put into the buffer while they were made.
+-- Replies for answers that were written directly into the buffer.
 use Rattle.std.proofs.Common.{◌≡◌, ℕ, Result, Ok, Err, List, length, ap, ◌∙◌}
 use Rattle.aec_params.specs.declared.fault.Fault.{Fault}
 use Rattle.aec_engine.specs.Transfers.{answer_by}

@@ -1,4 +1,4 @@
--- A reading that is kept between calls: what its steps lead to, and the way to an interval.
+-- A reading that is kept between calls: the places that it reaches, and the way to an interval.
 use Rattle.std.proofs.Common.{◌≡◌, ℕ, ◌+◌, ◌-◌, ◌*◌, ◌/◌, ◌%◌, ◌<◌, ◌≤◌, ◌^◌, Bool, true, Option, List, [], Result, Err, IfErr, ℤ, ◌++◌, length, refl, sym, ap, subst, ◌∙◌, arith}
 use Rattle.std.specs.Int.{div_ceil}
 use Rattle.std.proofs.Math.Nat.{add-mul, zero-mod, mul-le-mul_right}
@@ -35,7 +35,7 @@ counted_none s count limit bits = record {
   counted = refl;
 }
 
--- behind an interval its samples are counted too
+-- after an interval its samples are counted too
 pub counted_on : (p q : Place) (before : ℕ) (ys : List ℤ) → IsAllowed p.settings → HasCounted p before → ReadsInterval p ys q
     → HasCounted q (before + length ys)
 counted_on p q before ys a has step = record {
@@ -56,13 +56,13 @@ later k left m p i b one_less way wanted within to_end = record {
     product : left * p.settings.interval ≡ m * p.settings.interval + p.settings.interval
     product = ap (λ n. n * p.settings.interval) one_less ∙ (add-mul m 1 p.settings.interval ∙ omega arith)
 
--- an interval further on it is one interval less
+-- after one more interval, the way is one interval shorter
 pub way_on : (k left m : ℕ) (p q : Place) (ys : List ℤ) → left ≡ m + 1 → IsOnWay k left p → ReadsInterval p ys q → IsOnWay k m q
 way_on k left m p q ys one_less way step =
     subst (IsOnWay k m) (sym step.piece.same) (later k left m p q.block q.bit one_less way step.wanted step.within
     (λ more. step.to_end (subst (λ q. is_wanted_at q ≡ true) (sym step.piece.same) more)))
 
--- a fault of the next interval lies on the way to a later one
+-- a fault in the next interval is on the way to a later interval
 fault_on_way : (k left total : ℕ) (start p : Place) (fault : Fault) → 0 < left → IsOnWay k left p → CountsSoFar start p total → IsFaultAt p fault
     → IsFaultOnWay k start fault
 fault_on_way k left total start p fault some way so_far at =
@@ -89,7 +89,7 @@ wrong_on_way {X} r fault other start p intervals left total is same some way so_
     let P : Result X Fault → Type 0 = λ r. IfErr r (λ fault. (k : ℕ) → IsOnWay k intervals start → IsFaultOnWay k start fault) in
     subst P (sym (is ∙ ap Err same)) (λ k from. fault_on_way k left total start p other some (way k from) so_far at)
 
--- before the first bit nothing was read
+-- a reading that begins again at the first bit has read nothing
 pub standing_first : (p : Place) → IsPlace p → IsStanding (record { place = place_in p 0 0; before = 0 })
 standing_first p is = record {
   reached = record {
@@ -103,14 +103,14 @@ standing_first p is = record {
   has = counted_none p.settings p.count p.limit p.bits;
 }
 
--- what was read and passed over is few
+-- the samples before a place, and those of the next interval, are at most 2^40
 pub before_few : (p q : Place) (before : ℕ) (ys : List ℤ) → IsAllowed p.settings → HasCounted p before → ReadsInterval p ys q → q.block < 2 ^ 34
     → before + length ys ≤ 2 ^ 40
 before_few p q before ys a has step few =
     counts_few q q (before + length ys) (subst IsAllowed (sym (ap (λ (p : Place). p.settings) step.piece.same)) a)
     (counts_here q (before + length ys) (counted_on p q before ys a has step) few)
 
--- interval k lies so many intervals behind the end of the last one that was begun
+-- interval k is k - here intervals after the end of the last interval that was begun
 pub way_from_here : (k here : ℕ) (p : Place) → 0 < p.settings.interval → IsPlace p → here ≡ div_ceil p.block p.settings.interval → here ≤ k
     → IsOnWay k (k - here) p
 way_from_here k here p some is up within = record {
@@ -138,9 +138,9 @@ way_from_here k here p some is up within = record {
     by_products : here * r ≡ p.block → p.block + (k - here) * r ≡ k * r
     by_products whole = omega (arith, rest, whole)
 
--- ---- what a step does to what is kept, of which `now` is what contracts see
+-- ---- one step of the kept reading, which contracts see as `now`
 
--- the next interval was read
+-- the next interval, of `len` samples, was read
 abbrev pub ReadsOn : Standing → ℕ → ℕ → ℕ → Type 0
 ReadsOn now i b len = (samples : List ℤ) × ReadsInterval now.place samples (place_in now.place i b) × (length samples ≡ len)
 
@@ -172,7 +172,7 @@ module _ (s : Settings) (count : Option ℕ) (bits : List Bool) (block bit befor
   pub first_here : IsStanding (record { place = place_in now.place 0 0; before = 0 })
   first_here = subst (λ (now : Standing). IsStanding (record { place = place_in now.place 0 0; before = 0 })) same (standing_first here st.reached)
 
--- a reader that read nothing
+-- a new reader, which has read nothing
 pub stands_new : (s : Settings) (count : Option ℕ) (bits : List Bool) (reader : Place) (block bit : ℕ) → reader ≡ place_at s count (2 ^ 32) bits 0 0
     → IsPlace reader → block ≡ reader.block → bit ≡ reader.bit → IsStanding (standing_at s count bits block bit 0)
 stands_new s count bits reader block bit is reached same_block same_bit =

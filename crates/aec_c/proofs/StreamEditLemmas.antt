@@ -1,4 +1,4 @@
--- What editing a stream in memory answers, from what the engine leaves.
+-- The answer of editing a stream in memory, from the contract of the engine's call.
 use Rattle.std.proofs.Common.{◌≡◌, ℕ, Bool, true, false, if◌then◌else◌, nat_lt, Option, Some, None, Result, Ok, Err, List, [], ◌++◌, length, ◌⊎◌, inl, inr, refl, sym, ap, ◌∙◌, subst}
 use Rattle.std.specs.Prelude.{ℤ, IfOk, IfErr, option_map}
 use Rattle.std.specs.Option.{option_or}
@@ -26,7 +26,7 @@ use Rattle.aec_c.specs.Calls.{most}
 use Rattle.aec_c.specs.Replies.{reply_to}
 use Rattle.aec_c.specs.StreamEdits.{IsEditing, edited, not_edited, lacks_memory, lacks_memory_on, CodesSoMany, plain_answer, line_of, RepliesEdit}
 
--- ---- what a source in memory gave
+-- ---- the bytes that a source in memory gave
 
 intake-sound : (limit : ℕ) (script : Input) → script_refusal limit script ≡ None → intake_refusal limit script ≡ None
 intake-sound limit script sound = by_intake (intake_refusal limit script) refl sound
@@ -36,7 +36,7 @@ intake-sound limit script sound = by_intake (intake_refusal limit script) refl s
     by_intake None e why = e
     by_intake (Some fault) e why = absurd (cc)
 
--- all of its bytes, where they are within the limit
+-- a source in memory gave all its bytes, if they are within the limit
 gave_all : (source : Taking) (limit : ℕ) (input : Input) (bytes : List ℕ) → source.before ≡ Some bytes
     → Gave source (are_past limit) input → intake_refusal limit input ≡ None → input_of bytes false ≡ input
 gave_all source limit input bytes before gave sound =
@@ -97,7 +97,7 @@ module _ (s : Settings) (count : Option ℕ) (from source : Taking) (script code
   given_answer answer editing.lacks_memory = lacks_memory allowed
   given_answer answer (editing.lacks_memory_on given input samples line gave read lacks) = memory_on given input samples line gave read lacks
 
-  -- what a sink holds that held nothing
+  -- if a sink held nothing, after success it holds the edited bytes
   pub edited_ok : (sink : Putting) (held : List ℕ) (calls : ℕ) (r : Result ℕ EditFault) → sink.before ≡ Some [] → sink.after ≡ Some held
       → LeavesRecoded s most count from source sink r → r ≡ Ok calls → IsEditing s count script coded (Ok held)
   edited_ok sink held calls r empty holds (written made gives appends begun sounds) is =
@@ -124,12 +124,12 @@ module _ (s : Settings) (count : Option ℕ) (from source : Taking) (script code
       by_leaves r (refused f gives nothing) is (inr same) = lacks same
       by_leaves r (not_written made gives front begun fails) is other = let was : fault ≡ Plain Write = cc in lacks (memory was)
 
--- the greatest limits in the place of others that are equal
+-- limits equal to the greatest limits may be replaced by these
 pub leaves_most : (s : Settings) (caps : Caps) (count : Option ℕ) (from source : Taking) (sink : Putting) (r : Result ℕ EditFault) → caps ≡ most
     → LeavesRecoded s caps count from source sink r → LeavesRecoded s most count from source sink r
 leaves_most s caps count from source sink r greatest leaves = subst (λ caps. LeavesRecoded s caps count from source sink r) greatest leaves
 
--- what was written into nothing is the code of so many samples
+-- what was written into an empty sink is the code of `many` samples
 pub codes_many : (s : Settings) (f : Format) (samples : List ℤ) (before after : Option (List ℕ)) (held : List ℕ) (many : ℕ) → f ≡ interval_format s
     → many ≡ length samples → AreHeld f samples → before ≡ Some [] → after ≡ Some held → Appends before after (bytes_of (code_of f samples))
     → CodesSoMany s held many
@@ -144,7 +144,7 @@ codes_many s f samples before after held many same counted all empty holds appen
       counted = counted;
     }
 
--- the same of other settings and another count that are equal
+-- settings and a count that are equal to the given ones have the same answer
 pub editing_as : {X : Type 0} (s t : Settings) (count n : Option ℕ) (script coded : List ℕ) (view : X → List ℕ) (r : Result X EditFault) → t ≡ s → n ≡ count
     → IfOk r (λ x. IsEditing t n script coded (Ok (view x))) → IfOk r (λ x. IsEditing s count script coded (Ok (view x)))
 editing_as s t count n script coded view (Ok x) same counts is =

@@ -1,4 +1,4 @@
--- The bound is enough for each code.
+-- The bound is enough for the code of any samples.
 use Rattle.std.proofs.Common.{◌≡◌, ℕ, ◌+◌, ◌*◌, ◌^◌, ◌≤◌, Bool, true, false, not, if◌then◌else◌, Option, Some, None, Result, Ok, ℤ, List, length, refl, sym, ap, ◌∙◌, arith}
 use Rattle.std.specs.Prelude.{◌&&◌, nat_le, nat_lt, is_none, IsTrue}
 use Rattle.std.specs.Int.{div_ceil}

@@ -1,11 +1,11 @@
--- A text and a zero behind it, written one after the other.
+-- A text and the zero after it, written byte by byte.
 use Rattle.std.proofs.Common.{◌≡◌, ℕ, ◌+◌, ◌-◌, ◌<◌, ◌≤◌, min, if◌then◌else◌, List, [], ◌∷◌, ◌++◌, length, take, drop, set, refl, sym, ap, ◌∙◌, arith}
 use Rattle.std.proofs.lemmas.Bool.{lt-ltb}
 use Rattle.std.proofs.lemmas.List.{take_min, length-take-le}
 use Rattle.aec_c.specs.Replies.{over_front}
 use Rattle.aec_c.specs.Texts.{PutsText}
 
--- an element behind a front that was written makes the front longer
+-- a byte stored right after the written part makes this part longer
 set_behind : (front before : List ℕ) (y : ℕ) → length front < length before
     → set (front ++ drop (length front) before) (length front) y ≡ over_front (front ++ (y ∷ [])) before
 set_behind [] [] y room = absurd (omega arith)
@@ -13,7 +13,7 @@ set_behind [] (b ∷ before) y room = refl
 set_behind (x ∷ front) [] y room = absurd (omega arith)
 set_behind (x ∷ front) (b ∷ before) y room = ap (λ rest. x ∷ rest) (set_behind front before y (omega arith))
 
--- the front of a text that fits, in a buffer with room for `last` bytes before the zero
+-- as much of a text as fits, in a buffer with room for `last` bytes before the zero
 pub text_put : (text front before : List ℕ) (last shown : ℕ) → length before ≡ last + 1 → shown ≡ min last (length text)
     → front ≡ take shown text → PutsText before (set (front ++ drop shown before) shown 0) (length text)
 text_put text front before last shown room is fronts = record {

@@ -13,7 +13,7 @@ use Rattle.aec_engine.specs.Transfers.{Input, Taking, Putting, answer_by, Leaves
 use Rattle.aec_engine.specs.Editing as editing
 use Rattle.aec_engine.specs.Editing.{LeavesRecoded, LeavesEdited}
 
--- what was counted once more is not 0
+-- a count that was increased isn't 0
 counted-pos : (n m : ℕ) → m ≡ counted n → 0 < m
 counted-pos n m is = subst (λ k. 0 < k) (sym is) (omega (arith))
 
@@ -37,13 +37,13 @@ begun-LeavesEdited s caps count from source sink r leaves =
     subst (λ r. IfOk r (λ _. 0 < sink.begun_after)) (sym leaves.uncounted)
     (begun-LeavesRecoded s caps count from source sink leaves.counted leaves.leaves)
 
--- a call that succeeds, whose error would be passed on as another
+-- a call that succeeds, where an error would be passed on as another type of error
 pub begun_mapped : {E F : Type 0} (r : Result (Unit {0}) E) (mapped : Result (Unit {0}) F) (u : Unit {0}) (n : ℕ) → is_ok mapped ≡ is_ok r
     → mapped ≡ Ok u → IfOk r (λ _. 0 < n) → 0 < n
 begun_mapped (Ok x) mapped u n same is begun = begun
 begun_mapped (Err e) mapped u n same is begun = absurd (cc)
 
--- the end of a sink, whose error is passed on as another
+-- the end of a sink, whose error is passed on as another type of error
 pub synced_mapped : (r : Result Done Fault) (mapped : Result Done Failure) (P : Fault → Type 0) → MatchResult r (λ done. mapped ≡ Ok done) P
     → is_ok mapped ≡ is_ok r → IfOk r (λ done. HasSynced done) → IfOk mapped (λ done. HasSynced done)
 synced_mapped (Ok done) mapped P is same synced = subst (λ m. IfOk m (λ done. HasSynced done)) (sym is) synced

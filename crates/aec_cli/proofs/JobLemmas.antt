@@ -9,7 +9,7 @@ use Rattle.aec_cli.specs.Jobs.{count_of, word_of}
 use Rattle.aec_engine.specs.Numerals.{option_number}
 use Rattle.aec_engine.proofs.NumeralLemmas.{option_number-read}
 
--- what `get_one` gives of a text is the number in it
+-- the number that `get_one` returns for a text is the number in the text
 read_number : {E : Type 0} (gives : Text → Result ℕ E → Type 0) (width : ℕ) → ((t : Text) (x : Result ℕ E) → gives t x → ParsesUnsigned width 10 t x)
     → (text : Text) (r : Option ℕ) → ReadsOne gives text r → r ≡ option_number width text
 read_number {E} gives width parses text (Some n) h = option_number-read {E = E} width text (Ok n) (parses text (Ok n) h)

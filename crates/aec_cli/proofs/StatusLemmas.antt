@@ -1,4 +1,4 @@
--- How the program ends.
+-- The status with which the program ends.
 use Rattle.std.proofs.Common.{◌≡◌, ◌∙◌, ◌≤◌, ◌<◌, ℕ, List, [], ◌∷◌, Result, Ok, Err, IfOk, IfErr, ap, refl, sym, subst, inl, inr, arith}
 use Rattle.std.specs.Prelude.{IsOk}
 use Rattle.clap.specs.Kinds.{HasKind, IsAmong, Kinds}
@@ -30,7 +30,7 @@ ends_by_error (k ∷ ks) e status has is = elim has [
   | inr among ↦ inr (status_among (kind_of e) (k ∷ ks) status among is)
 ]
 
--- words without a mistake that have no matches
+-- if words without a mistake fail to parse, an allocation failed
 pub ends_by_memory : (words : List Text) (e : Error) (status : ℕ) → HasKind [] e → status ≡ parse_status (kind_of e) → EndsByWords words status
 ends_by_memory words e status has is = elim has [
   | inl memory ↦ inl (is ∙ ap parse_status memory)
@@ -43,7 +43,7 @@ above_zero e status has is = elim has [
   | inr among ↦ absurd among
 ]
 
--- words that make no job
+-- words that parse but make no job: the job is refused, or an allocation fails
 pub ends_by_usage : {J : Type 0} (words : List Text) (found : Found) (r : Result J Usage) (usage : Usage) (status : ℕ)
     → IsFoundIn words found → r ≡ Err usage → IfErr (job_of found) (λ u. r ≡ Err u) → IfErr r (λ u. IsOk (job_of found) → u ≡ Memory)
     → status ≡ usage_status usage → EndsByWords words status
@@ -54,7 +54,7 @@ ends_by_usage words found r usage status finds is refuses memory ends =
     by_job (Ok task) refuses lacks = let one : status ≡ 1 = ends ∙ ap usage_status (lacks refl) in omega (arith, one)
     by_job (Err u) refuses lacks = let same : usage ≡ u = cc in ends ∙ ap usage_status same
 
--- words that make one
+-- words that parse and make a job
 pub ends_by_job : (words : List Text) (found : Found) (task : Task) (status : ℕ) → IsFoundIn words found → job_of found ≡ Ok task → status ≤ 1
     → EndsByWords words status
 ends_by_job words found task status finds is ends = inr (found, finds, subst (λ j. EndsByRefusal j status) (sym is) ends)

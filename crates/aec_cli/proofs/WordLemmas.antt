@@ -1,4 +1,4 @@
--- What a parse sees of the command, and what it gives.
+-- What a parse sees of the command, and what it returns.
 use Rattle.std.proofs.Common.{◌≡◌, ◌∙◌, ap, ap₂, false, true, refl, subst, List}
 use Rattle.std.specs.Prelude.{IfOk, Result}
 use Rattle.std.proofs.lemmas.Result.{IfOk-weaker}
@@ -19,7 +19,7 @@ pub app_of-added : (old new : Command) (a : Arg) (app : App) (rule : Rule)
     → AddsArg old a new → a.global ≡ false → app_of old ≡ app → rule_of a ≡ rule → app_of new ≡ with_rule app rule
 app_of-added old new a app rule adds local was is = adds.shape local ∙ ap₂ with_rule was is
 
--- the command is of the kind of which a parse is known from the words alone
+-- the command is simple: the words alone determine what a parse returns
 is_simple-aec_app : is_simple aec_app ≡ true
 unfolding aec_app number_rules coding_rules storage_rules work_rules file_rules clap_on_literals
 is_simple-aec_app = refl

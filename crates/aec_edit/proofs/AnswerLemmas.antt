@@ -1,4 +1,4 @@
--- What an exchange answers is what the edit that it makes answers.
+-- The result of an exchange is the result of the edit that it makes.
 use Rattle.std.proofs.Common.{◌≡◌, ℕ, ◌≤◌, cond, Some, None, Ok, Err, Option, Result, List, length, ℤ, sym, ap, ◌∙◌, subst, arith}
 use Rattle.std.specs.Option.{MatchOption, option_or, is_some}
 use Rattle.std.specs.Result.{MatchResult, OnOk, OnErr}

@@ -1,4 +1,4 @@
--- What an appending codes and decodes, as its definition has it and as the code has it.
+-- What an append codes and decodes: its definition and the code agree.
 use Rattle.std.proofs.Common.{◌≡◌, ℕ, ◌+◌, ◌<◌, ◌≤◌, List, ◌++◌, length, drop, ℤ, refl, ap, ◌∙◌, inl, arith, Result}
 use Rattle.std.specs.Result.{MatchResult, OnOk, OnErr}
 use Rattle.std.proofs.lemmas.Bool.{ne_eqb}
@@ -33,7 +33,7 @@ append_calls n old values some = rw (ne_eqb (length values) 0 (λ e. absurd (ome
 append_opens : (n old : ℕ) (values : Samples) → 0 < n → 0 < length values → opened_count n old (from_to old old) ≤ opened_intervals n old (Append values)
 append_opens n old values h some = rw (ne_eqb (length values) 0 (λ e. absurd (omega arith))) (ends_opened n old old h)
 
--- an exchange that is an appending
+-- an exchange that is an append
 pub appended : (f : Format) (limit calls reads old : ℕ) (s values : List ℤ) (r : Result ℕ Fault) (s' : List ℤ) (calls' reads' : ℕ) → 1 ≤ f.most
     → 0 < length values → old ≡ length s → AreHeld f values → length s + length values ≤ limit
     → MatchResult r (λ coded. IsExchanged (exchange_calls f.most old (length values)) calls coded calls')

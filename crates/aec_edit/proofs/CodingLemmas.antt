@@ -1,4 +1,4 @@
--- One interval more is coded.
+-- One more interval is coded.
 use Rattle.std.proofs.Common.{◌≡◌, ℕ, suc, ◌+◌, ◌<◌, ◌≤◌, min, Bool, Result, Ok, Err, List, [], ◌∷◌, ◌++◌, length, take, drop, ℤ}
 use Rattle.std.proofs.Common.{refl, sym, subst, ap, ◌∙◌, inl, inr, arith, append_assoc, length-append}
 use Rattle.std.specs.Result.{OnOk, OnErr}
@@ -13,13 +13,13 @@ use Rattle.aec_edit.specs.Fresh.{IsGathered}
 use Rattle.aec_edit.proofs.HeldLemmas.{held-take, held-drop}
 use Rattle.aec_edit.proofs.StartLemmas.{starts_of_first}
 
--- samples whose first interval is one list, and whose others another
+-- samples cut into their first interval and the rest
 pub record SplitsFirst (f : Format) (rest interval later : List ℤ) : Type 0 where
   pub interval_is : interval ≡ take (min f.most (length rest)) rest
   pub later_is : later ≡ drop (min f.most (length rest)) rest
   pub some : 0 < length rest
 
--- the first interval, and what comes then
+-- the first interval, and what comes after it
 pub splits_first : (f : Format) (rest later : List ℤ) → 0 < length rest → later ≡ drop f.most rest → SplitsFirst f rest (take f.most rest) later
 splits_first f rest later some is = record { interval_is = sym (take_min f.most rest); later_is = is ∙ sym (drop_min f.most rest); some = some }
 
@@ -69,7 +69,7 @@ no_rest : (front rest : List ℤ) → front ≡ front ++ rest → rest ≡ []
 no_rest front [] all = refl
 no_rest front (x ∷ rest) all = absurd (omega (arith, ap length all, length-append front (x ∷ rest)))
 
--- the first interval of what is to come, where it has been gathered in front
+-- the first interval of what is to come, once `front` contains it
 module _ (f : Format) (front rest : List ℤ) (len : ℕ) (len_is : len ≡ min f.most (length front)) (gathered : IsGathered f.most front (front ++ rest)) where
   pub front_taken : {coming : List ℤ} → front ++ rest ≡ coming → take len front ≡ take f.most coming
   front_taken same =

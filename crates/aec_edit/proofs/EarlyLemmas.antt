@@ -1,4 +1,4 @@
--- An overwrite inside samples does the same where samples stand behind them.
+-- An overwrite inside samples does the same if more samples come after them.
 use Rattle.std.proofs.Common.{◌≡◌, ℕ, nat_lt, ◌+◌, ◌≤◌, Some, cond, List, ◌++◌, length, take, drop, ℤ, sym, ap, ap₂, refl, ◌∙◌, arith, append_assoc}
 use Rattle.std.proofs.lemmas.Bool.{le-ltb, cond-false}
 use Rattle.std.proofs.lemmas.List.{length-append, length-take, length-drop, take-append-le, drop-append-le}

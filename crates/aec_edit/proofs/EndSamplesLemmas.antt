@@ -15,7 +15,7 @@ use Rattle.aec_params.proofs.MoveLaws.{from_to}
 -- ---- the samples
 
 module _ (n first stop : ℕ) (s : List ℤ) (some : 0 < n) (order : first ≤ stop) (within : stop ≤ length s) where
-  -- what is decoded of the first interval, and of those behind it
+  -- the samples that are decoded of the first interval, and of the intervals after it
   abbrev front_samples : List ℤ
   front_samples = samples_of n s (opened_first n (length s) (from_to first stop))
 
@@ -28,7 +28,7 @@ module _ (n first stop : ℕ) (s : List ℤ) (some : 0 < n) (order : first ≤ s
   parts : opened_ends ≡ front_samples ++ back_samples
   parts = opened_samples-parts n first stop s some order
 
-  -- the head stands in front
+  -- the decoded samples begin with the head
   pub ends_head : (first % n ≤ length opened_ends) × (take (first % n) opened_ends ≡ head_of n first s)
   ends_head =
       let begins = begins_before first n some in
@@ -52,7 +52,7 @@ module _ (n first stop : ℕ) (s : List ℤ) (some : 0 < n) (order : first ≤ s
             )
       ]
 
-  -- the tail stands at the end
+  -- the decoded samples end with the tail
   pub ends_tail : (min (length s) (div_ceil stop n * n) - stop ≤ length opened_ends)
       × (drop (length opened_ends - (min (length s) (div_ceil stop n * n) - stop)) opened_ends ≡ tail_of n stop s)
   ends_tail =
@@ -126,7 +126,7 @@ module _ (n first stop : ℕ) (s : List ℤ) (some : 0 < n) (order : first ≤ s
                 ∙ drop-drop (stop - from) from (take to s) ∙ ap (λ m. drop m (take to s)) whole,
           )
 
-  -- how many there are
+  -- if an interval is decoded, the head or the tail has a sample
   pub opened_some : 0 < opened_count n (length s) (from_to first stop) → 0 < first % n + (min (length s) (div_ceil stop n * n) - stop)
   opened_some some_opened =
       elim (cases_lt 0 (first % n + (min (length s) (div_ceil stop n * n) - stop))) [
@@ -140,12 +140,12 @@ module _ (n first stop : ℕ) (s : List ℤ) (some : 0 < n) (order : first ≤ s
             absurd (omega (arith, some_opened, opened-count n (length s) first stop some order, ap length no_first, ap length no_last))
       ]
 
--- where the touched intervals end, as the code counts it
+-- the end of the touched intervals, as the code computes it
 pub touched_end : (count size m n to stop r : ℕ) → count ≡ size → m ≡ n → to ≡ div_ceil stop m → r ≡ min count (to * m) → r ≡ min size (div_ceil stop n * n)
 touched_end count size m n to stop r count_is m_is to_is r_is = cc
 
--- values between what the end intervals keep: the samples of the touched intervals after the
--- exchange
+-- the values, between what the first and the last interval keep, are the samples of the touched
+-- intervals after the exchange
 pub fresh_is : (n first stop head tail : ℕ) (s values ends fresh : List ℤ) → 0 < n → first ≤ stop → stop ≤ length s
     → ends ≡ opened_samples n (from_to first stop) s
     → head ≡ first % n → tail ≡ min (length s) (div_ceil stop n * n) - stop → fresh ≡ take head ends ++ (values ++ drop (length ends - tail) ends)

@@ -11,17 +11,17 @@ use Rattle.aec_edit.specs.Changes.{Recoding, IsExchange, exchange_calls, head_of
 use Rattle.aec_params.proofs.MoveLaws.{from_to}
 use Rattle.aec_params.proofs.CountLaws.{ceil_bounds, ceil_unique, row_below, before_end}
 
--- what is recoded, by its places
+-- a `Recoding` from its places
 abbrev pub recoding : ℕ → ℕ → ℕ → ℕ → Recoding
 recoding first stop to values = record { gone = from_to first stop; to = to; values = values }
 
 -- ---- numbers
 
--- an interval begins at or in front of each of its places, less than n away
+-- an interval begins at or before each of its places, less than n places away
 pub begins_before : (a n : ℕ) → 0 < n → (a / n * n ≤ a) × (a < a / n * n + n) × (a / n * n + a % n ≡ a)
 begins_before a n h = let whole = div-add-mod' a n in let small = mod_below a n h in (omega arith, omega arith, omega arith)
 
--- the last touched interval is not in front of the first
+-- the touched intervals don't end before the first of them begins
 pub ends_after : (n first stop : ℕ) → 0 < n → first ≤ stop → first / n ≤ div_ceil stop n
 ends_after n first stop h order =
     elim (cases_lt (div_ceil stop n) (first / n)) [
@@ -36,7 +36,7 @@ ceil_mono n a b h order =
       | inr all ↦ all
     ]
 
--- the intervals that so many places fill from the beginning of one on
+-- m places from the beginning of interval q on fill k intervals
 ceil_from : (n m q c k : ℕ) → c ≡ q + k → m + q * n ≤ c * n → c * n < m + q * n + n → div_ceil m n ≡ k
 ceil_from n m q c k split low high =
     let product : c * n ≡ q * n + k * n = ap (λ x. x * n) split ∙ omega arith in
@@ -59,7 +59,7 @@ module _ (f : Format) (limit first stop : ℕ) (s values : List ℤ) (lawful : I
   fresh_len =
       omega (arith, length-append (head_of f.most first s) (values ++ tail_of f.most stop s), length-append values (tail_of f.most stop s), head_len, tail_len)
 
-  -- they fill as many intervals as are to be coded
+  -- they fill the number of intervals that the exchange codes
   pub fresh_count : div_ceil (length (head_of f.most first s ++ (values ++ tail_of f.most stop s))) f.most ≡ exchange_calls f.most first (length values)
   fresh_count =
       let begins = begins_before first f.most lawful.some in

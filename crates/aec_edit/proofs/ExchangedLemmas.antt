@@ -16,7 +16,7 @@ use Rattle.aec_edit.proofs.ExchangeLemmas.{recoding}
 use Rattle.aec_edit.proofs.UpToLemmas.{answer_at, calls_in, code_came, decodes_both, fresh_coming, reads_at, same_calls, some_calls, up_to_last}
 use Rattle.aec_params.proofs.MoveLaws.{from_to}
 
--- a workspace that keeps its samples, with a codec that stayed since
+-- a workspace that keeps its samples, and a codec that is unchanged since then
 pub kept_since : {C : Type 0} {format_of : C → Format} {called read : C → ℕ} {coded decoded : ℕ} {old mid new : Contents C}
     → KeepsSamples format_of called read coded decoded old mid → new.samples ≡ mid.samples → KeepsCodec mid new
     → KeepsSamples format_of called read coded decoded old new
@@ -46,7 +46,7 @@ module _ {C : Type 0} (format_of : C → Format) (called read : C → ℕ) (seen
   abbrev pub ends_for : ℕ
   ends_for = opened_count n (length seen.samples) (from_to first stop)
 
-  -- what was coded is the code of its fresh samples
+  -- what was coded is the code of the exchange's fresh samples
   pub coded_for : {w mid : Contents C} {fresh : Fresh} {total from : ℕ} {coded : Coded}
       → IsOnlyRead format_of called read ends_for seen w → IsFreshFor n seen.samples (from_to first stop) to values fresh
       → CodesFresh format_of called w mid fresh total coded
@@ -59,7 +59,7 @@ module _ {C : Type 0} (format_of : C → Format) (called read : C → ℕ) (seen
       coded.count mid.samples (coming format_of w fresh) coded.bits.list coded.starts.items got.format kept.format (kept.limit ∙ got.limit)
       (kept.samples ∙ got.samples) (fresh_coming format_of seen w got.format got.samples is) from_is codes.bits codes.starts (codes.count_is ∙ total_is)
 
-  -- it was refused for want of memory while its samples were decoded, coded or put
+  -- the exchange was refused with `Memory` while samples were decoded, coded or put in place
   pub not_exchanged : {w new : Contents C} {fresh : Fresh} {total needed : ℕ} {fault : Fault} (left : List ℤ)
       → IsOnlyRead format_of called read ends_for seen w → IsFreshFor n seen.samples (from_to first stop) to values fresh
       → KeepsSamples format_of called read (div_ceil total (format_of w.codec).most) (fresh.end - fresh.next) w new
@@ -79,7 +79,7 @@ module _ {C : Type 0} (format_of : C → Format) (called read : C → ℕ) (seen
         format = kept.format ∙ got.format;
       }
 
-  -- it was made
+  -- the exchange was made
   pub is_exchanged : {w mid new : Contents C} {fresh : Fresh} {total needed : ℕ} {coded : Coded}
       → IsOnlyRead format_of called read ends_for seen w → IsFreshFor n seen.samples (from_to first stop) to values fresh
       → CodesFresh format_of called w mid fresh total coded
@@ -107,7 +107,8 @@ module _ {C : Type 0} (format_of : C → Format) (called read : C → ℕ) (seen
         format = ap format_of rest.codec ∙ kept.format ∙ got.format;
       }
 
--- an exchange for as many values, or at the end, codes up to its last interval
+-- an exchange for the same number of values, or up to the end, codes up to the last interval that
+-- it touches
 module _ {C : Type 0} (format_of : C → Format) (called read : C → ℕ) (seen : Contents C) (first stop to : ℕ) (values : List ℤ)
     (lawful : IsLawful (format_of seen.codec)) (held : AreHeld (format_of seen.codec) seen.samples)
     (fits : IsExchange (format_of seen.codec) seen.limit seen.samples (from_to first stop) values)

@@ -8,7 +8,7 @@ use Rattle.aec_edit.specs.declared.workspace.fresh_coding.Fresh.{Fresh}
 
 -- ---- old intervals
 
--- the first of them, and the others
+-- the first old interval, and the others
 pub old_part-first : (n next end : ℕ) (s : List ℤ) → next < end → old_part n s next end ≡ take n (drop (next * n) s) ++ old_part n s (next + 1) end
 old_part-first n next end s some = first_of (end - (next + 1)) (omega arith)
   where
@@ -30,7 +30,7 @@ old_part-first n next end s some = first_of (end - (next + 1)) (omega arith)
 regroup : (a b c d : List ℤ) → a ++ (b ++ (c ++ d)) ≡ (a ++ (b ++ c)) ++ d
 regroup a b c d = ap (λ l. a ++ l) (sym (append_assoc b c d)) ∙ sym (append_assoc a (b ++ c) d)
 
--- samples that moved to the front
+-- what is to come stays the same if samples move to the front
 pub coming_moved : (n : ℕ) (s front values back front' values' back' : List ℤ) (next end next' end' : ℕ)
     → front' ++ (values' ++ back') ≡ front ++ (values ++ back) → next' ≡ next → end' ≡ end
     → to_come n s front' values' back' next' end' ≡ to_come n s front values back next end
@@ -41,14 +41,14 @@ coming_moved n s front values back front' values' back' next end next' end' move
     ∙ ap (λ k. (front ++ (values ++ back)) ++ old_part n s next k) end_is
     ∙ sym (regroup front values back (old_part n s next end))
 
--- an interval that was decoded to the front
+-- what is to come stays the same if an interval is decoded to the front
 pub coming_decoded : (n : ℕ) (s front values back front' : List ℤ) (next end : ℕ) → next < end → values ≡ [] → back ≡ []
     → front' ≡ front ++ take n (drop (next * n) s) → to_come n s front' values back (next + 1) end ≡ to_come n s front values back next end
 coming_decoded n s front values back front' next end some no_values no_back grown =
     rw (no_values, no_back, grown)
     (append_assoc front (take n (drop (next * n) s)) (old_part n s (next + 1) end) ∙ ap (λ l. front ++ l) (sym (old_part-first n next end s some)))
 
--- ---- what is in front
+-- ---- what `front` contains
 
 pub emptied : (n : ℕ) (front values back : List ℤ) → (n ≤ length front) ⊎ ((values ≡ []) × (back ≡ [])) → length front < n → (values ≡ []) × (back ≡ [])
 emptied n front values back (inl full) less = absurd (omega arith)

@@ -1,4 +1,4 @@
--- Parts of held lists are held, and held lists joined are.
+-- Parts of held lists are held, and joined held lists are held.
 use Rattle.std.proofs.Common.{◌≡◌, ℕ, zero, suc, ◌+◌, Bool, true, false, ◌&&◌, cond, Some, None, List, [], ◌∷◌, ◌++◌, take, drop, ℤ, refl}
 use Rattle.std.specs.List.{list_all}
 use Rattle.std.proofs.lemmas.Bool.{and_parts}
@@ -22,7 +22,7 @@ held-append holds (x ∷ s) t held kept =
     let both = and_parts (holds x) (list_all holds s) held in
     rw (both.0, held-append holds s t both.1 kept) refl
 
--- where none is found that is not held, all are
+-- if none is found that isn't held, all are held
 pub held-from_none : (holds : ℤ → Bool) (i : ℕ) (s : List ℤ) → first_unheld holds i s ≡ None → list_all holds s ≡ true
 held-from_none holds i [] none = refl
 held-from_none holds i (x ∷ s) none = by_test (holds x) none (held-from_none holds (i + 1) s)
@@ -32,7 +32,7 @@ held-from_none holds i (x ∷ s) none = by_test (holds x) none (held-from_none h
     by_test true e later = later e
     by_test false e later = absurd (cc)
 
--- where all are held, none is found that isn't
+-- if all are held, none is found that isn't
 pub none-from_held : (holds : ℤ → Bool) (i : ℕ) (s : List ℤ) → list_all holds s ≡ true → first_unheld holds i s ≡ None
 none-from_held holds i [] held = refl
 none-from_held holds i (x ∷ s) held =

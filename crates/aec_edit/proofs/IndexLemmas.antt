@@ -1,12 +1,12 @@
--- A list of numbers that is written over, one number after the other.
+-- A list of numbers that is overwritten, one number after the other.
 use Rattle.std.proofs.Common.{◌≡◌, ℕ, suc, ◌+◌, ◌-◌, ◌<◌, ◌≤◌, List, [], ◌∷◌, ◌++◌, length, map, take, drop, replicate, get_or, set, refl, sym, ap, ◌∙◌, arith, append_assoc, length-append}
 use Rattle.std.proofs.lemmas.List.{length-take, length-drop, length-map, length-replicate, drop_more, take_more, take-take, take-append-le, take_at, drop_at, take-append-drop, get_or-drop, map-append, set_at, get_or_at}
 
--- with the numbers ws written over those from number at on
+-- the list s with the numbers ws in it, from index `at` on
 abbrev pub written_over : List ℕ → ℕ → List ℕ → List ℕ
 written_over s at ws = take at s ++ (ws ++ drop (at + length ws) s)
 
--- the next number is still the old one
+-- the next number to overwrite is still the old one
 next_there : (s : List ℕ) (at : ℕ) (ws : List ℕ) (d : ℕ) → at + length ws < length s
     → written_over s at ws ≡ (take at s ++ ws) ++ get_or s (at + length ws) d ∷ drop (at + length ws + 1) s
 next_there s at ws d within =
@@ -30,14 +30,14 @@ set-written_over s at ws y within =
     ∙ append_assoc (take at s) ws (y ∷ drop (at + length ws + 1) s)
     ∙ ap (λ l. take at s ++ l) (sym (append_assoc ws (y ∷ []) (drop (at + length ws + 1) s)) ∙ ap (λ n. (ws ++ y ∷ []) ++ drop n s) next)
 
--- one number more, each a function of another
+-- one more number is changed by h
 pub map_more : (h : ℕ → ℕ) (xs : List ℕ) (i d : ℕ) → i < length xs → map h (take (i + 1) xs) ≡ map h (take i xs) ++ h (get_or xs i d) ∷ []
 map_more h xs i d within = ap (map h) (take_more xs i d within) ∙ map-append h (take i xs) (get_or xs i d ∷ [])
 
 pub length-mapped : (h : ℕ → ℕ) (xs : List ℕ) (i : ℕ) → i ≤ length xs → length (map h (take i xs)) ≡ i
 length-mapped h xs i within = length-map (take i xs) h ∙ omega (arith, length-take i xs)
 
--- the numbers so far, and one more, at place j
+-- one more number is changed by h and written, at index j
 pub over_more : (h : ℕ → ℕ) (s xs l : List ℕ) (at i j y : ℕ) → i < length xs → at + i < length s → j ≡ at + i
     → l ≡ written_over s at (map h (take i xs)) → y ≡ h (get_or xs i 0) → set l j y ≡ written_over s at (map h (take (i + 1) xs))
 over_more h s xs l at i j y within inside here so_far value =
@@ -50,7 +50,7 @@ over_more h s xs l at i j y within inside here so_far value =
     ∙ ap (λ z. written_over s at (map h (take i xs) ++ z ∷ [])) value
     ∙ ap (written_over s at) (sym (map_more h xs i 0 within))
 
--- the number at place j is still the old one
+-- the number at index j is still the old one
 pub over_read : (h : ℕ → ℕ) (s xs l : List ℕ) (at i j d : ℕ) → i ≤ length xs → at + i < length s → j ≡ at + i
     → l ≡ written_over s at (map h (take i xs)) → get_or l j d ≡ get_or s j d
 over_read h s xs l at i j d within inside here so_far =
@@ -62,7 +62,7 @@ over_read h s xs l at i j d within inside here so_far =
     ∙ get_or-written_over s at (map h (take i xs)) d there
     ∙ ap (λ n. get_or s n d) (sym place)
 
--- ---- numbers that are moved by nothing
+-- ---- numbers that are moved by 0
 
 unmoved_all : (e : ℕ) (xs : List ℕ) → ((k : ℕ) → k < length xs → e ≤ get_or xs k 0) → map (λ x. x - e + e) xs ≡ xs
 unmoved_all e [] h = refl
@@ -81,8 +81,8 @@ unmoved start end at xs same within low =
 
 -- ---- a part replaced by numbers of another length
 
--- what stands after numbers were moved on to number to, from number from on, those in between
--- written over, and the rest changed
+-- the numbers from index `from` up to `to` are replaced by `with`: later numbers are moved to make
+-- room, `with` is written, and the later numbers are changed
 pub replaced : (add move : ℕ → ℕ) (olds with moved written shifted : List ℕ) (from to : ℕ) → from ≤ to → to ≤ length olds
     → moved ≡ take (from + length with) (olds ++ replicate (from + length with - to) 0) ++ drop to olds
     → written ≡ take from moved ++ (map add with ++ drop (from + length with) moved)

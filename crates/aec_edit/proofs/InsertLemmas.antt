@@ -1,4 +1,4 @@
--- What an insertion codes and decodes, as its definition has it and as the code has it.
+-- What an insertion codes and decodes: its definition and the code agree.
 use Rattle.std.proofs.Common.{◌≡◌, ℕ, ◌+◌, ◌-◌, ◌*◌, ◌/◌, ◌%◌, ◌<◌, ◌≤◌, true, false, cond, eqb, List, length, ℤ, sym, ap, ◌∙◌, inl, inr, arith}
 use Rattle.std.specs.Result.{MatchResult, OnOk, OnErr}
 use Rattle.std.proofs.Common.{Result}
@@ -86,7 +86,7 @@ later_opens n old first h within =
       | inr within_one ↦ omega (arith, within_one.1, within_one.2)
     ]
 
--- ---- the answer
+-- ---- the result
 
 len_tests : (n len : ℕ) → 0 < len → eqb len 0 ≡ false
 len_tests n len some = ne_eqb len 0 (λ e. absurd (omega arith))
@@ -118,7 +118,7 @@ insert_opens n old first values h some within = by_len (length values) some
           | inr part ↦ rw (len_tests n len some, ne_eqb (len % n) 0 part) (later_opens n old first h within)
         ]
 
--- whole intervals are coded where whole intervals come
+-- if whole intervals are inserted, whole intervals are coded
 whole_fit : (n old first len : ℕ) → 0 < n → len % n ≡ 0 → div_ceil first n * n < old
     → (k : ℕ) × (fresh_total n old (recoding first first (div_ceil first n) len) ≡ k * n)
 whole_fit n old first len h whole inside =

@@ -1,4 +1,4 @@
--- What is known of the samples that a workspace keeps.
+-- Facts about the samples that a workspace keeps.
 use Rattle.std.proofs.Common.{◌≡◌, ℕ, ◌-◌, ◌*◌, ◌<◌, ◌≤◌, min, Bool, List, [], length, take, drop, get_or, ℤ, refl, sym, ap, ◌∙◌, subst, arith}
 use Rattle.aec_bits.specs.Codec.{Format, AreHeld, IsLawful, BeginsAt, code_of}
 use Rattle.aec_bits.proofs.CodeLaws.{code_of-nil, code_of_first, same_samples}
@@ -11,20 +11,20 @@ use Rattle.aec_params.proofs.CountLaws.{before_end, past_end}
 use Rattle.aec_edit.proofs.HeldLemmas.{held-take, held-drop}
 use Rattle.aec_edit.proofs.StartLemmas.{starts_of-nil, length-starts_of, get_or-starts_of, start_of-le, drop-code_of}
 
--- they stand in the fields
+-- the fields keep these samples
 pub stands : {f : Format} {count : ℕ} {bits : List Bool} {starts : List ℕ} (kept : KeptSamples f count bits starts)
     → IsKeptCode f count bits starts (kept_samples kept)
 unfolding kept_samples
 stands kept = kept.1
 
--- no others do
+-- the fields keep no other samples
 pub no_other : {f : Format} {count : ℕ} {bits : List Bool} {starts : List ℕ} {s : List ℤ} (kept : KeptSamples f count bits starts)
     → IsLawful f → IsKeptCode f count bits starts s → kept_samples kept ≡ s
 no_other {f} {s = s} kept lawful is =
     let stood = stands kept in
     same_samples f (kept_samples kept) s lawful stood.held is.held (stood.count_is ∙ sym is.count_is) (sym stood.bits_are ∙ is.bits_are)
 
--- as a caller sees them
+-- the fields keep the samples that callers see
 pub at_view : {C : Type 0} (format : C → Format) {codec : C} {count limit : ℕ} {bits : List Bool} {starts : List ℕ} {room : Room}
     (kept : KeptSamples (format codec) count bits starts)
     (seen : Contents C) → record { samples = kept_samples kept; limit = limit; codec = codec; room = room } ≡ seen
@@ -32,7 +32,7 @@ pub at_view : {C : Type 0} (format : C → Format) {codec : C} {count limit : �
 at_view format {count = count} {bits = bits} {starts = starts} kept seen e =
     subst (λ w. IsKeptCode (format w.codec) count bits starts w.samples) e (stands kept)
 
--- callers see the same samples where fields hold the same, as in other room
+-- if the fields are equal, callers see the same samples, even if the room changed
 pub kept_still : {f : Format} {count count_then : ℕ} {bits bits_then : List Bool} {starts starts_then : List ℕ}
     (kept : KeptSamples f count bits starts) (again : KeptSamples f count_then bits_then starts_then)
     → IsLawful f → count_then ≡ count → bits_then ≡ bits → starts_then ≡ starts → kept_samples again ≡ kept_samples kept
@@ -45,7 +45,7 @@ kept_still kept again lawful same_count same_bits same_starts =
       starts_are = same_starts ∙ stood.starts_are;
     }
 
--- and all where the fields hold them still
+-- if the fields are unchanged, callers see the same contents
 pub seen_again : {C : Type 0} (format : C → Format) {codec : C} {count limit : ℕ} {bits : List Bool} {starts : List ℕ} {room : Room}
     (kept again : KeptSamples (format codec) count bits starts)
     (seen : Contents C) → IsLawful (format codec)
@@ -54,13 +54,13 @@ pub seen_again : {C : Type 0} (format : C → Format) {codec : C} {count limit :
 seen_again format {codec} {limit = limit} {room = room} kept again seen lawful e =
     ap (λ s. record { samples = s; limit = limit; codec = codec; room = room }) (kept_still kept again lawful refl refl refl) ∙ e
 
--- under a format that is the same, for a list that is
+-- an equal list is kept under an equal format
 pub kept_again : {f g : Format} {count : ℕ} {bits : List Bool} {starts : List ℕ} {s : List ℤ} (kept : KeptSamples f count bits starts)
     → g ≡ f → kept_samples kept ≡ s → IsKeptCode g count bits starts s
 kept_again {f} {count = count} {bits = bits} {starts = starts} {s = s} kept same e =
     subst (λ h. IsKeptCode h count bits starts s) (sym same) (subst (IsKeptCode f count bits starts) e (stands kept))
 
--- and after a call of the coder
+-- after a call of the coder, callers see the same samples
 pub coded_once : {C : Type 0} (format_of : C → Format) (called read : C → ℕ) {codec codec' : C} {count limit : ℕ} {bits : List Bool} {starts : List ℕ}
     {room : Room} (decoded : ℕ) (kept : KeptSamples (format_of codec) count bits starts) (again : KeptSamples (format_of codec') count bits starts)
     (seen : Contents C) → IsLawful (format_of codec')
@@ -77,7 +77,7 @@ coded_once format_of called read {codec' = codec'} {limit = limit} {room = room}
       reads = record { stays = omega (arith, same_reads); few = omega (arith, same_reads) };
     })
 
--- as after intervals were decoded
+-- the same if intervals were decoded before the call
 pub read_and_coded : {C : Type 0} {format_of : C → Format} {called read : C → ℕ} {decoded : ℕ} {old mid new : Contents C}
     → IsOnlyRead format_of called read decoded old mid → KeepsSamples format_of called read 1 0 mid new
     → KeepsSamples format_of called read 1 decoded old new
@@ -92,7 +92,7 @@ read_and_coded first then = record {
   };
 }
 
--- none are kept in empty fields
+-- empty fields keep no samples
 pub none_kept : (f : Format) {count : ℕ} {bits : List Bool} {starts : List ℕ} → IsLawful f → count ≡ 0 → bits ≡ [] → starts ≡ []
     → IsKeptCode f count bits starts []
 none_kept f lawful no_samples no_bits no_starts = record {
@@ -104,7 +104,7 @@ none_kept f lawful no_samples no_bits no_starts = record {
 
 -- ---- one interval
 
--- what the index says of an interval, and of the end
+-- the start of an interval in the index, and the end of the bits as the start of later intervals
 pub start_kept : (f : Format) {count : ℕ} {bits : List Bool} {starts : List ℕ} {s : List ℤ} (i x : ℕ) → IsLawful f → IsKeptCode f count bits starts s
     → i < length starts → x ≡ get_or starts i x → x ≡ start_of f s i
 start_kept f {starts = starts} {s = s} i x lawful kept within read =
@@ -118,7 +118,7 @@ end_kept f {starts = starts} {s = s} i lawful kept past =
     let whole : take (i * f.most) s ≡ s = take_all (i * f.most) s (past_end i (length s) f.most lawful.some (omega arith)) in
     ap length kept.bits_are ∙ ap (λ l. length (code_of f l)) (sym whole)
 
--- an interval begins where it starts
+-- the bits of interval i begin at its start
 pub begins_there : (f : Format) (s : List ℤ) (i : ℕ) → IsLawful f → AreHeld f s → i < interval_count f s
     → BeginsAt f (code_of f s) (start_of f s i) (min f.most (length s - i * f.most)) (take f.most (drop (i * f.most) s))
 begins_there f s i lawful held within =
@@ -138,8 +138,8 @@ begins_there f s i lawful held within =
       stands = (code_of f (drop f.most rest), drop-code_of f i s lawful.some ∙ code_of_first f rest lawful.some (omega arith));
     }
 
--- the same where an interval is to be decoded: g is the format of the codec itself, f that of the
--- codec as callers see it
+-- the same for an interval that is to be decoded: g is the format of the codec itself, f that of
+-- the codec as callers see it
 pub begins_for : (f g : Format) {count : ℕ} {bits : List Bool} {starts : List ℕ} {s : List ℤ} (i start len : ℕ) → g ≡ f → IsLawful f
     → IsKeptCode f count bits starts s → i < interval_count f s → start ≡ start_of f s i → len ≡ min f.most (count - i * f.most)
     → BeginsAt g bits start len (take f.most (drop (i * f.most) s))

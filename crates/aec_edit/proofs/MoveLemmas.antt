@@ -32,13 +32,13 @@ places n a h =
     positive zero h = absurd (h refl)
     positive (suc m) h = omega arith
 
--- the interval up to which all is coded, where len samples come or go in front of a place
+-- the interval up to which all is coded, if len samples are inserted or removed before a place
 abbrev pub end_for : ℕ → ℕ → ℕ → ℕ → ℕ
 end_for n count place len = cond (eqb (len % n) 0) (div_ceil place n) (div_ceil count n)
 
 -- ---- how many are coded
 
--- all that stands behind the place
+-- all samples after the places are coded
 pub later_calls : (n old first stop len : ℕ) → 0 < n → first ≤ stop → stop ≤ old
     → recoding_calls n old (recoding first stop (div_ceil old n) len) ≡ div_ceil (first + len + (old - stop)) n - first / n
 later_calls n old first stop len h order within =
@@ -66,7 +66,7 @@ later_calls n old first stop len h order within =
 
 module _ (f : Format) (limit first stop : ℕ) (s values : List ℤ) (some : 1 ≤ f.most) (order : first ≤ stop) (within : stop ≤ length s)
     (held : AreHeld f values) (few : first + length values + (length s - stop) ≤ limit) where
-  -- all that stands behind the place is coded
+  -- all samples after the places are coded
   pub later_can : IsExchangeUpTo f limit s (from_to first stop) (div_ceil (length s) f.most) values
   later_can = record {
     order = order;
@@ -78,7 +78,8 @@ module _ (f : Format) (limit first stop : ℕ) (s values : List ℤ) (some : 1 �
     few = few;
   }
 
-  -- the touched intervals alone are coded, as whole ones where others stand behind them
+  -- only the touched intervals are coded; if others come after them, what is coded is whole
+  -- intervals
   pub whole_can : (div_ceil stop f.most * f.most < length s
       → (k : ℕ) × (fresh_total f.most (length s) (recoding first stop (div_ceil stop f.most) (length values)) ≡ k * f.most))
       → IsExchangeUpTo f limit s (from_to first stop) (div_ceil stop f.most) values

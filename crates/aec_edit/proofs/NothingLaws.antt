@@ -25,7 +25,7 @@ codes_nothing n old some = record {
   remove_rest = λ k within. needed_calls-remove_rest n old k some within;
 }
 
--- what fits and needs no call is not refused
+-- an edit that fits and needs no call is not refused
 not_refused : (refusal : Option Fault) (calls needed : ℕ) (fault : Fault) (after : ℕ) → refusal ≡ None → needed ≡ 0
     → MatchOption (option_or refusal (want_of_calls calls needed)) (LacksMemory needed calls fault after) (λ due. (fault ≡ due) × (after ≡ calls)) → ⊥
 not_refused refusal calls needed fault after fits none answer =

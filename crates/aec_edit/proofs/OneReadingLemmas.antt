@@ -18,6 +18,6 @@ one_reading f s lawful held = record {
     filler : List Bool
     filler = replicate (up_to_multiple 8 (length (code_of f s))) false
 
--- in the form in which the code has the facts
+-- the same, stated by the code's variables
 pub HasOneReading-code : (f : Format) (s samples : List ℤ) → IsLawful f → AreHeld f s → samples ≡ s → HasOneReading f (bytes_of (code_of f s)) samples
 HasOneReading-code f s samples lawful held is = subst (HasOneReading f (bytes_of (code_of f s))) (sym is) (one_reading f s lawful held)

@@ -1,5 +1,5 @@
--- Which of the intervals that an exchange reaches it decodes: the first and the last, where they
--- keep a sample.
+-- Of the intervals that an exchange reaches, it decodes the first and the last, if they keep a
+-- sample.
 use Rattle.std.proofs.Common.{◌≡◌, ℕ, zero, suc, ◌+◌, ◌-◌, ◌*◌, ◌/◌, ◌<◌, ◌≤◌, min, Bool, true, false, cond, nat_lt, ◌&&◌}
 use Rattle.std.proofs.Common.{Result, List, [], ◌∷◌, ◌++◌, length, take, drop, ℤ, refl, sym, ap, ◌∙◌, inl, inr, subst, arith, length-append}
 use Rattle.std.specs.Int.{div_ceil}
@@ -24,7 +24,7 @@ use Rattle.aec_edit.proofs.ExchangeLemmas.{begins_before, ceil_mono}
 keeps_none : (n count first stop k : ℕ) → first ≤ k * n → min (k * n + n) count ≤ stop → keeps_a_sample n count (from_to first stop) k ≡ false
 keeps_none n count first stop k after past = grind (arith, nat_tests)
 
--- an interval that begins in front of a place is reached
+-- an interval that begins before place `stop` is reached
 reached_before : (n stop k : ℕ) → 0 < n → k * n < stop → k < div_ceil stop n
 reached_before n stop k h before =
     elim (cases_lt k (div_ceil stop n)) [
@@ -89,7 +89,7 @@ module _ (n count first stop : ℕ) (some : 0 < n) (order : first ≤ stop) wher
   abbrev keeps : ℕ → Bool
   keeps = keeps_a_sample n count (from_to first stop)
 
-  -- how many are reached
+  -- how many intervals are reached
   abbrev reached : ℕ
   reached = div_ceil stop n - first / n
 
@@ -103,7 +103,7 @@ module _ (n count first stop : ℕ) (some : 0 < n) (order : first ≤ stop) wher
         | inr all ↦ none_taken keeps (first / n) reached (omega arith)
       ]
 
-  -- those between the first and the last keep nothing
+  -- the intervals between the first and the last keep no sample
   between : (k : ℕ) → first / n < k → k < first / n + reached - 1 → keeps k ≡ false
   between k behind before =
       let begins = begins_before first n some in
@@ -116,7 +116,7 @@ module _ (n count first stop : ℕ) (some : 0 < n) (order : first ≤ stop) wher
       let e : first / n + reached - 1 ≡ div_ceil stop n - 1 = omega arith in
       behind_first keeps (first / n) reached (omega arith) between ∙ ap (λ k. filter keeps (k ∷ [])) e
 
-  -- ---- where they keep one
+  -- ---- whether the first and the last keep a sample
 
   pub first-head : first / n * n < first → opened_first n count (from_to first stop) ≡ first / n ∷ []
   first-head before = first_there (reached_before n stop (first / n) some (omega arith)) (keeps_head n count first stop (first / n) before)
@@ -155,7 +155,7 @@ module _ (n count first stop : ℕ) (some : 0 < n) (order : first ≤ stop) wher
             ∙ dropped keeps (div_ceil stop n - 1) (keeps_none n count first stop (div_ceil stop n - 1) (omega (arith, begins.1)) (omega arith))
       ]
 
-  -- ---- how many there are
+  -- ---- how many are decoded
 
   pub first_few : length (opened_first n count (from_to first stop)) ≤ 1
   first_few =
@@ -178,7 +178,7 @@ module _ (n count first stop : ℕ) (some : 0 < n) (order : first ≤ stop) wher
       ≡ length (opened_first n count (from_to first stop)) + length (opened_behind n count (from_to first stop))
   opened-count = ap length opened-parts ∙ length-append (opened_first n count (from_to first stop)) (opened_behind n count (from_to first stop))
 
-  -- ---- as the code tests it, with m for the n that it is told
+  -- ---- as the code tests it, with m for n
 
   module _ (m k : ℕ) (b : Bool) (m_is : m ≡ n) (is : b ≡ (nat_lt (k * n) stop && keeps k)) where
     pub first_by : k ≡ first / m → b ≡ true → opened_first n count (from_to first stop) ≡ k ∷ []
@@ -209,11 +209,11 @@ module _ (n count first stop : ℕ) (some : 0 < n) (order : first ≤ stop) wher
           behind_is (omega (arith, last_is.0, last_is.1)) ∙ ap (λ i. filter keeps (i ∷ [])) (sym last_is.0)
           ∙ dropped keeps k (second_false (k * n) stop (keeps k) (before_end k stop n some (omega (arith, last_is.0, last_is.1))) (sym is ∙ e))
 
-      -- it is an interval of all
+      -- interval k exists
       pub last_within : stop ≤ count → k < div_ceil count n
       last_within within = omega (arith, last_is.0, last_is.1, ceil_mono n stop count some within)
 
--- the samples of both
+-- the samples of the first interval, and of those after it
 pub opened_samples-parts : (n first stop : ℕ) (s : List ℤ) → 0 < n → first ≤ stop
     → opened_samples n (from_to first stop) s
     ≡ samples_of n s (opened_first n (length s) (from_to first stop)) ++ samples_of n s (opened_behind n (length s) (from_to first stop))
@@ -221,14 +221,14 @@ opened_samples-parts n first stop s some order =
     ap (samples_of n s) (opened-parts n (length s) first stop some order)
     ∙ flat_map-append (λ k. take n (drop (k * n) s)) (opened_first n (length s) (from_to first stop)) (opened_behind n (length s) (from_to first stop))
 
--- the samples of one, or of none
+-- the samples of one interval, or of none
 pub one_of : (n k : ℕ) (s : List ℤ) (opened : List ℕ) → opened ≡ k ∷ [] → samples_of n s opened ≡ take n (drop (k * n) s)
 one_of n k s opened e = ap (samples_of n s) e ∙ append-nil (take n (drop (k * n) s))
 
 pub none_of : (n : ℕ) (s : List ℤ) (opened : List ℕ) → opened ≡ [] → samples_of n s opened ≡ []
 none_of n s opened e = ap (samples_of n s) e
 
--- ---- what is answered where one is decoded
+-- ---- a fault if an interval is decoded
 
 pub one_fault : {T E : Type 0} (r : Result T E) (P : E → Type 0) (k : ℕ) (opened : List ℕ) → opened ≡ k ∷ [] → IfErr r P
     → IfErr r (λ e. P e × (0 < length opened))

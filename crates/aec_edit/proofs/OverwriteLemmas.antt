@@ -1,4 +1,4 @@
--- What an overwrite codes and decodes, as its definition has it and as the code has it.
+-- What an overwrite codes and decodes: its definition and the code agree.
 use Rattle.std.proofs.Common.{◌≡◌, ℕ, ◌+◌, ◌-◌, ◌*◌, ◌/◌, ◌<◌, ◌≤◌, inr, refl}
 use Rattle.std.proofs.Common.{Result, List, length, ℤ, sym, ap, ◌∙◌, arith}
 use Rattle.std.specs.Result.{MatchResult, OnOk, OnErr}
@@ -22,7 +22,7 @@ use Rattle.aec_edit.proofs.AnswerLemmas.{from_exchange}
 
 -- ---- how many are coded
 
--- the last of some places lies in the last interval that they fill
+-- the last of m places is in the last interval that they fill
 pub ceil_last : (m n : ℕ) → 0 < n → 0 < m → div_ceil m n ≡ (m - 1) / n + 1
 ceil_last m n h some =
     let begins = begins_before (m - 1) n h in
@@ -51,7 +51,7 @@ overwrite_opens n old first len h some =
     ap (range_with_len (first / n)) number ∙ sym (touched_intervals-is n first len h some) in
     ap (λ l. length (filter (keeps_a_sample n old (from_to first (first + len))) l)) reached
 
--- ---- the answer
+-- ---- the result
 
 pub overwrite_can : (f : Format) (limit first : ℕ) (s values : List ℤ) → AreHeld f values → first + length values ≤ length s → length s ≤ limit
     → IsExchange f limit s (from_to first (first + length values)) values

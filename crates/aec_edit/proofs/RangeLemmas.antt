@@ -1,4 +1,4 @@
--- Samples read back out of the intervals that hold them.
+-- Samples that are read back from the intervals that contain them.
 use Rattle.std.proofs.Common.{◌≡◌, ℕ, ◌+◌, ◌-◌, ◌*◌, ◌/◌, ◌%◌, ◌<◌, ◌≤◌, List, ◌++◌, length, take, drop, ℤ, sym, ap, ◌∙◌, arith, append_assoc, take-add}
 use Rattle.std.specs.Int.{div_ceil}
 use Rattle.std.proofs.Math.Nat.{mul-le-mul_right}
@@ -10,7 +10,7 @@ use Rattle.aec_edit.proofs.ExchangeLemmas.{begins_before}
 use Rattle.aec_edit.proofs.CallLemmas.{needed_is}
 use Rattle.aec_edit.proofs.OverwriteLemmas.{overwrite_calls}
 
--- one interval more
+-- one more interval
 pub intervals_more : (n from i : ℕ) (s front items items' : List ℤ) → 0 < n → from ≤ i → i < div_ceil (length s) n
     → items ≡ front ++ drop (from * n) (take (i * n) s) → items' ≡ items ++ take n (drop (i * n) s)
     → items' ≡ front ++ drop (from * n) (take ((i + 1) * n) s)
@@ -26,7 +26,7 @@ intervals_more n from i s front items items' h order within so_far grown =
     (sym (drop-append-le (from * n) (take (i * n) s) (take n (drop (i * n) s)) there)
     ∙ ap (drop (from * n)) (sym (take-add (i * n) n s) ∙ ap (λ m. take m s) next))
 
--- the places asked for, out of the intervals that hold them
+-- the samples asked for, cut out of the intervals that contain them
 pub range_is : (n first len m to skip : ℕ) (s out kept : List ℤ) → 0 < n → m ≡ n → to ≡ div_ceil (first + len) m → skip ≡ first % m
     → out ≡ drop (first / m * n) (take (to * n) s) → kept ≡ take len (drop skip out) → kept ≡ take len (drop first s)
 range_is n first len m to skip s out kept h m_is to_is skip_is out_is kept_is =
@@ -46,7 +46,7 @@ range_is n first len m to skip s out kept h m_is to_is skip_is out_is kept_is =
     ∙ ap (take len) (drop-take first (end - first) s)
     ∙ take-take len (end - first) (drop first s) (omega arith)
 
--- how many intervals that are
+-- how many intervals are read
 pub range_reads : (n first len m to old new : ℕ) → 0 < n → 0 < len → m ≡ n → to ≡ div_ceil (first + len) m → RisesAtMost (to - first / m) old new
     → RisesAtMost (length (touched_intervals n first len)) old new
 range_reads n first len m to old new h some m_is to_is rises =

@@ -1,4 +1,4 @@
--- Intervals exchanged for the code of fresh samples.
+-- Intervals are exchanged for the code of fresh samples.
 use Rattle.std.proofs.Common.{◌≡◌, ℕ, ◌+◌, ◌-◌, ◌*◌, ◌<◌, ◌≤◌, Bool, Result, Ok, Err, List, ◌++◌, length}
 use Rattle.std.proofs.Common.{map, take, drop, get_or, ℤ, sym, ap, subst, ◌∙◌, inl, inr, arith, length-append}
 use Rattle.std.specs.Result.{OnOk, OnErr}
@@ -50,7 +50,7 @@ module _ (f : Format) (limit from to : ℕ) (s fresh : List ℤ) (lawful : IsLaw
       ∙ ap (λ n. starts_of f 0 (take (from * f.most) s) ++ starts_of f n (fresh ++ drop (to * f.most) s)) e
       ∙ ap (λ l. starts_of f 0 (take (from * f.most) s) ++ l) (fresh_starts (start_of f s from))
 
-  -- what stands after the bits and the starts of the intervals were replaced by those of the fresh
+  -- what is kept after the bits and the starts of intervals were replaced by those of the fresh
   -- samples
   pub recoded_kept : {count : ℕ} {bits : List Bool} {starts : List ℕ} (count' fresh_count i j start stop : ℕ) (bits' fresh_bits : List Bool)
       (starts' fresh_starts : List ℕ)
@@ -112,13 +112,13 @@ module _ (f : Format) (limit from to : ℕ) (s fresh : List ℤ) (lawful : IsLaw
           ∙ ap (λ l. starts_of f 0 (take (from * f.most) s) ++ (starts_of f (start_of f s from) fresh ++ l)) moved
           ∙ sym recoded_starts
 
--- either way some list is kept
+-- in both cases some list is kept
 pub some_kept : {T E : Type 0} {f : Format} {count : ℕ} {bits : List Bool} {starts : List ℕ} (r : Result T E) (s s' : List ℤ)
     → OnOk r (IsKeptCode f count bits starts s') → OnErr r (IsKeptCode f count bits starts s) → (x : List ℤ) × IsKeptCode f count bits starts x
 some_kept (Ok t) s s' ok err = (s', ok)
 some_kept (Err e) s s' ok err = (s, err)
 
--- what follows from a fact on a success, or on a refusal
+-- what follows from a fact, after a success or after a refusal
 pub on_ok_then : {T E P Q : Type 0} (r : Result T E) → OnOk r P → (P → Q) → OnOk r Q
 on_ok_then (Ok t) p h = h p
 on_ok_then (Err e) p h = tt
@@ -127,7 +127,7 @@ pub on_err_then : {T E P Q : Type 0} (r : Result T E) → OnErr r P → (P → Q
 on_err_then (Ok t) p h = tt
 on_err_then (Err e) p h = h p
 
--- fields that are as before keep the same
+-- unchanged fields keep the same samples
 pub same_kept : {f : Format} {count count' : ℕ} {bits bits' : List Bool} {starts starts' : List ℕ} {s : List ℤ} → IsKeptCode f count bits starts s
     → bits' ≡ bits → starts' ≡ starts → count' ≡ count → IsKeptCode f count' bits' starts' s
 same_kept kept bits_are starts_are count_is = record {
@@ -149,7 +149,7 @@ starts_short f fresh {starts = starts} lawful bits_are starts_are k within =
     let inside = starts_of-within f 0 fresh k lawful.some (omega arith) in
     omega (arith, inside.1, ap length bits_are, ap (λ l. get_or l k 0) starts_are)
 
--- the starts from number to on are not before its own
+-- the starts from interval `to` on are between the start of that interval and the end of the bits
 pub starts_later : (f : Format) {count : ℕ} {bits : List Bool} {starts : List ℕ} {s : List ℤ} (to j stop : ℕ) → IsLawful f → IsKeptCode f count bits starts s
     → j ≡ to → stop ≡ start_of f s to → (k : ℕ) → j ≤ k → k < length starts → (stop ≤ get_or starts k 0) × (get_or starts k 0 ≤ length bits)
 starts_later f {starts = starts} {s = s} to j stop lawful kept j_is stop_is k later within =
@@ -158,7 +158,7 @@ starts_later f {starts = starts} {s = s} to j stop lawful kept j_is stop_is k la
     ∙ omega arith in
     (omega (arith, start_of-mono f to k s lawful.some (omega arith)), omega (arith, start_of-le f k s lawful.some, ap length kept.bits_are))
 
--- the new number of samples, as the code counts it
+-- the new number of samples, as the code computes it
 pub new_count : (i j m from to n fresh_count len later count size count' : ℕ) → i ≡ from → j ≡ to → m ≡ n → fresh_count ≡ len → count ≡ size
     → later ≡ count - j * m → count' ≡ i * m + fresh_count + later → count' ≡ from * n + len + (size - to * n)
 new_count i j m from to n fresh_count len later count size count' i_is j_is m_is fresh_is count_is later_is sum = cc

@@ -1,4 +1,4 @@
--- What a removal codes and decodes, as its definition has it and as the code has it.
+-- What a removal codes and decodes: its definition and the code agree.
 use Rattle.std.proofs.Common.{◌≡◌, ℕ, ◌+◌, ◌-◌, ◌*◌, ◌/◌, ◌%◌, ◌<◌, ◌≤◌, min, Bool, false, cond, eqb, List, [], ◌++◌, length, ℤ, refl, sym, ap, ◌∙◌, inl, inr, ◌⊎◌, arith, Result, length-append}
 use Rattle.std.specs.Result.{MatchResult, OnOk, OnErr}
 use Rattle.std.specs.Int.{div_ceil}
@@ -27,7 +27,7 @@ use Rattle.aec_edit.proofs.MoveLemmas.{places, end_for, later_calls, later_can, 
 
 -- ---- how many are coded
 
--- whole intervals further
+-- if len fills whole intervals, the end of the interval of a place moves by len
 ceil_moved : (n first len : ℕ) → 0 < n → len % n ≡ 0 → div_ceil (first + len) n * n ≡ div_ceil first n * n + len
 ceil_moved n first len h whole =
     let parts : len ≡ len / n * n = omega (arith, div-add-mod' len n) in
@@ -101,7 +101,7 @@ later_opened n old first len h some within =
         differ (inl less) a b c = less
         differ (inr more) a b c = omega arith
 
--- ---- the answer
+-- ---- the result
 
 len_tests : (len : ℕ) → 0 < len → eqb len 0 ≡ false
 len_tests len some = ne_eqb len 0 (λ e. absurd (omega arith))
@@ -129,7 +129,7 @@ remove_openings n old first len h some within =
       | inr part ↦ rw (len_tests len some, ne_eqb (len % n) 0 part) (later_opened n old first len h some within)
     ]
 
--- one interval is coded, or none, where whole intervals go
+-- if whole intervals are removed, whole intervals are coded: one or none
 whole_fit : (n old first len : ℕ) → 0 < n → len % n ≡ 0 → div_ceil (first + len) n * n < old
     → (k : ℕ) × (fresh_total n old (recoding first (first + len) (div_ceil (first + len) n) 0) ≡ k * n)
 whole_fit n old first len h whole inside =

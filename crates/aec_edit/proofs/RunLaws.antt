@@ -21,7 +21,7 @@ use Rattle.aec_edit.specs.Laws.{HadMemory, RunsCountTheirCalls, RunsLeaveSamples
 
 -- ---- calls
 
--- a refused edit raises the calls by none or some, and by none where memory was there
+-- a refused edit doesn't lower the calls, and raises them only if the fault is `Memory`
 refused_calls : (f : Format) (s : List ℤ) (calls : ℕ) (e : Edit) (fault : Fault) (after : ℕ) (due : Option Fault)
     → MatchOption due (LacksMemory (needed_calls f.most (length s) e) calls fault after) (λ d. (fault ≡ d) × (after ≡ calls))
     → (calls ≤ after) × (fault ≢ Memory → after ≡ calls)
@@ -77,19 +77,19 @@ refusal_no_want f limit s (Insert first values) =
     (first_unheld f.holds 0 values)))
 refusal_no_want f limit s (Remove first len) = chosen_no_want (ltb (length s) (first + len)) (Some (OutOfRange (length s))) None (λ e. cc) tt
 
--- what is due for an edit is never want of memory
+-- the refusal that is due for an edit is never `Memory`
 due_no_want : (f : Format) (limit : ℕ) (s : List ℤ) (calls : ℕ) (e : Edit) → IsNoWant (due_refusal f limit s calls e)
 due_no_want f limit s calls e =
     or_no_want (refusal_of f limit s e) (want_of_calls calls (needed_calls f.most (length s) e)) (refusal_no_want f limit s e)
     (chosen_no_want (ltb (2 ^ 64 - 1 - calls) (needed_calls f.most (length s) e)) (Some Spent) None (λ e. cc) tt)
 
--- where nothing is due there are calls enough
+-- if no refusal is due, enough calls are left
 calls_left : (x : Option Fault) (b : Bool) → option_or x (cond b (Some Spent) None) ≡ None → b ≡ false
 calls_left None false h = refl
 calls_left None true h = cc
 calls_left (Some fault) b h = cc
 
--- an answer with memory there, and the calls after it that 64 bits hold
+-- an outcome that isn't a refusal with `Memory`, and a count of calls after it that fits 64 bits
 record IsAnswered (f : Format) (limit : ℕ) (s : List ℤ) (calls : ℕ) (e : Edit) : Type 0 where
   outcome : Outcome
   after : ℕ
@@ -133,7 +133,7 @@ some_answers f limit s calls (e ∷ edits) h =
     let rest = some_answers f limit (samples_left s e here.outcome) here.after edits here.fits in
     (here.outcome ∷ rest.0, rest.1, (here.after, here.answers, rest.2), (here.had, rest.3), rest.4)
 
--- what stands against an answer decides it where memory is there
+-- a refusal other than `Memory` is the one that is due
 refused_as : (needed calls : ℕ) (fault : Fault) (after : ℕ) (due : Option Fault)
     → MatchOption due (LacksMemory needed calls fault after) (λ d. (fault ≡ d) × (after ≡ calls))
     → fault ≢ Memory → (due ≡ Some fault) × (after ≡ calls)
@@ -198,7 +198,7 @@ none_found holds i (x ∷ values) h = one (holds x) h (none_found holds (i + 1) 
     one true h rest = rest h
     one false h rest = cc
 
--- nothing is due: not for the place, and not for a value
+-- if no refusal is due, neither the place nor a value is refused
 fits_by : (b : Bool) (fault : Fault) (found : Option ℕ) → cond b (Some fault) (option_map (λ i. SampleRange i) found) ≡ None → (b ≡ false) × (found ≡ None)
 fits_by true fault found h = cc
 fits_by false fault None h = (refl, refl)

@@ -11,7 +11,7 @@ use Rattle.aec_edit.specs.declared.outcome.Outcome.TheVariants.{Done, Refused}
 use Rattle.aec_edit.specs.Runs.{AnswersAll, HasRun, all_left, opened_for, all_opened}
 use Rattle.aec_edit.specs.declared.outcome.Outcome.{Outcome}
 
--- one run and another behind it are one run
+-- two runs, one after the other, are one run
 pub AnswersAll-append : (f : Format) (limit : ℕ) (s : List ℤ) (c m n : ℕ) (es fs : List Edit) (os ps : List Outcome)
     → AnswersAll f limit s c es os m → AnswersAll f limit (all_left s es os) m fs ps n → AnswersAll f limit s c (es ++ fs) (os ++ ps) n
 AnswersAll-append f limit s c m n [] fs [] ps h k = subst (λ x. AnswersAll f limit s x fs ps n) h k
@@ -35,9 +35,9 @@ all_opened-append f limit n s c m (e ∷ es) fs [] ps h = absurd h
 all_opened-append f limit n s c m (e ∷ es) fs (o ∷ os) ps h =
     let rest = all_opened-append f limit n (samples_left s e o) h.0 m es fs os ps h.2 in omega arith
 
--- ---- one edit more
+-- ---- one more edit
 
--- what an edit may decode is what its outcome says
+-- an edit may decode no more intervals than `opened_for` says of its outcome
 opened_few_refused : (f : Format) (limit : ℕ) (s : List ℤ) (calls : ℕ) (e : Edit) (fault : Fault) (after : ℕ) (due : Option Fault)
     → MatchOption due (LacksMemory (needed_calls f.most (length s) e) calls fault after) (λ d. (fault ≡ d) × (after ≡ calls))
     → (if is_some due then 0 else opened_intervals f.most (length s) e) ≤ opened_for f.most (length s) e (Refused fault)
@@ -49,7 +49,7 @@ opened_few : (f : Format) (limit : ℕ) (s : List ℤ) (calls : ℕ) (e : Edit) 
 opened_few f limit s calls e (Done coded) after h = rw h.fits (omega arith)
 opened_few f limit s calls e (Refused fault) after h = opened_few_refused f limit s calls e fault after (due_refusal f limit s calls e) h
 
--- how far a run has come, whose outcomes stand behind those that were there
+-- what a run has done so far; its outcomes come after the outcomes `before`
 pub record HasAdded (f : Format) (limit : ℕ) (s : List ℤ) (calls reads : ℕ) (edits : List Edit) (before outcomes : List Outcome) (left : List ℤ)
     (calls_after reads_after : ℕ) : Type 0 where
   pub done : List Outcome
@@ -74,7 +74,7 @@ HasRun-more f limit s calls reads edits edit done outcome left next after last r
       decoded = record { stays = omega (arith, h.decoded.stays, rises.stays); few = omega (arith, h.decoded.few, rises.few) };
     }
 
--- the next of a list of edits, after those before place i
+-- edit i of a list is run, after the edits before it
 pub run_goes_on : (f : Format) (limit : ℕ) (s : List ℤ) (calls reads : ℕ) (edits : List Edit) (i : ℕ) (edit : Edit)
     (before outcomes grown : List Outcome) (outcome : Outcome)
     (left next : List ℤ) (after last reads_after reads_last : ℕ) → HasAdded f limit s calls reads (take i edits) before outcomes left after reads_after

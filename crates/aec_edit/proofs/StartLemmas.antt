@@ -25,7 +25,7 @@ piece_starts-append bits_of place (p ∷ ps) qs =
     ap (λ l. place ∷ l) (piece_starts-append bits_of (place + length (bits_of p)) ps qs
     ∙ ap (λ n. piece_starts bits_of (place + length (bits_of p)) ps ++ piece_starts bits_of n qs) sum)
 
--- pieces that are coded from another place on
+-- the starts of pieces that are coded from a later place on
 piece_starts-add : (bits_of : List ℤ → List Bool) (base place : ℕ) (ps : List (List ℤ))
     → map (λ x. base + x) (piece_starts bits_of place ps) ≡ piece_starts bits_of (base + place) ps
 piece_starts-add bits_of base place [] = refl
@@ -56,7 +56,7 @@ get_or-piece_starts bits_of place (p ∷ ps) (suc i) d within =
     get_or-piece_starts bits_of (place + length (bits_of p)) ps i d (omega arith)
     ∙ omega (arith, length-append (bits_of p) (flat_map bits_of (take i ps)))
 
--- the starts stand between the place and the end of the code
+-- each start is between the first place and the end of the code
 piece_starts-within : (bits_of : List ℤ → List Bool) (place : ℕ) (ps : List (List ℤ)) (i : ℕ) → i < length ps
     → (place ≤ get_or (piece_starts bits_of place ps) i 0) × (get_or (piece_starts bits_of place ps) i 0 ≤ place + length (flat_map bits_of ps))
 piece_starts-within bits_of place [] i within = absurd (omega arith)
@@ -66,7 +66,7 @@ piece_starts-within bits_of place (p ∷ ps) (suc i) within =
     let sum = length-append (bits_of p) (flat_map bits_of ps) in
     (omega (arith, rest.0), omega (arith, rest.1))
 
--- the first pieces are the pieces of the front
+-- the first i pieces are the pieces of the first i * n elements
 take-pieces_of : {X : Type 0} (n i : ℕ) (xs : List X) → 0 < n → take i (pieces_of n xs) ≡ pieces_of n (take (i * n) xs)
 take-pieces_of {X} n zero xs h = sym (ap (λ k. pieces_of n (take k xs)) (let e : 0 * n ≡ 0 = omega arith in e) ∙ pieces_of-nil {X = X} n h)
 take-pieces_of {X} n (suc i) [] h =
@@ -127,7 +127,7 @@ starts_of-within f place s i h within = piece_starts-within f.bits_of place (pie
 
 -- ---- cut at an interval
 
--- a number of intervals reaches the end, or ends within the samples
+-- k intervals reach the end of the samples, or end within them
 pub ends_within : (n k len : ℕ) → (len ≤ k * n) ⊎ (k * n ≤ len)
 ends_within n k len = elim (cases_lt (k * n) len) [ inl a ↦ inr (omega arith) | inr b ↦ inl b ]
 
@@ -152,7 +152,7 @@ starts_of-cut f place k s h =
           ∙ starts_of-append f place k (take (k * f.most) s) (drop (k * f.most) s) h (omega (arith, length-take (k * f.most) s))
     ]
 
--- the code up to an interval and from there on
+-- the code before interval k, and from there on
 pub take-code_of : (f : Format) (k : ℕ) (s : List ℤ) → 1 ≤ f.most → take (start_of f s k) (code_of f s) ≡ code_of f (take (k * f.most) s)
 take-code_of f k s h = ap (take (start_of f s k)) (code_of-cut f k s h)
     ∙ take_at (code_of f (take (k * f.most) s)) (code_of f (drop (k * f.most) s)) (start_of f s k) refl
@@ -165,7 +165,7 @@ pub start_of-le : (f : Format) (k : ℕ) (s : List ℤ) → 1 ≤ f.most → sta
 start_of-le f k s h =
     let e = ap length (code_of-cut f k s h) ∙ length-append (code_of f (take (k * f.most) s)) (code_of f (drop (k * f.most) s)) in omega arith
 
--- whole intervals are as many as they are
+-- k whole intervals are k intervals
 pub whole_count : (n k : ℕ) → 0 < n → div_ceil (k * n) n ≡ k
 whole_count n zero h = ap (λ m. div_ceil m n) (let e : 0 * n ≡ 0 = omega arith in e) ∙ div_ceil-zero n h
 whole_count n (suc k) h =
@@ -173,14 +173,14 @@ whole_count n (suc k) h =
     let less : suc k * n - n ≡ k * n = omega arith in
     div_ceil-step (suc k * n) n h some ∙ ap suc (ap (λ m. div_ceil m n) less ∙ whole_count n k h)
 
--- later intervals begin later
+-- a later interval doesn't begin earlier
 pub start_of-mono : (f : Format) (i j : ℕ) (s : List ℤ) → 1 ≤ f.most → i ≤ j → start_of f s i ≤ start_of f s j
 start_of-mono f i j s h order =
     let front : take (i * f.most) (take (j * f.most) s) ≡ take (i * f.most) s = take-take (i * f.most) (j * f.most) s (mul-le-mul_right f.most order) in
     let within = start_of-le f i (take (j * f.most) s) h in
     omega (arith, ap (λ l. length (code_of f l)) front)
 
--- so many intervals in front have so many starts
+-- the first k intervals have k starts
 pub starts_of-front : (f : Format) (place k : ℕ) (s : List ℤ) → 1 ≤ f.most → k ≤ interval_count f s → length (starts_of f place (take (k * f.most) s)) ≡ k
 starts_of-front f place k s h within =
     length-starts_of f place (take (k * f.most) s) h

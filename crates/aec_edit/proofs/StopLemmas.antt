@@ -1,4 +1,4 @@
--- Edits in a row, of which each so far was made.
+-- Edits one after the other, all of them made so far.
 use Rattle.std.proofs.Common.{◌≡◌, ℕ, ◌+◌, ◌<◌, ◌≤◌, Ok, Err, List, [], ◌∷◌, ◌++◌, length, take, drop, get_or, ℤ, sym, ap, ◌∙◌, subst, arith}
 use Rattle.std.proofs.lemmas.List.{take_more, take-append-drop, length-take, drop_more, take_all}
 use Rattle.aec_params.specs.declared.fault.Fault.{Fault}
@@ -13,7 +13,7 @@ use Rattle.aec_edit.specs.Runs.{HasRun}
 use Rattle.aec_edit.specs.Stops.{AreDone, StopsAtRefusal, all_made, stopped}
 use Rattle.aec_edit.proofs.RunLemmas.{HasRun-more}
 
--- how far edits have come, each of which was made
+-- what the edits have done, if all of them were made
 pub record AreMade (f : Format) (limit : ℕ) (s : List ℤ) (calls reads : ℕ) (edits : List Edit) (left : List ℤ) (after reads_after : ℕ) : Type 0 where
   pub done : List Outcome
   pub are_done : AreDone done
@@ -24,7 +24,7 @@ AreDone-more [] coded made = tt
 AreDone-more (Done before ∷ done) coded made = AreDone-more done coded made
 AreDone-more (Refused fault ∷ done) coded made = absurd made
 
--- the next of a list of edits, after those before place i
+-- edit i of a list is made, after the edits before it
 pub one_more_made : (f : Format) (limit : ℕ) (s : List ℤ) (calls reads : ℕ) (edits : List Edit) (i : ℕ) (edit : Edit) (coded : ℕ)
     (left next : List ℤ) (after last reads_after reads_last : ℕ) → AreMade f limit s calls reads (take i edits) left after reads_after
     → i < length edits → edit ≡ get_or edits i edit → Answers f limit left after edit (Done coded) last → next ≡ samples_after left edit

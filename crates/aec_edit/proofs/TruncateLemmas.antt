@@ -1,4 +1,4 @@
--- What a cut codes and decodes, as its definition has it and as the code has it.
+-- What a truncation codes and decodes: its definition and the code agree.
 use Rattle.std.proofs.Common.{◌≡◌, ℕ, ◌+◌, ◌<◌, ◌≤◌, List, [], ◌++◌, length, take, ℤ, refl, ap, ◌∙◌, inl, inr, arith, Result}
 use Rattle.std.specs.Result.{MatchResult, OnOk, OnErr}
 use Rattle.std.specs.Int.{div_ceil}
@@ -20,7 +20,7 @@ use Rattle.aec_edit.proofs.AnswerLemmas.{from_exchange}
 use Rattle.aec_edit.proofs.MoveLemmas.{places}
 use Rattle.aec_edit.proofs.OpenedLemmas.{nothing_first, nothing_last, first_few, opened-count}
 
--- a cut that takes a sample codes the interval that it leaves part of
+-- a truncation that takes a sample away codes the interval of which it keeps a part
 cut_inside : (n old stop : ℕ) → stop < old → cut_calls n old stop ≡ inside_calls n stop
 cut_inside n old stop less = rw (ne_eqb stop old (λ e. absurd (omega arith))) refl
 
@@ -57,7 +57,7 @@ truncate_can f limit stop old s old_is less few = record {
   few = omega (arith, old_is, less, few);
 }
 
--- an exchange that is a cut
+-- an exchange that is a truncation
 pub truncated : (f : Format) (limit calls reads stop old : ℕ) (s : List ℤ) (r : Result ℕ Fault) (s' : List ℤ) (calls' reads' : ℕ) → 1 ≤ f.most
     → old ≡ length s → stop < old
     → MatchResult r (λ coded. IsExchanged (exchange_calls f.most stop 0) calls coded calls')

@@ -1,5 +1,5 @@
--- An exchange of which the intervals up to a number are coded anew: the samples that it codes, and
--- how many intervals they fill.
+-- An exchange that codes the intervals up to a number anew: the samples that it codes, and how many
+-- intervals they fill.
 use Rattle.std.proofs.Common.{◌≡◌, ℕ, ◌+◌, ◌-◌, ◌*◌, ◌/◌, ◌%◌, ◌<◌, ◌≤◌, min, List}
 use Rattle.std.proofs.Common.{◌^◌, ◌++◌, length, take, drop, ℤ, Bool, Result, refl, sym, ap, ◌∙◌, inl, inr, arith, append_assoc, length-append}
 use Rattle.std.specs.Int.{div_ceil}
@@ -25,7 +25,7 @@ use Rattle.aec_edit.proofs.ExchangeLemmas.{begins_before, ends_after, ceil_mono,
 use Rattle.aec_params.proofs.MoveLaws.{from_to}
 use Rattle.aec_edit.proofs.ExchangeLemmas.{recoding}
 
--- what is to come, as a workspace has it that was only read
+-- what is to come, in a workspace that was only read
 module _ {C : Type 0} (format_of : C → Format) (seen w : Contents C) {gone : Stretch} {to : ℕ} {values : List ℤ} {fresh : Fresh}
     (format_is : format_of w.codec ≡ format_of seen.codec) (samples_are : w.samples ≡ seen.samples) where
   pub fresh_coming : IsFreshFor (format_of seen.codec).most seen.samples gone to values fresh
@@ -123,14 +123,14 @@ module _ (f : Format) (limit first stop to : ℕ) (s values : List ℤ) (lawful 
       ∙ ap (λ l. l ++ ((values ++ tail) ++ drop end s)) front
       ∙ ap (λ l. take first s ++ l) (append_assoc values tail (drop end s) ∙ ap (λ l. values ++ l) rest)
 
-  -- what the touched intervals keep is coded
+  -- what the touched intervals keep is among what is coded
   pub kept_more : first % f.most + (min (length s) (div_ceil stop f.most * f.most) - stop)
       ≤ fresh_total f.most (length s) (recoding first stop to (length values))
   kept_more =
       let order = mul-le-mul_right {m = div_ceil stop f.most} {n = to} f.most fits.reaches in
       omega arith
 
-  -- where some sample is coded, some interval is
+  -- if a sample is coded, an interval is coded
   pub some_calls : 0 < fresh_total f.most (length s) (recoding first stop to (length values))
       → 0 < recoding_calls f.most (length s) (recoding first stop to (length values))
   some_calls some =
@@ -144,7 +144,8 @@ module _ (f : Format) (limit first stop to : ℕ) (s values : List ℤ) (lawful 
             absurd (omega arith)
       ]
 
--- an exchange of as many, or at the end, codes up to its last interval
+-- an exchange for the same number of values, or up to the end, codes up to the last interval that
+-- it touches
 module _ (f : Format) (limit first stop : ℕ) (s values : List ℤ) (lawful : IsLawful f) (held : AreHeld f s)
     (fits : IsExchange f limit s (from_to first stop) values) where
   pub same_calls : recoding_calls f.most (length s) (recoding first stop (div_ceil stop f.most) (length values)) ≡ exchange_calls f.most first (length values)
@@ -177,7 +178,7 @@ module _ (f : Format) (limit first stop : ℕ) (s values : List ℤ) (lawful : I
         few = fits.few;
       }
 
--- ---- under other names
+-- ---- the same, stated by other variables
 
 pub held_at : (f g : Format) (a b : List ℤ) → g ≡ f → a ≡ b → AreHeld f b → AreHeld g a
 held_at f g a b format_is same held = rw (format_is, same) held
@@ -215,7 +216,7 @@ pub reads_at : (a b calls opens opens' reads reads' : ℕ) → a ≡ b → opens
     → RisesAtMost (opened_by b calls opens') reads reads'
 reads_at a b calls opens opens' reads reads' same opens_same rises = rw (sym same, sym opens_same) rises
 
--- the intervals at both ends were decoded, then old intervals from number next up to number end
+-- the intervals at both ends were decoded, and then old intervals from number next up to number end
 pub decodes_both : (needed calls ends next next' end end' reads : ℕ) {between after : ℕ} → next' ≡ next → end' ≡ end → needed ≤ 2 ^ 64 - 1 - calls
     → RisesAtMost ends reads between → RisesAtMost (end' - next') between after → RisesAtMost (opened_by needed calls (ends + (end - next))) reads after
 decodes_both needed calls ends next next' end end' reads next_is end_is enough first then =
@@ -224,11 +225,11 @@ decodes_both needed calls ends next next' end end' reads next_is end_is enough f
       few = omega (arith, first.few, then.few, next_is, end_is);
     })
 
--- ---- an exchange up to some interval, as the code has it
+-- ---- an exchange up to some interval, as the code makes it
 
 module _ (f : Format) (limit first stop to : ℕ) (s values : List ℤ) (lawful : IsLawful f) (held : AreHeld f s)
     (fits : IsExchangeUpTo f limit s (from_to first stop) to values) where
-  -- what was coded is the code of its fresh samples
+  -- what was coded is the code of the exchange's fresh samples
   pub code_came : (g h : Format) (limit' from count : ℕ) (s'' came : List ℤ) (bits : List Bool) (starts : List ℕ)
       → g ≡ f → h ≡ g → limit' ≡ limit → s'' ≡ s → came ≡ fresh_of f.most s (from_to first stop) to values → from ≡ first / f.most
       → bits ≡ code_of g came → starts ≡ starts_of g 0 came → count ≡ fresh_total f.most (length s) (recoding first stop to (length values))
@@ -239,7 +240,7 @@ module _ (f : Format) (limit first stop to : ℕ) (s values : List ℤ) (lawful 
       (is_recoding_up_to f limit first stop to s values lawful held fits) bits_are starts_are count_is
       (sym (ap length came ∙ all_len f limit first stop to s values lawful held fits))
 
-  -- and then it is put in its place, which makes the exchange
+  -- with that code in its place, the exchange is made
   pub put_came : (h : Format) (from : ℕ) (s'' : List ℤ) → h ≡ f → s'' ≡ s → from ≡ first / f.most
       → recoded h from to (fresh_of f.most s (from_to first stop) to values) s'' ≡ exchanged (from_to first stop) values s
   put_came h from s'' format_is s_is from_is =

@@ -1,4 +1,4 @@
--- Each input is answered by bytes or by one refusal.
+-- Each input has one answer: bytes, or a refusal.
 use Rattle.std.proofs.Common.{◌≡◌, ℕ, if◌then◌else◌, Option, Some, None, Result, Ok, Err, ℤ, List, refl, sym, ap, ◌∙◌, ◌⊎◌, inl, inr}
 use Rattle.std.specs.Option.{option_or}
 use Rattle.aec_params.specs.declared.settings.Settings.{Settings}

@@ -1,4 +1,4 @@
--- What is left in a buffer, by what stands for the answer before it is put there.
+-- What a buffer contains, from what is proved of the answer before its bytes are put there.
 use Rattle.std.proofs.Common.{◌≡◌, ℕ, ◌*◌, ◌<◌, ◌≤◌, Bool, false, Option, None, Some, Result, Ok, Err, ℤ, List, ◌++◌, length, drop, refl, sym, ap, ◌∙◌, subst, arith, inl, inr}
 use Rattle.std.specs.Prelude.{nat_le}
 use Rattle.std.proofs.lemmas.Bool.{cond-true, cond-false, le-leb, lt-leb}
@@ -28,11 +28,11 @@ pub fills_refusal : (answers : Result (List ℕ) Fault → Type 0) (before : Lis
     → answers (Err f) → FillsOne answers before before r
 fills_refusal answers before r fault f is same answered = record { answer = Err f; answered = answered; told = is ∙ ap Err same; left = refl }
 
--- the bits have a reading whose range has so many samples
+-- the bits have a reading with `len` samples in the range from `first` on
 abbrev pub HasRange : Place → ℕ → ℕ → Type 0
 HasRange p first len = (xs : List ℤ) × AreSamplesOf p xs × (length (samples_from first len xs) ≡ len)
 
--- the bytes of the range
+-- the number of bytes of the range
 pub size_of : (p : Place) (s : Settings) (first len size : ℕ) (xs : List ℤ) → IsAllowed p.settings → HasRange p first len → AreSamplesOf p xs
     → size ≡ len * storage_len s → length (all_stored s (samples_from first len xs)) ≡ size
 size_of p s first len size xs a range told is =
@@ -43,7 +43,7 @@ size_of p s first len size xs a range told is =
       ap (λ n. storage_len s * n) (sym (ap (λ xs. length (samples_from first len xs)) one) ∙ range.2),
     )
 
--- too long for the buffer
+-- the range is too long for the buffer
 pub fills_not : (p : Place) (s : Settings) (first len size : ℕ) (before : List ℕ) (xs : List ℤ) → IsAllowed p.settings → HasRange p first len
     → AreSamplesOf p xs → size ≡ len * storage_len s → length before < size → FillsOne (StoresPart s first len xs) before before (Ok size)
 fills_not p s first len size before xs a range told is long =
@@ -57,7 +57,7 @@ fills_not p s first len size before xs a range told is long =
           (lt-leb (length bytes) (length before) (omega (arith, same))));
     }
 
--- put to the front of it
+-- the range is put at the front of the buffer
 pub fills_front : (p : Place) (s : Settings) (first len size : ℕ) (before after : List ℕ) (xs : List ℤ) → IsAllowed p.settings → HasRange p first len
     → AreSamplesOf p xs → size ≡ len * storage_len s → size ≤ length before → after ≡ all_stored s (samples_from first len xs) ++ drop size before
     → FillsOne (StoresPart s first len xs) before after (Ok size)
@@ -73,14 +73,14 @@ fills_front p s first len size before after xs a range told is short put =
           (le-leb (length bytes) (length before) (omega (arith, same))));
     }
 
--- ---- what it is the answer to
+-- ---- which answer it is
 
 pub fills_map : (answers others : Result (List ℕ) Fault → Type 0) (before after : List ℕ) (r : Result ℕ Fault)
     → ((answer : Result (List ℕ) Fault) → answers answer → others answer) → FillsOne answers before after r → FillsOne others before after r
 fills_map answers others before after r weaker one =
     record { answer = one.answer; answered = weaker one.answer one.answered; told = one.told; left = one.left }
 
--- no more samples than the limit
+-- no more samples are read than the limit allows
 pub few_samples : (s : Settings) (count : Option ℕ) (limit : ℕ) (bits : List Bool) (p : Place) (total : ℕ) → IsAllowed s → p ≡ place_at s count limit bits 0 0
     → None ≡ count_refusal limit count → HaveSamples p total → total ≤ limit
 few_samples s count limit bits p total a is none have =

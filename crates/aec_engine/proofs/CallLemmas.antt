@@ -1,4 +1,4 @@
--- How often an append calls the coder at most, and that each edit of a script has a line.
+-- How often an append calls the coder at most, and when two appends call it as often as one.
 use Rattle.std.proofs.Common.{◌≡◌, ℕ, zero, suc, ◌+◌, ◌-◌, ◌*◌, ◌/◌, ◌%◌, ◌<◌, ◌≤◌, ◌↔◌, eqb, min, cond, ℤ, List, ◌++◌, length, ap, ◌∙◌, arith}
 use Rattle.std.specs.Int.{div_ceil}
 use Rattle.std.proofs.lemmas.Bool.{cond-false, ne_eqb}
@@ -32,7 +32,7 @@ touched-le n first (suc len) some =
 pub append_calls-le : (n old : ℕ) (values : List ℤ) → 0 < n → needed_calls n old (Append values) ≤ length values
 append_calls-le n old values some = omega (arith, needed_calls-append n old values some, touched-le n old (length values) some)
 
--- ---- appends that begin where intervals do
+-- ---- appends that begin where an interval begins
 
 calls_between : (n old len : ℕ) → 0 < len → cond (eqb len 0) 0 (div_ceil (old + len) n - old / n) ≡ div_ceil (old + len) n - old / n
 calls_between n old len some = cond-false (eqb len 0) 0 (div_ceil (old + len) n - old / n) (ne_eqb len 0 (λ e. absurd (omega arith)))
@@ -59,8 +59,8 @@ lengths-joined n old (suc a) (suc b) some whole =
     let same : old + suc a + suc b ≡ old + (suc a + suc b) = omega arith in
     omega (arith, both, first, second, ap (λ k. div_ceil k n) same, ap (min 1) whole)
 
--- two appends call the coder as often as one of all values, where the first one ends where an
--- interval does
+-- two appends call the coder as often as one append of all values, if the first ends at the end of
+-- an interval
 pub append_calls-joined : (n old : ℕ) (a b : List ℤ) → 0 < n → (old + length a) % n ≡ 0
     → needed_calls n old (Append (a ++ b)) ≡ needed_calls n old (Append a) + needed_calls n (old + length a) (Append b)
 append_calls-joined n old a b some whole =

@@ -1,4 +1,4 @@
--- What feeding a source to a coder gives, step by step, and the answers of coding.
+-- What a coder makes when it is fed from a source, step by step, and the answers of coding.
 use Rattle.std.proofs.Common.{◌≡◌, ℕ, ◌+◌, ◌-◌, ◌*◌, ◌/◌, ◌<◌, ◌≤◌, Bool, true, false, Option, Some, None, Result, Ok, Err, List, [], ◌∷◌, ◌++◌, length, refl, sym, ap, ◌∙◌, subst, inl, inr, arith, append-nil}
 use Rattle.std.specs.Prelude.{is_some, MatchOption}
 use Rattle.std.specs.Option.{option_or}
@@ -31,7 +31,7 @@ use Rattle.aec_interval.proofs.TakingLemmas.{length-samples_of_bytes}
 
 -- ---- a coder that was fed bytes
 
--- what bytes are as a whole
+-- the bytes so far contain no refused sample
 judged_so_far : (s : Settings) (limit : ℕ) (bytes : List ℕ) (bits : List Bool) (coder : Coder) → IsAllowed s
     → Feeds (fresh_coder s limit) bytes [] bits coder → judged_samples limit (samples_of_bytes s bytes) ≡ None
 judged_so_far s limit bytes bits coder a feeds = sym ((cuts_make_no_difference s limit a).judged bytes) ∙ feeds.taken
@@ -42,7 +42,7 @@ stream_so_far s limit bytes bits coder a feeds =
     subst (λ l. IsStreamSoFar s limit l [] bits coder) (append-nil bytes)
     ((cuts_make_no_difference s limit a).stream (bytes ∷ []) [] bits coder (bits, (coder, (feeds, (refl, refl)))))
 
--- all bytes are counted: those of whole samples, and those behind them
+-- all bytes are counted: those of whole samples, and those after them
 counted_so_far : (s : Settings) (limit : ℕ) (bytes : List ℕ) (bits : List Bool) (coder : Coder) → IsAllowed s
     → Feeds (fresh_coder s limit) bytes [] bits coder → coder.count * storage_len s + length coder.rest ≡ length bytes
 counted_so_far s limit bytes bits coder a feeds =
@@ -54,7 +54,7 @@ counted_so_far s limit bytes bits coder a feeds =
     ap (λ (c : Coder). length c.rest) feeds.coder ∙ length-drop (length bytes / n * n) bytes in
     omega (arith, whole, rest, div-add-mod' (length bytes) n)
 
--- which are fewer than those of more samples than the limit
+-- the bytes so far are fewer than those of limit + 1 samples
 within_so_far : (s : Settings) (limit : ℕ) (bytes : List ℕ) (bits : List Bool) (coder : Coder) → IsAllowed s
     → Feeds (fresh_coder s limit) bytes [] bits coder → length bytes < (limit + 1) * storage_len s
 within_so_far s limit bytes bits coder a feeds =
@@ -88,12 +88,12 @@ fed_goes_on s limit before between after bits more coder next piece so consumes 
   feeds = (cuts_make_no_difference s limit so.allowed).more so.bytes piece [] bits more coder next so.feeds feeds;
 }
 
--- nothing was refused so far
+-- no sample was refused so far
 pub unrefused_so_far : (s : Settings) (limit : ℕ) (before after : Option (List ℕ)) (bits : List Bool) (coder : Coder)
     → IsFedSoFar s limit before after bits coder → coder.refusal ≡ None
 unrefused_so_far s limit before after bits coder so = ap (λ (c : Coder). c.refusal) so.feeds.coder ∙ so.feeds.taken
 
--- fewer bytes are left to be taken
+-- after a piece, the coder can take fewer bytes
 pub fewer_left : (s : Settings) (limit : ℕ) (before after : Option (List ℕ)) (bits more : List Bool) (coder next : Coder) (piece : List ℕ)
     → IsFedSoFar s limit before after bits coder → Feeds coder piece bits more next → 0 < length piece → bytes_left next < bytes_left coder
 fewer_left s limit before after bits more coder next piece so feeds some =
@@ -111,7 +111,7 @@ fewer_left s limit before after bits more coder next piece so feeds some =
     ap (λ (c : Coder). (c.limit + 1) * storage_len c.settings - (next.count * storage_len c.settings + length next.rest)) all_fed.coder in
     omega (arith, old, new, most, all, old_left, new_left, some)
 
--- the source is at its end, and gave no more
+-- the source is at its end, and no more bytes were taken
 pub fed_ends : (s : Settings) (limit : ℕ) (before between after : Option (List ℕ)) (failures : ℕ) (bits : List Bool) (coder : Coder) (count : ℕ)
     (buf : List ℕ) → IsFedSoFar s limit before between bits coder
     → Consumes between after (take count buf) × (count ≡ 0 → 0 < length buf → IsAtEnd after) → failures ≡ 0 → count ≡ 0 → 0 < length buf
@@ -132,7 +132,7 @@ fed_ends s limit before between after failures bits coder count buf so (consumes
     nothing : take count buf ≡ []
     nothing = nil_from_length (take count buf) (omega (arith, length-take count buf, none))
 
--- what is promised to a coder that was not refused anything
+-- what holds of a coder without a refusal
 pub unless_refused : (o : Option Fault) (P : Type 0) (Q : Fault → Type 0) → o ≡ None → MatchOption o P Q → P
 unless_refused None P Q none p = p
 unless_refused (Some fault) P Q none q = absurd (cc)

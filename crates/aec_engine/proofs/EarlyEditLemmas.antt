@@ -1,4 +1,4 @@
--- Edits made on the samples that are there, before those behind them are.
+-- Edits that are made on the samples loaded so far, before the samples after them are loaded.
 use Rattle.std.proofs.Common.{◌≡◌, inr, ℕ, ◌+◌, ◌-◌, ◌^◌, ◌<◌, ◌≤◌, if◌then◌else◌, Option, Some, None, ℤ, List, ◌++◌, length, refl, sym, ap, ap₂, ◌∙◌, subst, arith}
 use Rattle.std.specs.Prelude.{MatchOption}
 use Rattle.std.specs.Option.{option_or}
@@ -36,7 +36,7 @@ leads-on f limit a b c es gs hs first second = record {
   lacks = λ line at. first.lacks line (second.lacks line at);
 }
 
--- an edit that is made leads to those behind it
+-- an edit that is made leads to the edits after it
 leads-made : (f : Format) (limit calls : ℕ) (s : List ℤ) (e : Edit) (n : ℕ) (rest : Listing) → due_refusal f limit s calls e ≡ None
     → LeadsToEdits f limit (left_with s calls) (listed n (change e) rest) (left_with (samples_after s e) (calls + needed_calls f.most (length s) e)) rest
 leads-made f limit calls s e n rest fits = record {
@@ -51,7 +51,7 @@ leads-stop f limit a b es gs fault leads (steps.lacks_memory line at) = steps.la
 
 -- ---- one edit
 
--- an overwrite calls the coder at most as often as there are samples
+-- an overwrite inside some samples calls the coder at most once for each of them
 pub needed-inside : (n old : ℕ) (e : Edit) → 0 < n → IsInside old e → needed_calls n old e ≤ old
 needed-inside n old (Overwrite first values) some inside = omega (arith, touched-le n first (length values) some, inside)
 needed-inside n old (Append values) some inside = absurd inside
@@ -62,8 +62,8 @@ needed-inside n old (Remove first len) some inside = absurd inside
 enough : (calls needed : ℕ) → calls + needed ≤ 2 ^ 64 - 1 → want_of_calls calls needed ≡ None
 enough calls needed few = ap (λ t. if t then Some Spent else None) (le-ltb (2 ^ 64 - 1 - calls) needed (omega (arith, few)))
 
--- where calls enough are left, what is due is what the edit breaks, and more samples behind it
--- change nothing
+-- if enough calls are left, only the edit's own refusal is due, and more samples after these don't
+-- change it
 due-inside : (f : Format) (limit due : ℕ) (s rest : List ℤ) (e : Edit) → IsInside (length s) e → due + needed_calls f.most (length s) e ≤ 2 ^ 64 - 1
     → due_refusal f limit (s ++ rest) due e ≡ option_or (refusal_of f limit s e) None
 due-inside f limit due s rest e inside few =
@@ -74,10 +74,10 @@ pub due-here : (f : Format) (limit calls : ℕ) (s : List ℤ) (e : Edit) → ca
     → due_refusal f limit s calls e ≡ option_or (refusal_of f limit s e) None
 due-here f limit calls s e few = ap (option_or (refusal_of f limit s e)) (enough calls (needed_calls f.most (length s) e) few)
 
--- ---- edits in a row
+-- ---- edits one after the other
 
--- one more that overwrites samples which are there was made, while the coder hadn't been called too
--- often
+-- one more overwrite inside the loaded samples was made, and the coder had been called fewer than
+-- 2^62 times before
 pub early-made : (f g : Format) (limit most : ℕ) (script ahead rest : Listing) (s reached left : List ℤ) (before calls coded after : ℕ)
     (e : Edit) (n : ℕ) → g ≡ f → most ≡ limit → ahead ≡ listed n (change e) rest → 0 < f.most → calls < 2 ^ 62 → length s ≤ 2 ^ 32
     → IsInside (length reached) e → IsAccepted g most reached calls e coded after → left ≡ samples_after reached e
@@ -113,7 +113,7 @@ early-made f g limit most script ahead rest s reached left before calls coded af
         (ap (λ n. at + n) (needed_calls-inside f.most (length reached) (length (reached ++ more)) e inside) ∙ reaches))
         (leads-made f limit at (reached ++ more) e n rest (due-inside f limit at reached more e inside room ∙ fits)))
 
--- the next that overwrites samples which are there was refused
+-- the next overwrite inside the loaded samples was refused
 pub early-stops : (f g : Format) (limit most : ℕ) (script ahead rest : Listing) (s reached : List ℤ) (before calls after : ℕ)
     (e : Edit) (n : ℕ) (fault : Fault) → g ≡ f → most ≡ limit → ahead ≡ listed n (change e) rest → 0 < f.most → calls < 2 ^ 62
     → length s ≤ 2 ^ 32 → IsInside (length reached) e → IsRefused g most reached calls e fault after
@@ -154,7 +154,7 @@ early-stops f g limit most script ahead rest s reached before calls after e n fa
 
 -- ---- edits on all samples
 
--- one more was made
+-- one more edit was made
 pub rest-made : (f g : Format) (limit most : ℕ) (script ahead rest : Listing) (s reached left : List ℤ) (before calls coded after : ℕ)
     (e : Edit) (n : ℕ) → g ≡ f → most ≡ limit → ahead ≡ listed n (change e) rest → IsAccepted g most reached calls e coded after
     → left ≡ samples_after reached e → LeadsToEdits f limit (left_with s before) script (left_with reached calls) ahead
@@ -170,7 +170,7 @@ rest-made f g limit most script ahead rest s reached left before calls coded aft
     accepted = subst (λ limit. IsAccepted f limit reached calls e coded after) limited
         (subst (λ f. IsAccepted f most reached calls e coded after) format made)
 
--- the next was refused
+-- the next edit was refused
 pub rest-stops : (f g : Format) (limit most : ℕ) (script ahead rest : Listing) (s reached : List ℤ) (before calls after : ℕ)
     (e : Edit) (n : ℕ) (fault : Fault) → g ≡ f → most ≡ limit → ahead ≡ listed n (change e) rest
     → IsRefused g most reached calls e fault after → LeadsToEdits f limit (left_with s before) script (left_with reached calls) ahead

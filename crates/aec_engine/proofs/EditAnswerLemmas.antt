@@ -1,4 +1,4 @@
--- Answers of the engine that carries out scripts from what its parts answer.
+-- Answers of the engine that carries out scripts, from the results of its parts.
 use Rattle.std.proofs.Common.{◌≡◌, ℕ, Option, Result, Ok, Err, ℤ, Bool, List, refl, sym, ap, ◌∙◌, subst}
 use Rattle.std.specs.Io.KnownBytes.{Keeps}
 use Rattle.aec_params.specs.declared.settings.Settings.{Settings}
@@ -115,7 +115,7 @@ gives_no_bits s caps count from before after failures limit read f limited scrip
     no_source_answer s caps count from (taking before after failures) read (Err f) f refl script
     (refused_intake s caps count before after failures f (subst (λ limit. RefusesIntake before after failures limit f) limited refuses))
 
--- ---- what is left in the sink
+-- ---- what the sink contains afterwards
 
 pub leaves_unedited : {X : Type 0} (view : X → ℕ) (r : Result X EditFault) (e fault : EditFault) (s : Settings) (caps : Caps) (count : Option ℕ)
     (from source : Taking) (before mark : Option (List ℕ)) (begun failures : ℕ) → r ≡ Err e → e ≡ fault

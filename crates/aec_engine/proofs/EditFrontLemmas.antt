@@ -1,4 +1,4 @@
--- A script or a coded input past its limit is judged by its front.
+-- A script or a coded input that is longer than its limit is judged by its front.
 use Rattle.std.proofs.Common.{◌≡◌, ◌↔◌, ℕ, ◌<◌, Option, Some, None, Result, Err, List, ◌++◌, length, refl, sym, ap, subst}
 use Rattle.std.specs.Prelude.{option_map}
 use Rattle.std.specs.Option.{option_or}
@@ -22,7 +22,7 @@ use Rattle.aec_engine.proofs.OneEditLemmas.{only-no_script}
 script_refusal-intake : (limit : ℕ) (script : Input) (fault : Fault) → intake_refusal limit script ≡ Some fault → script_refusal limit script ≡ Some fault
 script_refusal-intake limit script fault is = ap (λ t. option_or t (option_map (λ n. Script n) (listing_of script.bytes).bad)) is
 
--- a script that is refused has one answer
+-- the refusal of a script is the only answer
 judged_no_script : (s : Settings) (caps : Caps) (count : Option ℕ) (script input : Input) (fault : Fault) (answer : Result Recoded EditFault)
     → script_refusal caps.bytes script ≡ Some fault → IsEdited s caps count script input answer ↔ (answer ≡ Err (Plain fault))
 judged_no_script s caps count script input fault answer refused = (

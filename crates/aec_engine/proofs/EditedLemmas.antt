@@ -1,4 +1,4 @@
--- What the parts of the engine that carries out scripts answer.
+-- What the parts of the engine that carries out scripts return.
 use Rattle.std.proofs.Common.{◌≡◌, ℕ, ◌≤◌, ⊎_elim, false, Option, Some, None, Result, Err, IfErr, List, length, refl, sym, ap, ◌∙◌, subst}
 use Rattle.std.specs.Prelude.{option_map}
 use Rattle.std.specs.Option.{option_or}
@@ -12,7 +12,7 @@ use Rattle.aec_engine.proofs.OutputLemmas.{taking, gave_whole, none_refused, int
 
 -- ---- the script
 
--- the script of bytes that were taken whole is refused for its first bad line alone
+-- a script whose bytes were taken whole is refused only for its first bad line
 refusal-whole : (limit : ℕ) (bytes : List ℕ) → length bytes ≤ limit
     → script_refusal limit (input_of bytes false) ≡ option_map (λ n. Script n) (listing_of bytes).bad
 refusal-whole limit bytes within =
@@ -30,7 +30,7 @@ gave_script before after failures limit most bytes text limited same taken known
       read_is = refl;
     })
 
--- in the form in which the code has the facts
+-- no script was read: its source was not read whole, or it has a bad line
 pub refuses_intake : {X : Type 0} (r : Result X Fault) (fault f : Fault) (before after : Option (List ℕ)) (failures limit most : ℕ) → r ≡ Err fault → fault ≡ f
     → limit ≡ most → RefusesIntake before after failures limit f → IfErr r (λ e. RefusesScript (taking before after failures) most e)
 refuses_intake {X} r fault f before after failures limit most is same limited refuses =

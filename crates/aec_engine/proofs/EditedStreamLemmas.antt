@@ -82,7 +82,7 @@ refused_for_memory {X} back one leave s limit edits done after bits count r faul
     let P : Result X Fault → Type 0 = λ r. IfErr r (λ e. e ≡ Memory) in
     subst P (sym is) (same ∙ decoding_lacks_memory back one leave s limit edits done after bits count other w refuses)
 
--- what was decoded is the reading of the bytes with its own count
+-- the decoded samples are the reading of the bytes with their own number as the count
 pub read_as_counted : StreamsAreReadBack → AllBitsAreReadInOneWay → RunsLeaveSamples
     → (s : Settings) (limit : ℕ) (edits : List Edit) (done : List Outcome) (after : ℕ) (bits : List Bool) (count : ℕ) (stream : List ℕ) (samples : List ℤ)
     → IsWritten s limit edits done after bits count → stream ≡ bytes_of (stream_of s (all_left [] edits done))

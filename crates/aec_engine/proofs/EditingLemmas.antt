@@ -45,7 +45,7 @@ edits_left-all f limit calls after s (e ∷ edits) (Done coded ∷ done) (n ∷ 
     ∙ (ap (λ k. edits_left f limit k (samples_after s e) edits lines) (sym then)
     ∙ edits_left-all f limit answers.0 after (samples_after s e) edits done lines made answers.2 (omega (arith, enough)))
 
--- what stops edits behind one that is made stops all
+-- what stops the edits after an edit that is made stops all edits
 stops-behind : (f : Format) (limit calls between : ℕ) (s : List ℤ) (e : Edit) (n : ℕ) (edits : List Edit) (lines : List ℕ) (why : EditFault)
     → due_refusal f limit s calls e ≡ None → between ≡ calls + needed_calls f.most (length s) e
     → StopsEditing f limit between (samples_after s e) edits lines why → StopsEditing f limit calls s (e ∷ edits) (n ∷ lines) why
@@ -72,7 +72,7 @@ next_stops f limit calls after s e n fault edits lines refused = by_refusal (due
         subst (λ fault. StopsEditing f limit calls s (e ∷ edits) (n ∷ lines) (Line n fault)) (sym lacks.fault_is)
         (steps.lacks_memory n (is, inl (refl, lacks.some)))
 
--- one that is refused behind others that were made
+-- an edit that is refused after others that were made
 stops-after : (f : Format) (limit calls after : ℕ) (s : List ℤ) (before : List Edit) (e : Edit) (behind : List Edit) (done : List Outcome)
     (fault : Fault) (lines : List ℕ) (n : ℕ) → AreDone done → AnswersAll f limit s calls (before ++ (e ∷ [])) (done ++ (Refused fault ∷ [])) after
     → length before < length lines → n ≡ slice_index lines (length before)
@@ -92,7 +92,7 @@ stops-after f limit calls after s (d ∷ before) e behind (Done coded ∷ done) 
     stops-behind f limit calls answers.0 s d m (before ++ (e ∷ behind)) lines (Line n fault) here.fits then
     (stops-after f limit answers.0 after (samples_after s d) before e behind done fault lines n made answers.2 (omega (arith, inside)) line)
 
--- ---- in the form in which the code has the facts
+-- ---- the same, stated by the code's variables
 
 pub carried-all : (f : Format) (limit calls reads after reads_after : ℕ) (s left : List ℤ) (given edits : List Edit) (lines : List ℕ)
     (r : Result (Unit {0}) Stop) (u : Unit {0}) → r ≡ Ok u → given ≡ edits → StopsAtRefusal f limit s calls reads given r left after reads_after
@@ -124,7 +124,7 @@ carried-stops f limit calls reads after reads_after s left given edits lines r s
     inside : length before < length lines
     inside = omega (arith, ap length split, ap length same, length-append before (e ∷ behind), enough)
 
--- the edit that is refused stands among those that were given
+-- the refused edit is one of the given edits
 pub stop-within : (f : Format) (limit calls reads after reads_after : ℕ) (s left : List ℤ) (given : List Edit) (r : Result (Unit {0}) Stop) (stop : Stop)
     → r ≡ Err stop → StopsAtRefusal f limit s calls reads given r left after reads_after → stop.place < length given
 stop-within f limit calls reads after reads_after s left given r stop is (all_made done l last reads_last made run) = absurd (cc)

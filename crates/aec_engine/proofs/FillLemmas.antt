@@ -1,4 +1,5 @@
--- The second reading into a buffer: the bytes of a range of samples put one part behind the other.
+-- The second reading into a buffer: the bytes of a range of samples are put there, one part after
+-- the other.
 use Rattle.std.proofs.Common.{◌≡◌, ℕ, ◌+◌, ◌-◌, ◌*◌, ◌%◌, ◌≤◌, true, false, Some, Ok, ℤ, List, [], ◌∷◌, ◌++◌, length, take, drop, refl, sym, ap, ap₂, ◌∙◌, subst, arith, append-nil, append_assoc, ◌⊎◌}
 use Rattle.std.proofs.KnownBytes.{Appends-nil}
 use Rattle.std.proofs.lemmas.Bool.{cond_both}
@@ -18,7 +19,7 @@ use Rattle.aec_engine.specs.Delivering.{PutsPart}
 use Rattle.aec_engine.proofs.ReadTwiceLemmas.{place_from, settings-same, same_next}
 use Rattle.aec_engine.proofs.PutRangeLemmas.{PutsSoFar, samples_from-append, puts_rest}
 
--- ---- how many bytes samples are
+-- ---- how many bytes samples have
 
 length-stored_bytes : (s : Settings) (x : ℤ) → length (stored_bytes s x) ≡ storage_len s
 length-stored_bytes s x =
@@ -30,7 +31,7 @@ pub length-all_stored : (s : Settings) (xs : List ℤ) → length (all_stored s 
 length-all_stored s [] = omega arith
 length-all_stored s (x ∷ xs) = omega (arith, length-append (stored_bytes s x) (all_stored s xs), length-stored_bytes s x, length-all_stored s xs)
 
--- ---- bytes put behind others
+-- ---- bytes put after others
 
 pub puts_behind : (s : Settings) (at end : ℕ) (before after : List ℕ) (part : List ℤ) → at ≤ length before
     → after ≡ take at before ++ (all_stored s part ++ drop (at + storage_len s * length part) before) → end ≡ at + storage_len s * length part
@@ -58,13 +59,13 @@ length-behind s at before after part within is =
       length-all_stored s part,
     )
 
--- of nothing that was put
+-- at first nothing is put
 pub taken_none : (now : List ℕ) → take 0 now ≡ []
 taken_none now = nil_from_length (take 0 now) (length-take 0 now ∙ omega arith)
 
 -- ---- what was put so far, and what is to come
 
--- bits are read as samples whose range has so many bytes
+-- bits are read as samples whose range has `size` bytes
 abbrev pub HasSize : Place → Settings → ℕ → ℕ → ℕ → Type 0
 HasSize start s first len size = (xs : List ℤ) × AreSamplesOf start xs × (size ≡ storage_len s * length (samples_from first len xs))
 

@@ -22,7 +22,7 @@ use Rattle.aec_engine.proofs.AnswerLemmas.{only-not_coded, only-not_taken}
 
 -- ---- coding
 
--- samples that are refused stay so, whatever follows them
+-- the refusal of samples stays the same, whatever follows them
 judged-front : (s : Settings) (limit : ℕ) (front rest : List ℕ) (fault : Fault) → IsAllowed s → judged_samples limit (samples_of_bytes s front) ≡ Some fault
     → judged_samples limit (samples_of_bytes s (front ++ rest)) ≡ Some fault
 judged-front s limit front rest fault allowed is =
@@ -58,7 +58,7 @@ refused_whole : (limit : ℕ) (bytes : List ℕ) (failed : Bool) → limit < len
 refused_whole limit bytes failed past =
     ap (λ t. if t then Some (StreamTooLong limit) else (if failed then Some Read else None)) (lt-ltb limit (length bytes) past)
 
--- answers that begin with the refusal of the intake
+-- if the refusal of the intake is the only answer, a front that is longer than the limit is enough
 pub judged_by_intake : {A E : Type 0} (named : Fault → E) (answers : Input → Result A E → Type 0) (limit : ℕ) (front rest : List ℕ) → limit < length front
     → ((input : Input) (fault : Fault) (answer : Result A E) → intake_refusal limit input ≡ Some fault
     → answers input answer ↔ (answer ≡ Err (named fault)))
@@ -126,7 +126,7 @@ judged_whole answers enough fronts source input bytes answer before sound gave a
     by_after None taken whole = absurd taken
     by_after (Some rest) taken whole = by_test (enough input.bytes) rest refl taken whole
 
--- of bytes that are enough where they are past a limit
+-- what a source gave is enough, if a front that is longer than the limit is enough
 pub judged_by_limit : {A E : Type 0} (answers : Input → Result A E → Type 0) (limit : ℕ)
     → ((front rest : List ℕ) → limit < length front → IsJudgedByFront answers front rest) → IsJudgedWhole answers (are_past limit)
 judged_by_limit answers limit fronts = judged_whole answers (are_past limit) (λ front rest e. fronts front rest (ltb-true limit (length front) e))

@@ -1,4 +1,4 @@
--- What the engines leave where source and sink are bytes in memory.
+-- What the engines leave if source and sink are bytes in memory.
 use Rattle.std.proofs.Common.{◌≡◌, ℕ, ◌≤◌, Bool, true, false, nat_lt, if◌then◌else◌, Option, Some, None, Result, Ok, Err, List, [], length, refl, sym, ap, ◌∙◌, ◌⊎◌, inl, inr, subst}
 use Rattle.std.specs.Prelude.{IfOk, IfErr}
 use Rattle.std.specs.Io.KnownBytes.{Appends}
@@ -19,7 +19,7 @@ use Rattle.aec_engine.proofs.FrontLemmas.{decoding-whole}
 
 -- ---- any engine
 
--- what a sink holds that held nothing
+-- the bytes in a sink that was empty are the answer
 pub answered_ok : (answers : Input → Result (List ℕ) Fault → Type 0) (enough : List ℕ → Bool) (source : Taking) (sink : Putting) (bytes held : List ℕ)
     (r : Result (Unit {0}) Fault)
     → IsJudgedWhole answers enough → source.before ≡ Some bytes → source.failures ≡ 0 → sink.before ≡ Some [] → sink.after ≡ Some held
@@ -43,7 +43,7 @@ answered_err answers enough source sink bytes r fault whole before sound (no_ans
 answered_err answers enough source sink bytes r fault whole before sound (not_written input out gave answered front counts fails) is =
     let same : fault ≡ Write = cc in inr (inl same)
 
--- a failed write is want of memory
+-- a refusal is `Memory` or one of P, if a write that fails is returned as `Memory`
 pub as_refusal : (P : Fault → Type 0) (fault f : Fault) → (fault ≡ Write → f ≡ Memory) → (f ≡ fault) ⊎ (f ≡ Memory)
     → (fault ≡ Memory) ⊎ ((fault ≡ Write) ⊎ P fault) → (f ≡ Memory) ⊎ P f
 as_refusal P fault f memory (inr lacks) why = inl lacks
@@ -83,7 +83,7 @@ code_refusal s caps bytes answer fault is (not_coded f why) =
     let same : f ≡ fault = cc in only_refusal (bytes_refusal s caps.samples bytes) fault (why ∙ ap Some same)
 code_refusal s caps bytes answer fault is (encoded samples sound read) = absurd (cc)
 
--- bytes that were made of a code
+-- if the answer is bytes, a result with these bytes is the code of the samples
 pub code_ok_bytes : {X : Type 0} (s : Settings) (caps : Caps) (bytes coded : List ℕ) (view : X → List ℕ) (r : Result X Fault)
     → OrMemory (IsEncoded s caps (input_of bytes false)) (Ok coded) → IfOk r (λ x. view x ≡ coded) → IfOk r (λ x. IsCodeOf s caps.samples bytes (view x))
 code_ok_bytes s caps bytes coded view r (inl lacks) made = absurd (cc)
@@ -96,7 +96,7 @@ code_err : (s : Settings) (caps : Caps) (bytes : List ℕ) (fault : Fault) → O
 code_err s caps bytes fault (inl lacks) = let same : fault ≡ Memory = cc in inl same
 code_err s caps bytes fault (inr answered) = inr (code_refusal s caps bytes (Err fault) fault refl answered)
 
--- a refusal that is handed on
+-- a refusal that is passed on
 pub code_err_out : {X : Type 0} (s : Settings) (caps : Caps) (bytes : List ℕ) (r : Result X Fault) (out fault : Fault) → r ≡ Err out → out ≡ fault
     → OrMemory (IsEncoded s caps (input_of bytes false)) (Err fault) → IfErr r (λ fault. (fault ≡ Memory) ⊎ (bytes_refusal s caps.samples bytes ≡ Some fault))
 code_err_out {X} s caps bytes r out fault is same answered =

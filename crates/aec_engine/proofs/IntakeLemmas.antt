@@ -39,7 +39,7 @@ takes_more before mid after failures later bits new piece so_far taken sound app
   sound = λ some. sound;
 }
 
--- the source failed behind them
+-- the source failed after these bytes, which are within the limit
 pub gave_failed : (before mid after : Option (List ℕ)) (failures later limit n : ℕ) (bits : List Bool) → TakesBits before mid failures bits → Keeps mid after
     → later ≡ 1 → n ≡ div_ceil (length bits) 8 → n ≤ limit → GaveBits (record { before = before; after = after; failures = later }) limit bits true
 gave_failed before mid after failures later limit n bits so_far kept failed is within =
@@ -57,7 +57,7 @@ gave_failed before mid after failures later limit n bits so_far kept failed is w
       within = λ e. few;
     }
 
--- they pass the limit
+-- the bytes exceed the limit
 pub gave_past : (before after : Option (List ℕ)) (failures limit n : ℕ) (bits : List Bool) → TakesBits before after failures bits
     → n ≡ div_ceil (length bits) 8 → limit < n → GaveBits (record { before = before; after = after; failures = failures }) limit bits false
 gave_past before after failures limit n bits so_far is past =
@@ -74,13 +74,13 @@ gave_past before after failures limit n bits so_far is past =
       within = λ e. absurd (cc);
     }
 
--- one piece more gets nearer to the limit
+-- one more piece leaves fewer bytes up to the limit
 pub nearer : (bits new : List Bool) (piece : List ℕ) (limit n : ℕ) → new ≡ bits ++ bits_of_bytes piece → 0 < length piece
     → n ≡ div_ceil (length bits) 8 → n ≤ limit → limit + 1 - div_ceil (length new) 8 < limit + 1 - div_ceil (length bits) 8
 nearer bits new piece limit n appended some is within =
     omega (arith, ap length appended, length-append bits (bits_of_bytes piece), length-bits_of_bytes piece, some, is, within)
 
--- a source that did not fail behind bytes within the limit
+-- if a source didn't fail, and its bytes are within the limit, it was taken whole
 pub gave_whole_bits : (before after : Option (List ℕ)) (failures limit n : ℕ) (bits : List Bool) (failed : Bool)
     → GaveBits (record { before = before; after = after; failures = failures }) limit bits failed → failed ≡ false
     → n ≡ div_ceil (length bits) 8 → n ≤ limit → GaveWhole before after failures limit bits

@@ -1,4 +1,4 @@
--- How many samples bytes hold, and which of them are refused.
+-- Bytes with too many samples are refused.
 use Rattle.std.proofs.Common.{◌≡◌, ℕ, ◌/◌, ◌<◌, true, if◌then◌else◌, Some, None, Result, Ok, Err, ℤ, List, length, refl, sym, ap, subst}
 use Rattle.std.specs.Prelude.{is_some}
 use Rattle.std.proofs.lemmas.Bool.{lt-ltb}

@@ -1,4 +1,4 @@
--- The front of a stream whose bytes are kept, and the rest of it that is put behind them.
+-- The front of a stream, whose bytes are kept, and the rest of it, which is put after them.
 use Rattle.std.proofs.Common.{◌≡◌, ℕ, ◌+◌, ◌*◌, ◌-◌, ◌%◌, ◌<◌, ◌≤◌, ◌^◌, max, Bool, true, false, Option, None, Some, Result, Ok, ℤ, List, [], ◌++◌, length, take, drop, refl, sym, ap, ap₂, ◌∙◌, subst, arith, ⊎_elim}
 use Rattle.std.specs.List.{AllByRecursion}
 use Rattle.std.specs.Int.{div_ceil}
@@ -69,7 +69,7 @@ module _ (start q : Place) (s : Settings) (more : Bool) (ys : List ℤ) (a : IsA
   allowed : IsAllowed start.settings
   allowed = subst IsAllowed (sym settings) a
 
-  -- the bytes of the samples that come at once
+  -- the bytes of the samples that are read first are kept
   pub first_kept : (n : ℕ) → start.block ≡ 0 → start.bit ≡ 0 → q.block < 2 ^ 34 → (is_wanted_at q ≡ true → q.block % q.settings.interval ≡ 0)
       → n ≡ length ys → KeepsFront q s n (all_stored s ys)
   first_kept n block bit few begins counts =
@@ -83,19 +83,19 @@ module _ (start q : Place) (s : Settings) (more : Bool) (ys : List ℤ) (a : IsA
       (keeps_none start s (all_stored s ys) block bit (ap (all_stored s) none))))
       (cases_Bool more)
 
-  -- they are samples of the settings
+  -- the samples that are read first are samples of the settings
   pub first_held : AllByRecursion (IsHeld s) ys
   first_held =
       ⊎_elim (λ (h : more ≡ true). subst (λ s. AllByRecursion (IsHeld s) ys) settings (piece_is_held start q ys (read h).piece))
       (λ (h : more ≡ false). subst (AllByRecursion (IsHeld s)) (sym (empty h)) tt) (cases_Bool more)
 
-  -- and the reader goes on under the same terms
+  -- the reader then is at a place of the same reading
   pub first_same : q ≡ place_from start q.block q.bit
   first_same =
       ⊎_elim (λ (h : more ≡ true). (read h).piece.same)
       (λ (h : more ≡ false). subst (λ (p : Place). p ≡ place_from start p.block p.bit) (sym (done h)) refl) (cases_Bool more)
 
--- all that are asked for were read
+-- the samples that are read first are all that the count asks for
 pub first_are_all : (s : Settings) (count : Option ℕ) (limit : ℕ) (bits : List Bool) (q : Place) (n : ℕ) (bytes : List ℕ) → IsAllowed s
     → q ≡ place_at s count limit bits q.block q.bit → None ≡ count_refusal limit count → KeepsFront q s n bytes → count ≡ Some n
     → DecodesBits s count limit bits (Ok bytes)
@@ -126,22 +126,22 @@ first_are_all s count limit bits q n bytes a same none keeps is =
 
 -- ---- how many bytes are kept
 
--- none are few
+-- 0 kept bytes are few (`AreFewKept`)
 pub few_none : (kept interval bits : ℕ) → kept ≡ 0 → AreFewKept kept interval bits
 few_none kept interval bits none past = absurd (omega (arith, none, past))
 
--- what fits into room for few bytes is few
+-- bytes that fit in room for few bytes are few
 pub few_within : (kept room interval bits : ℕ) → kept ≤ room → AreFewKept room interval bits → AreFewKept kept interval bits
 few_within kept room interval bits within few past =
     let room_few = few (omega (arith, past, within)) in
     (omega (arith, within, room_few.0), omega (arith, within, room_few.1))
 
--- a reader is within the bits that it began on
+-- a reader is within the bits that it began with
 pub bit-within : (start p : Place) → p ≡ place_from start p.block p.bit → IsPlace p → p.bit ≤ length start.bits
 bit-within start p same is =
     place-within start.settings start.count start.limit start.bits p.block p.bit (subst IsPlace same is)
 
--- room for few bytes is room for few once more is made
+-- room for few bytes is still room for few bytes after more room was made
 pub few_then : (start p : Place) (room made len interval most : ℕ) → p ≡ place_from start p.block p.bit → IsPlace p → most ≤ p.bit → len ≡ interval
     → ((bits : ℕ) → AreFewKept room (4 * len) bits → most ≤ bits → AreFewKept made (4 * len) bits) → AreFewKept room (4 * interval) (length start.bits)
     → AreFewKept made (4 * interval) (length start.bits)
@@ -150,7 +150,7 @@ few_then start p room made len interval most same there at_most is asks few =
     (asks (length start.bits) (subst (λ n. AreFewKept room (4 * n) (length start.bits)) (sym is) few)
     (omega (arith, at_most, bit-within start p same there)))
 
--- and so are they with the bytes of some samples more, for which there is room
+-- kept bytes and the bytes of more samples are few, if both fit in room for few bytes
 pub few_more : (start p : Place) (s : Settings) (len most room there count kept bits : ℕ) → p ≡ place_from start p.block p.bit → start.settings ≡ s
     → len ≡ interval_len s → count ≤ max most (interval_len p.settings) → 4 * most ≤ room - there → there + 4 * len ≤ room → kept ≤ there + 4 * count
     → AreFewKept room (4 * interval_len s) bits → AreFewKept kept (4 * interval_len s) bits
@@ -160,7 +160,7 @@ few_more start p s len most room there count kept bits same is counted few withi
 
 -- ---- kept bytes and those of the rest
 
--- the samples behind a front are the rest
+-- the samples after a front are the rest
 samples_from-rest : (before total : ℕ) (xs ys : List ℤ) → length xs ≡ before → length (xs ++ ys) ≡ total → samples_from before (total - before) (xs ++ ys) ≡ ys
 samples_from-rest before total xs ys counted all =
     let len : total - before - (length xs - before) ≡ length ys = omega (arith, counted, all, length-append xs ys) in
@@ -181,7 +181,7 @@ kept_and_rest p s before total bytes xs a keeps reading counted =
 
 -- ---- answers
 
--- a refusal behind what was kept
+-- a refusal after the kept samples
 pub refuses_behind : (s : Settings) (count : Option ℕ) (limit : ℕ) (bits : List Bool) (start p : Place) (fault : Fault)
     → start ≡ place_at s count limit bits 0 0 → p ≡ place_from start p.block p.bit → None ≡ count_refusal limit count
     → RefusesReading p.settings p.count p.limit p.bits 0 0 fault → RefusesDecoding s count limit bits fault
@@ -189,7 +189,7 @@ refuses_behind s count limit bits start p fault is same none refuses =
     refuses_reading s count limit bits start fault is none
     (subst (λ (p : Place). RefusesReading p.settings p.count p.limit p.bits 0 0 fault) same refuses)
 
--- all is written once the kept bytes are, and behind them those of the rest
+-- the kept bytes and then those of the rest are the whole answer
 pub settles_kept : (s : Settings) (count : Option ℕ) (limit : ℕ) (bits : List Bool) (start p q : Place) (before total left : ℕ) (bytes : List ℕ)
     (sink : Putting) (r : Result (Unit {0}) Fault) → IsAllowed s → start ≡ place_at s count limit bits 0 0 → None ≡ count_refusal limit count
     → p ≡ place_from start p.block p.bit → q ≡ place_from p q.block q.bit → KeepsFront p s before bytes → HaveSamples p total → left ≡ total - before

@@ -1,4 +1,4 @@
--- What is left in a buffer that takes kept bytes and those of the rest.
+-- What a buffer contains after the kept bytes and the bytes of the rest were put into it.
 use Rattle.std.proofs.Common.{◌≡◌, ℕ, ◌+◌, ◌*◌, ◌-◌, ◌<◌, ◌≤◌, Bool, None, Some, Option, Result, Ok, Err, ℤ, List, [], ◌++◌, length, take, drop, append-nil, append_assoc, refl, sym, ap, ap₂, ◌∙◌, subst, arith}
 use Rattle.std.specs.Prelude.{nat_le, IfOk, IfErr}
 use Rattle.std.proofs.lemmas.Bool.{cond-true, cond-false, le-leb, lt-leb}
@@ -42,9 +42,9 @@ pub given_none : {X : Type 0} (r : Result X Fault) (coded : List ℕ) (limit : �
 given_none (Ok x) coded limit is = is
 given_none (Err fault) coded limit is = subst (RefusesIntake (Some coded) (Some []) 0 limit) (sym is.0) no_memory
 
--- ---- two parts put one behind the other
+-- ---- two parts, one after the other
 
--- the one answer is these bytes
+-- the only answer is these bytes
 abbrev pub IsOnly : List ℕ → Result (List ℕ) Fault → Type 0
 IsOnly bytes answer = answer ≡ Ok bytes
 
@@ -76,11 +76,11 @@ module _ (p : Place) (s : Settings) (kept left size : ℕ) (bytes before : List 
   both_len : length (bytes ++ rest) ≡ size
   both_len = omega (arith, length-append bytes rest, is, size_of p s kept left (left * storage_len s) xs a range told refl)
 
-  -- too long for the buffer
+  -- both parts are too long for the buffer
   pub kept_not : length before < size → FillsOne (IsOnly (bytes ++ rest)) before before (Ok size)
   kept_not long = only_not (bytes ++ rest) before size both_len long
 
-  -- put to the front of it
+  -- both parts are put at the front of the buffer
   pub kept_front : (mid after : List ℕ) (k : ℕ) → size ≤ length before → mid ≡ bytes ++ drop (length bytes) before → k ≡ size - length bytes
       → after ≡ take (length bytes) mid ++ (rest ++ drop k (drop (length bytes) mid)) → FillsOne (IsOnly (bytes ++ rest)) before after (Ok size)
   kept_front mid after k short first many second =
@@ -93,9 +93,9 @@ module _ (p : Place) (s : Settings) (kept left size : ℕ) (bytes before : List 
       behind = drop-drop k (length bytes) mid ∙ ap (λ n. drop n mid) (omega (arith, many, is)) ∙ ap (drop size) first
           ∙ drop-append-drop (length bytes) before bytes size (omega (arith, is)) refl
 
--- ---- what it is the answer to
+-- ---- the answer of decoding
 
--- so many samples there are from the first bit on, too
+-- a reader at the start of the same bits has the same number of samples
 pub have_from : (start p : Place) (total : ℕ) → p ≡ place_from start p.block p.bit → HaveSamples p total → HaveSamples start total
 have_from start p total same have = record {
   samples = have.samples;
@@ -103,7 +103,7 @@ have_from start p total same have = record {
   counted = have.counted;
 }
 
--- the rest behind the first ones
+-- the range of all samples after the first `kept`
 pub rest_range : (start p : Place) (kept left total : ℕ) → p ≡ place_from start p.block p.bit → HaveSamples start total → left ≡ total - kept
     → HasRange p kept left
 rest_range start p kept left total same have is =
@@ -114,7 +114,7 @@ pub refused_there : (start p : Place) (fault : Fault) → p ≡ place_from start
     → RefusesReading start.settings start.count start.limit start.bits 0 0 fault
 refused_there start p fault same refuses = subst (λ (p : Place). RefusesReading p.settings p.count p.limit p.bits 0 0 fault) same refuses
 
--- a refusal under the same terms
+-- a refusal to read the bits is a refusal to decode them
 pub refused_under : (s : Settings) (p : Place) (fault : Fault) → p.settings ≡ s → None ≡ count_refusal p.limit p.count
     → RefusesReading p.settings p.count p.limit p.bits 0 0 fault → DecodesBits s p.count p.limit p.bits (Err fault)
 refused_under s p fault settings none refuses =

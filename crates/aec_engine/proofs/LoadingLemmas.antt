@@ -1,5 +1,5 @@
--- Samples of coded bits that are appended to a workspace by whole intervals, with edits made
--- meanwhile.
+-- Samples of coded bits are appended to a workspace in whole intervals, and edits are made in
+-- between.
 use Rattle.std.proofs.Common.{◌≡◌, ◌⊎◌, inl, inr, ℕ, ◌+◌, ◌-◌, ◌*◌, ◌/◌, ◌%◌, ◌^◌, ◌<◌, ◌≤◌, Bool, true, false, if◌then◌else◌, IsTrue, Option, Some, None, Result, Ok, Err, IfErr, ℤ, List, [], ◌∷◌, ◌++◌, length, refl, sym, ap, ap₂, ◌∙◌, subst, arith, append_assoc}
 use Rattle.std.specs.Prelude.{MatchOption, nat_lt, ◌&&◌}
 use Rattle.std.specs.List.{AllByRecursion, list_all}
@@ -39,7 +39,7 @@ use Rattle.aec_engine.proofs.EarlyEditLemmas.{leads-nowhere, leads-on, leads-sto
 use Rattle.aec_engine.proofs.ReadTwiceLemmas.{place_from, settings-same, same_next}
 use Rattle.aec_engine.proofs.ReadingOnLemmas.{same_reading}
 
--- samples that are held are so for the codec too
+-- samples that the settings hold are held by the codec's format
 pub held-format : (s : Settings) (v : List ℤ) → AllByRecursion (IsHeld s) v → AreHeld (interval_format s) v
 held-format s [] held = refl
 held-format s (x ∷ v) held = by_test (is_held s x) held.0 (held-format s v held.1)
@@ -72,8 +72,8 @@ read-within s limit bits None samples allowed within reading =
 
 -- ---- from interval to interval
 
--- The samples up to a place were appended, and edits made meanwhile: the front is what was read,
--- and `made` is how often these edits called the coder.
+-- The samples up to a place were appended, and edits were made in between: `front` is what was
+-- read, and `made` is how often these edits called the coder.
 pub record LoadsSoFar (start p : Place) (f : Format) (limit : ℕ) (script ahead : Listing) (w : List ℤ) (called : ℕ) : Type 0 where
   pub front : List ℤ
   pub made : ℕ
@@ -113,7 +113,7 @@ whole n k len is = ap (λ m. m % n) zero_more ∙ mul-mod_left k n
     zero_more : 0 + len ≡ k * n
     zero_more = omega (arith, is)
 
--- the samples of one more interval, and more edits
+-- the samples of more intervals were appended, and more edits made
 pub loads_more : (start p q : Place) (f g h : Format) (limit most more : ℕ) (script ahead last : Listing)
     (w ys zs mid left : List ℤ) (called coded between after : ℕ) → IsAllowed start.settings → g ≡ f → h ≡ f → more ≡ limit
     → f ≡ interval_format start.settings → LoadsSoFar start p f limit script ahead w called → ReadsOn p ys q → q.block < 2 ^ 34
@@ -199,7 +199,7 @@ loads_all start p f limit script ahead w called a some counted low so_far done x
     few : length xs ≤ start.limit
     few = read-within start.settings start.limit start.bits start.count xs a counted given.reading
 
--- an edit was refused before all samples were there
+-- an edit was refused before all samples were appended
 pub loads_stops : (start p q : Place) (f g h : Format) (limit more : ℕ) (script ahead : Listing) (w ys zs mid xs : List ℤ)
     (called : ℕ) (fault : EditFault) → IsAllowed start.settings → g ≡ f → h ≡ f → more ≡ limit → 0 < f.most
     → count_refusal start.limit start.count ≡ None → start.limit ≤ 2 ^ 32
@@ -237,13 +237,13 @@ loads_stops start p q f g h limit more script ahead w ys zs mid xs called fault 
 
 -- ---- refusals
 
--- a second reading can only lack memory
+-- a second reading is refused only with `Memory`
 pub loads_memory : (start p : Place) (f : Format) (limit : ℕ) (script ahead : Listing) (w xs : List ℤ) (called : ℕ) (fault : Fault)
     → LoadsSoFar start p f limit script ahead w called → AreSamplesOf start xs → LacksMemoryAlone p fault → fault ≡ Memory
 loads_memory start p f limit script ahead w xs called fault so_far given alone =
     alone so_far.front xs so_far.read (record { reading = same_reading start p xs so_far.same given })
 
--- and so can an append of held samples within the limit
+-- if calls are left, an append of held samples within the limit is refused only with `Memory`
 append_memory : (f : Format) (limit : ℕ) (s ys : List ℤ) (calls after : ℕ) (fault : Fault) → 0 < f.most → AreHeld f ys → length s + length ys ≤ limit
     → calls + length ys ≤ 2 ^ 64 - 1 → IsRefused f limit s calls (Append ys) fault after → fault ≡ Memory
 append_memory f limit s ys calls after fault some held few room refused =
@@ -293,13 +293,13 @@ append_lacks start p q f g limit most script ahead w ys zs xs called after fault
     held = subst (λ zs. AreHeld g zs) (sym same) (subst (λ f. AreHeld f ys) (sym (format ∙ is)) (held-format start.settings ys
         (subst (λ s. AllByRecursion (IsHeld s) ys) settings step.held)))
 
--- ---- in the form in which the code has the facts
+-- ---- the same, stated by the code's variables
 
 pub stops_err : {X : Type 0} (r : Result X EditFault) (e : EditFault) (f : Format) (limit : ℕ) (script : Listing) (start : Place)
     → r ≡ Err e → StopsLoading f limit script start e → IfErr r (λ fault. StopsLoading f limit script start fault)
 stops_err r e f limit script start is stops = subst (λ r. IfErr r (λ fault. StopsLoading f limit script start fault)) (sym is) stops
 
--- an edit that was to be made meanwhile was refused, or there was no memory to read it
+-- an edit in between was refused, or there was no memory to read it
 pub early_err : {X : Type 0} (r : Result X EditFault) (e fault : EditFault) (f : Format) (limit : ℕ) (script : Listing) (start : Place) (Stops : Type 0)
     → r ≡ Err e → e ≡ fault → (fault ≡ Plain Memory) ⊎ Stops
     → (Stops → (xs : List ℤ) → AreSamplesOf start xs → StopsEditing f limit (first_calls f xs) xs script.edits script.lines fault)
@@ -311,14 +311,14 @@ early_err r e fault f limit script start Stops is same (inr refused) stops =
 pub refuses_err : {X : Type 0} (r : Result X Fault) (fault : Fault) (P : Fault → Type 0) → r ≡ Err fault → P fault → IfErr r P
 refuses_err r fault P is holds = subst (λ r. IfErr r P) (sym is) holds
 
--- ---- what comes of edits on samples
+-- ---- results of edits on samples
 
 pub no_room_err : {X : Type 0} (view : X → Recoded) (r : Result X EditFault) (e : EditFault) (f : Fault) (s : Settings) (limit : ℕ) (start : Place)
     (script : Listing) → r ≡ Err e → e ≡ Plain f → f ≡ Memory → EditsSamples s limit start script (answer_by view r)
 no_room_err view r e f s limit start script is same memory =
     subst (λ r. EditsSamples s limit start script (answer_by view r)) (sym (is ∙ ap Err (same ∙ ap Plain memory))) no_room
 
--- an edit was refused while samples were taken over
+-- not all samples were appended: an edit was refused, or there was no memory
 pub loading_err : {X : Type 0} (view : X → Recoded) (r : Result X EditFault) (e fault : EditFault) (s : Settings) (f : Format) (limit most : ℕ) (start : Place)
     (given script : Listing) → r ≡ Err e → e ≡ fault → f ≡ interval_format s → most ≡ limit → given ≡ script → StopsLoading f most given start fault
     → EditsSamples s limit start script (answer_by view r)
@@ -332,7 +332,7 @@ loading_err view r e fault s f limit most start given script is same format limi
     by_why (inl memory) = subst (λ fault. EditsSamples s limit start script (Err fault)) (sym memory) no_room
     by_why (inr refused) = early.stops fault refused
 
--- all were taken over
+-- all samples were appended
 same_loads : (s : Settings) (f : Format) (limit most : ℕ) (start : Place) (given script ahead : Listing) (left : List ℤ) (calls : ℕ)
     → f ≡ interval_format s → most ≡ limit → given ≡ script → LoadsAll f most given start ahead left calls
     → LoadsAll (interval_format s) limit script start ahead left calls
@@ -341,7 +341,7 @@ same_loads s f limit most start given script ahead left calls format limited rea
     (subst (λ limit. LoadsAll (interval_format s) limit given start ahead left calls) limited
     (subst (λ f. LoadsAll f most given start ahead left calls) format loads))
 
--- and then an edit was refused, or there was no memory to read it
+-- after that an edit was refused, or there was no memory to read it
 pub rest_err : {X : Type 0} (view : X → Recoded) (r : Result X EditFault) (e fault : EditFault) (s : Settings) (f g : Format) (limit most more : ℕ)
     (start : Place) (given script ahead : Listing) (left : List ℤ) (calls : ℕ) → r ≡ Err e → e ≡ fault → f ≡ interval_format s → g ≡ f
     → most ≡ limit → more ≡ most → given ≡ script → LoadsAll f most given start ahead left calls
@@ -357,7 +357,7 @@ rest_err view r e fault s f g limit most more start given script ahead left call
         (subst (λ limit. StopsEditing (interval_format s) limit calls left ahead.edits ahead.lines fault) (kept ∙ limited)
         (subst (λ f. StopsEditing f more calls left ahead.edits ahead.lines fault) (still ∙ format) stops)))
 
--- or all edits were made
+-- after that all edits were made
 pub rest_made : (s : Settings) (f g h : Format) (limit most more : ℕ) (start : Place) (given script ahead : Listing) (left last : List ℤ)
     (calls after : ℕ) → f ≡ interval_format s → g ≡ f → h ≡ g → most ≡ limit → more ≡ most → given ≡ script
     → LoadsAll f most given start ahead left calls → edits_left g more calls left ahead.edits ahead.lines ≡ Ok (left_with last after)
@@ -368,7 +368,7 @@ rest_made s f g h limit most more start given script ahead left last calls after
     ∙ subst (λ limit. edits_left (interval_format s) limit calls left ahead.edits ahead.lines ≡ Ok (left_with last after)) (kept ∙ limited)
     (subst (λ f. edits_left f more calls left ahead.edits ahead.lines ≡ Ok (left_with last after)) (still ∙ format) is)))
 
--- ---- what comes of edits on bits
+-- ---- results of edits on bits
 
 pub unread_err : {X : Type 0} (view : X → Recoded) (r : Result X EditFault) (e : EditFault) (f : Fault) (s : Settings) (caps : Caps) (count : Option ℕ)
     (bits : List Bool) (script : Listing) → r ≡ Err e → e ≡ Plain f → RefusesDecoding s count caps.samples bits f

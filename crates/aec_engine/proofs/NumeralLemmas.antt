@@ -26,7 +26,7 @@ all_digits (d ∷ ds) e =
     let parts = split _ _ e in
     (ltb-true _ _ parts.0, all_digits ds parts.1)
 
--- what `parse` gives of a text is the number in it
+-- `parse` returns the number in a text
 pub option_number-read : {E : Type 0} (width : ℕ) (text : Text) (r : Result ℕ E) → ParsesUnsigned width 10 text r → result_ok r ≡ option_number width text
 option_number-read width text (Ok n) h =
     let digits = without_leading_plus text in
@@ -43,7 +43,7 @@ option_number-read width text (Err e) h = by_test (is_numeral digits && nat_lt (
         let inner = split _ _ outer.0 in
         absurd (h ((ltb-true _ _ inner.0, all_digits digits inner.1), ltb-true _ _ outer.1))
 
--- and where no plus stands first, the number in digits alone
+-- if a text doesn't begin with a plus, `parse` returns the number of a text of digits alone
 pub decimal_in-read : {E : Type 0} (width : ℕ) (text : Text) (r : Result ℕ E) → ParsesUnsigned width 10 text r → (slice_index text 0 == 43) ≡ false
     → result_ok r ≡ decimal_in width text
 decimal_in-read width text r parses other = option_number-read width text r parses ∙ by_test other
@@ -58,7 +58,7 @@ pub ruleset digits_alone = (decimal_in-read)
 abbrev is_colon : ℕ → Bool
 is_colon byte = byte == 58
 
--- two numbers, where both are there
+-- two numbers, if there are both
 abbrev pub both : Option ℕ → Option ℕ → Option (ℕ × ℕ)
 both first len = option_and_then (λ i. option_map (λ n. (i, n)) len) first
 
@@ -81,7 +81,7 @@ digits-uncut (d ∷ text) all = by_colon (d == 58) refl (λ digits. digits-uncut
         absurd (cc)
     by_colon false e later = rw (e, later parts.1) refl
 
--- after a first part, the rest is a number where no colon cuts it again
+-- after a first part, the rest is a number only if no colon cuts it again
 numbers_in-rest : (first rest : Text) → numbers_in (first ∷ slice_split is_colon rest) ≡ both (decimal_in 64 first) (decimal_in 64 rest)
 numbers_in-rest first rest = by_digits (is_numeral rest) refl
   where
@@ -101,7 +101,7 @@ numbers_in-rest first rest = by_digits (is_numeral rest) refl
 uncut : (text : Text) → position_or_len is_colon text ≡ length text → slice_split is_colon text ≡ text ∷ []
 uncut text e = slice_split_none is_colon text (λ k d within. fails_before_first is_colon text k d (omega (arith, e, within)))
 
--- where `split_once` stands
+-- where `split_once` cuts a text; nowhere if it has no colon
 abbrev Splits : Text → Option (Bor Text × Bor Text) → Type 0
 Splits text r = MatchOption r (position_or_len is_colon text ≡ length text)
     (λ x. (position_or_len is_colon text < length text) × (x.0.now ≡ before_first is_colon text) × (x.1.now ≡ after_first is_colon text))
@@ -109,11 +109,11 @@ Splits text r = MatchOption r (position_or_len is_colon text ≡ length text)
 splits_first : (text : Text) (r s : Option (Bor Text × Bor Text)) → IsSplitOnceResult 58 text r → r ≡ s → Splits text s
 splits_first text r s splits is = subst (Splits text) is (split_once_first 58 text r splits (omega arith))
 
--- where `split_once` finds no colon, there is no range
+-- if `split_once` finds no colon, there is no range
 pub range_in-uncut : (text : Text) (r : Option (Bor Text × Bor Text)) → IsSplitOnceResult 58 text r → r ≡ None → None ≡ range_in text
 range_in-uncut text r splits is = sym (ap numbers_in (uncut text (splits_first text r None splits is)))
 
--- and else it is the numbers in the two parts
+-- else the range is the numbers in the two parts
 pub range_in-parts : (text : Text) (r : Option (Bor Text × Bor Text)) (first len : Bor Text) (i n : Option ℕ) → IsSplitOnceResult 58 text r
     → r ≡ Some (first, len) → i ≡ decimal_in 64 first.now → n ≡ decimal_in 64 len.now → both i n ≡ range_in text
 range_in-parts text r first len i n splits is i_is n_is =

@@ -22,7 +22,7 @@ use Rattle.aec_engine.specs.Laws.{HasOneAnswer}
 use Rattle.aec_engine.proofs.AnswerLemmas.{decoding_has_one_answer}
 use Rattle.aec_engine.proofs.RangeAnswerLemmas.{one_read, not_both}
 
--- the answer to samples that a script leaves, or to the refusal of one of its edits
+-- the answer for what a script leaves, or for the refusal of one of its edits
 abbrev edit_answer : Settings → Result Left EditFault → Result Recoded EditFault
 edit_answer s (Ok left) = Ok (record { bytes = bytes_of (stream_of s left.samples); calls = left.calls })
 edit_answer s (Err fault) = Err fault

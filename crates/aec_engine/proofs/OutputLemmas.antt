@@ -1,4 +1,4 @@
--- Answers of the engines from what their parts answer.
+-- Answers of the engines, from the results of their parts.
 use Rattle.std.proofs.Common.{◌≡◌, ◌⊎◌, inl, inr, ⊎_elim, ℕ, ◌≤◌, Bool, true, false, if◌then◌else◌, Option, Some, None, Result, Ok, Err, IfErr, ℤ, List, length, refl, sym, ap, subst, arith}
 use Rattle.std.proofs.lemmas.Bool.{lt-ltb, le-ltb, ltb-false}
 use Rattle.std.specs.Io.KnownBytes.{Keeps, Appends}
@@ -36,7 +36,7 @@ gave_whole before after failures limit bytes taken = record {
 pub none_refused : (limit : ℕ) (bytes : List ℕ) → length bytes ≤ limit → intake_refusal limit (sound_input bytes) ≡ None
 none_refused limit bytes within = ap (λ b. if b then Some (StreamTooLong limit) else None) (le-ltb limit (length bytes) within)
 
--- a source that was not read whole: for want of memory, or it gave an input that is refused
+-- a source was not read whole: there was no memory, or it gave an input that is refused
 pub intake_given : (before after : Option (List ℕ)) (failures limit : ℕ) (fault : Fault) → RefusesIntake before after failures limit fault
     → (fault ≡ Memory) ⊎ ((input : Input) × Gave (record { before = before; after = after; failures = failures }) (are_past limit) input
     × (intake_refusal limit input ≡ Some fault))
@@ -89,12 +89,12 @@ read_samples s caps count before after failures bytes samples taken within readi
   read = record { taken = none_refused caps.bytes bytes taken.within; within = within; reading = reading };
 }
 
--- ---- in the form in which the code has the facts
+-- ---- the same, stated by the code's variables
 
 abbrev pub taking : Option (List ℕ) → Option (List ℕ) → ℕ → Taking
 taking before after failures = record { before = before; after = after; failures = failures }
 
--- ---- what is left in the sink
+-- ---- what the sink contains afterwards
 
 pub Keeps-same : (bytes : Option (List ℕ)) → Keeps bytes bytes
 Keeps-same None = tt

@@ -1,4 +1,4 @@
--- The second reading: the bytes of a range of samples put piece by piece.
+-- The second reading: the bytes of a range of samples are put piece by piece.
 use Rattle.std.proofs.Common.{◌≡◌, ℕ, zero, suc, ◌+◌, ◌-◌, ◌%◌, ◌<◌, ◌≤◌, ◌^◌, min, true, false, Option, Some, None, Result, Ok, Err, OnOk, OnErr, ℤ, List, [], ◌∷◌, ◌++◌, length, take, drop, refl, sym, ap, ap₂, ◌∙◌, subst, arith, append-nil, append_assoc, ◌⊎◌, ⊎_elim}
 use Rattle.std.specs.Io.KnownBytes.{Appends, Keeps}
 use Rattle.std.proofs.KnownBytes.{Appends-nil, Appends-trans}
@@ -69,22 +69,22 @@ pub record PutsSoFar (start p : Place) (s : Settings) (first len skip left : ℕ
   pub skip_is : skip ≡ first - length samples
   pub left_is : left ≡ len - (length samples - first)
 
--- a sink that kept its bytes when it was begun
+-- bytes are appended to a sink that kept its bytes when it was begun
 pub begun_then : (before mid after : Option (List ℕ)) (bytes : List ℕ) → Keeps before mid → Appends mid after bytes → Appends before after bytes
 begun_then None mid after bytes kept appended = tt
 begun_then (Some xs) None after bytes kept appended = absurd kept
 begun_then (Some xs) (Some ys) None bytes kept appended = appended
 begun_then (Some xs) (Some ys) (Some zs) bytes kept appended = appended ∙ ap (λ l. l ++ bytes) kept
 
--- or a front of them
+-- the same with a front of the bytes
 pub begun_front : (before mid after : Option (List ℕ)) (bytes : List ℕ) → Keeps before mid → AppendsFront mid after bytes → AppendsFront before after bytes
 begun_front before mid after bytes kept front = (front.0, begun_then before mid after (take front.0 bytes) kept front.1)
 
--- of samples up to a place where the range has not begun
+-- if all samples so far are before the range, none of the range is taken
 pub samples_from-before : (first len : ℕ) (xs : List ℤ) → length xs ≤ first → samples_from first len xs ≡ []
 samples_from-before first len xs few = nil_from_length (samples_from first len xs) (omega (arith, few, samples_from-most first len xs))
 
--- a sink that refuses to begin has a front of nothing
+-- if a sink keeps its bytes, an empty front of any bytes was appended
 pub front_none : (before after : Option (List ℕ)) (bytes : List ℕ) → Keeps before after → AppendsFront before after bytes
 front_none before after bytes kept =
     let none : take 0 bytes ≡ [] = nil_from_length (take 0 bytes) (length-take 0 bytes ∙ omega arith) in
@@ -105,7 +105,7 @@ puts_none start s before_start first len skip before after waiting kept none ski
   left_is = omega (arith, begun.counted, begun.at_most);
 }
 
--- the bytes of a step's part behind those so far
+-- the bytes of a step's part come after those so far
 behind : (s : Settings) (put waiting put_then waiting_then : List ℕ) (first len : ℕ) (xs ys part : List ℤ)
     → put ++ waiting ≡ all_stored s (samples_from first len xs) → put_then ++ waiting_then ≡ waiting ++ all_stored s part
     → part ≡ samples_from (first - length xs) (len - (length xs - first)) ys
@@ -136,7 +136,7 @@ puts_more start p q s first len skip left skip_then left_then before mid after w
       left_is = omega (arith, leaves, so_far.left_is, so_far.skip_is, length-append so_far.samples ys, ap length is, samples_from-most skip left ys);
     }
 
--- ---- the second reading is refused nothing
+-- ---- the second reading is not refused
 
 pub not_refused : (start p : Place) (s : Settings) (first len skip left capacity : ℕ) (before after : Option (List ℕ)) (waiting : List ℕ)
     (fault : Fault) {P : Type 0}
@@ -177,19 +177,19 @@ front_more before mid after put more rest all first front is =
         ∙ ap₂ ◌++◌ (take_all (length put + n) put (omega arith)) (ap (λ k. take k (more ++ rest)) here)
         ∙ ap (λ l. put ++ l) (take-both n more rest ∙ ap₂ ◌++◌ capped (ap (λ k. take k rest) none) ∙ append-nil (take front.0 more))
 
--- bytes are put, and more behind them
+-- bytes are put, and more bytes after them
 pub puts_behind : {X : Type 0} (r : Result X Fault) (before mid after : Option (List ℕ)) (first more : List ℕ) → Appends before mid first
     → PutsAllOrFront mid after more r → PutsAllOrFront before after (first ++ more) r
 puts_behind (Ok x) before mid after first more appended puts = Appends-trans before mid after first more appended puts
 puts_behind (Err e) before mid after first more appended front =
     front_more before mid after first more [] (first ++ more) appended front (ap (λ l. first ++ l) (sym (append-nil more)))
 
--- or only a front of the first
+-- only a front of the first bytes is put
 pub front_behind : (before after : Option (List ℕ)) (first more : List ℕ) → AppendsFront before after first → AppendsFront before after (first ++ more)
 front_behind before after first more front =
     front_more before before after [] first more (first ++ more) (Appends-nil before) front refl
 
--- none had waited
+-- no bytes waited
 pub none_waited : (r : Result (Unit {0}) Fault) (sink : Putting) (waiting more : List ℕ) → waiting ≡ [] → Delivers (waiting ++ more) sink r
     → Delivers more sink r
 none_waited r sink waiting more none delivers = subst (λ l. Delivers (l ++ more) sink r) none delivers
@@ -226,7 +226,7 @@ puts_front start p q s first len skip left before mid after waiting ys part xs a
         ∙ ap₂ (λ l part. l ++ all_stored s part) so_far.all (is ∙ ap₂ (λ k n. samples_from k n ys) so_far.skip_is so_far.left_is)
         ∙ sym (ap (all_stored s) (samples_from-append first len so_far.samples ys) ∙ all_stored-append s (samples_from first len so_far.samples) _)
 
--- at the end what was read is all
+-- at the end all samples were read
 all_read : (start p : Place) (s : Settings) (first len skip left : ℕ) (before after : Option (List ℕ)) (waiting : List ℕ) (xs : List ℤ)
     → IsAllowed start.settings
     → (so_far : PutsSoFar start p s first len skip left before after waiting) → is_wanted_at p ≡ false → AreSamplesOf start xs → so_far.samples ≡ xs
@@ -235,7 +235,7 @@ all_read start p s first len skip left before after waiting xs a so_far done giv
     (bits_are_read_in_one_way start.settings start.count start.limit start.bits a).one_reading so_far.samples xs
     (subst (λ (p : Place). IsReading p.settings p.count p.limit p.bits so_far.samples) so_far.same whole) given.reading
 
--- none are left to put, or none to read: what was taken is the whole range
+-- if no samples are left to put, or none to read, the whole range was taken
 range_taken : (start p : Place) (s : Settings) (first len skip left : ℕ) (before after : Option (List ℕ)) (waiting : List ℕ) (xs : List ℤ)
     → IsAllowed start.settings → (so_far : PutsSoFar start p s first len skip left before after waiting) → (left ≡ 0) ⊎ (is_wanted_at p ≡ false)
     → AreSamplesOf start xs → samples_from first len so_far.samples ≡ samples_from first len xs
@@ -275,9 +275,9 @@ puts_rest start p s first len skip left before mid after waiting bytes r a so_fa
         front_more before mid after so_far.put bytes [] (all_stored s (samples_from first len xs)) so_far.appended front
         (sym (ap (λ l. so_far.put ++ l) (append-nil bytes) ∙ all))
 
--- ---- in the form in which the code has the facts
+-- ---- the same, stated by the code's variables
 
--- part of a step's samples
+-- a part of a step's samples is held
 pub part_is_held : (start p q : Place) (s : Settings) (skip left : ℕ) (ys part : List ℤ) → p ≡ place_from start p.block p.bit → start.settings ≡ s
     → ReadsPiece p ys q
     → part ≡ samples_from skip left ys → AllByRecursion (IsHeld s) part

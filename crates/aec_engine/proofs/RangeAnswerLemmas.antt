@@ -1,4 +1,4 @@
--- Each input has one answer where a range is cut out of it.
+-- Cutting a range out of an input has one answer.
 use Rattle.std.proofs.Common.{◌≡◌, ℕ, ◌+◌, Bool, true, false, nat_lt, if◌then◌else◌, Option, Result, Ok, Err, ℤ, List, length, refl, sym, ap, ◌∙◌}
 use Rattle.std.proofs.lemmas.Bool.{lt-ltb, le-ltb, ltb-true, ltb-false}
 use Rattle.aec_params.specs.declared.settings.Settings.{Settings}
@@ -13,7 +13,7 @@ use Rattle.aec_engine.specs.Output.{IsRead, IsDecoded, not_taken, not_counted, d
 use Rattle.aec_engine.specs.Laws.{HasOneAnswer}
 use Rattle.aec_engine.proofs.AnswerLemmas.{decoding_has_one_answer}
 
--- the answer to samples that are read
+-- the answer for samples that are read
 abbrev range_answer : Settings → ℕ → ℕ → List ℤ → Result (List ℕ) Fault
 range_answer s first len samples =
     if nat_lt (length samples) (first + len) then Err (OutOfRange (length samples)) else Ok (all_stored s (samples_from first len samples))

@@ -1,4 +1,4 @@
--- What cutting out a range leaves where source and sink are bytes in memory.
+-- What cutting out a range leaves if source and sink are bytes in memory.
 use Rattle.std.proofs.Common.{◌≡◌, ℕ, false, Option, Some, Ok, Err, List, [], refl, ◌⊎◌}
 use Rattle.aec_params.specs.declared.settings.Settings.{Settings}
 use Rattle.aec_params.specs.declared.fault.Fault.{Fault}

@@ -1,4 +1,4 @@
--- Bits read once to count their samples, and again to put the bytes of some of them.
+-- Bits that are read once to count their samples, and again to put the bytes of some of them.
 use Rattle.std.proofs.Common.{◌≡◌, ℕ, ◌+◌, ◌*◌, ◌<◌, ◌≤◌, ◌^◌, Bool, false, Option, Some, IfSome, Result, Err, IfErr, ℤ, List, [], ◌++◌, length, refl, sym, ap, ◌∙◌, subst, arith, ⊎_elim}
 use Rattle.std.proofs.Math.Nat.{mul-le-mul_right, zero-mod}
 use Rattle.std.proofs.lemmas.Bool.{cases_lt}
@@ -14,7 +14,7 @@ use Rattle.aec_interval.specs.Skipping.{HasInterval, IsFaultAt}
 use Rattle.aec_interval.proofs.PieceReadingLemmas.{has_read_nothing, has_read_several, several-of_one, has_read_all, has_read_refused, has_read_few}
 use Rattle.aec_engine.specs.ReadingTwice.{EndsAt, HaveSamples, IsBegun}
 
--- a place that was come to from another one
+-- block i at bit b, in the reading of place p
 abbrev pub place_from : Place → ℕ → ℕ → Place
 place_from p i b = place_at p.settings p.count p.limit p.bits i b
 
@@ -42,7 +42,7 @@ counts_more start p q total more ys a so_far step is few = record {
   few = few;
 }
 
--- so many samples can be counted
+-- the count of samples is at most 2^40
 pub counts_few : (start p : Place) (total : ℕ) → IsAllowed start.settings → CountsSoFar start p total → total ≤ 2 ^ 40
 counts_few start p total a so_far =
     let allowed = subst IsAllowed (sym (settings-same start p so_far.same)) a in
@@ -71,7 +71,7 @@ counts_all start p total a so_far done =
       counted = so_far.counted;
     }
 
--- where no more is wanted all is read
+-- if no more is wanted, all is read
 pub ends_at : (start p : Place) (total bit : ℕ) → CountsSoFar start p total → is_wanted_at p ≡ false → bit ≡ p.bit → EndsAt start bit
 ends_at start p total bit so_far done is = subst (EndsAt start) (sym is) (record {
   block = p.block;
@@ -80,14 +80,14 @@ ends_at start p total bit so_far done is = subst (EndsAt start) (sym is) (record
   done = subst (λ p. is_wanted_at p ≡ false) so_far.same done;
 })
 
--- ---- an interval gone over
+-- ---- an interval that is skipped
 
 pub counts_interval : (start p q : Place) (total more len : ℕ) → IsAllowed start.settings → CountsSoFar start p total → HasInterval p len q → more ≡ total + len
     → q.block < 2 ^ 34 → CountsSoFar start q more
 counts_interval start p q total more len a so_far has is few =
     counts_more start p q total more has.samples a so_far (several-of_one p q has.samples has.read) (omega (arith, is, has.counted)) few
 
--- so many samples can be counted, with those of the interval
+-- with the samples of the interval, the count is at most 2^40 too
 pub counts_within : (start p q : Place) (total len : ℕ) → IsAllowed start.settings → CountsSoFar start p total → HasInterval p len q → q.block < 2 ^ 34
     → total + len ≤ 2 ^ 40
 counts_within start p q total len a so_far has few =
@@ -115,7 +115,7 @@ begun_nothing s count limit bits p is = subst (λ p. IsBegun p 0 0) (sym is) (re
   begins = λ _. zero-mod s.interval;
 })
 
--- and where no bit was read either
+-- at the first bit 0 samples were read, which is at most any `first`
 pub begun_at_start : (p : Place) (first : ℕ) → p.block ≡ 0 → p.bit ≡ 0 → IsBegun p 0 first
 begun_at_start p first block bit =
     let nothing = begun_nothing p.settings p.count p.limit p.bits p (ap (λ i. place_from p i p.bit) block ∙ ap (λ b. place_from p 0 b) bit) in
@@ -137,7 +137,7 @@ counts_begun start before first begun = record {
   few = begun.few;
 }
 
--- a place was reached, and no more than `first` samples lie before it
+-- a place was reached, and at most `first` samples are before it
 pub record IsNoted (start : Place) (block bit before first : ℕ) : Type 0 where
   pub place : IsPlace (place_from start block bit)
   pub begun : IsBegun (place_from start block bit) before first
@@ -159,13 +159,13 @@ noted_here start p block bit before first so_far is same_block same_bit at_most 
     here : place_from start block bit ≡ p
     here = ap (λ i. place_from start i bit) same_block ∙ (ap (λ b. place_from start p.block b) same_bit ∙ sym so_far.same)
 
--- of two places one is kept
+-- of two places the later is kept if at most `first` samples are before it, else the other
 pub noted_later : {X : Type 0} (P : X → Type 0) (noted here kept : X) (before first : ℕ) → (before ≤ first → kept ≡ here) → (first < before → kept ≡ noted)
     → P noted → (before ≤ first → P here) → P kept
 noted_later P noted here kept before first later earlier old new =
     ⊎_elim (λ h. subst P (sym (earlier h)) old) (λ h. subst P (sym (later h)) (new h)) (cases_lt first before)
 
--- it is one for a reader that has come further on
+-- a noted place is a place for a reader that has moved on
 pub noted_place : (start p q : Place) (block bit before first : ℕ) → p ≡ place_from start p.block p.bit → q ≡ p → IsNoted start block bit before first
     → IsPlace (place_from q block bit)
 noted_place start p q block bit before first same is noted =

@@ -33,7 +33,7 @@ reads_one p q ys a step = record {
 allowed_on : (p q : Place) (xs : List ℤ) → IsAllowed p.settings → ReadsOn p xs q → IsAllowed q.settings
 allowed_on p q xs a on = subst IsAllowed (sym (settings-same p q on.same)) a
 
--- and one more
+-- one more interval
 pub reads_more : (p q r : Place) (xs ys all : List ℤ) → IsAllowed p.settings → ReadsOn p xs q → ReadsInterval q ys r → all ≡ xs ++ ys → ReadsOn p all r
 reads_more p q r xs ys all a on step is = subst (λ all. ReadsOn p all r) (sym is) (record {
   wanted = on.wanted;
@@ -46,13 +46,13 @@ reads_more p q r xs ys all a on step is = subst (λ all. ReadsOn p all r) (sym i
       (has_read_more q r (front ++ xs) ys (allowed_on p q xs a on) (on.behind front read) step);
 })
 
--- ---- how many are gathered
+-- ---- how many samples are gathered
 
--- those of one interval
+-- the samples of one interval
 pub one_at_once : (p q : Place) (s : Settings) (ys : List ℤ) → p.settings ≡ s → ReadsInterval p ys q → length ys ≤ max 2048 (interval_len s)
 one_at_once p q s ys is step = omega (arith, step.few, ap interval_len is)
 
--- and of one more behind so few that it fits
+-- the samples of one more interval, if those before it leave room for it
 pub more_at_once : (p q r : Place) (s : Settings) (last : ℕ) (xs ys all : List ℤ) → p.settings ≡ s → ReadsOn p xs q → ReadsInterval q ys r → all ≡ xs ++ ys
     → last ≡ 2048 - interval_len s → length xs ≤ last → length all ≤ max 2048 (interval_len s)
 more_at_once p q r s last xs ys all is on step both gives few =

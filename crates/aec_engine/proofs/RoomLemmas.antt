@@ -7,7 +7,7 @@ use Rattle.aec_interval.specs.Pieces.{Place}
 use Rattle.aec_engine.specs.ReadingTwice.{EndsAt, HaveSamples}
 use Rattle.aec_engine.specs.Judging.{AsksForRead, HasRoomOfRead}
 
--- the room that is asked for is that of what judging has told
+-- the room that is asked for, from the results of judging
 pub room_judged : (p : Place) (s : Settings) (end total bits intervals : ℕ) → EndsAt p end → HaveSamples p total → p.settings ≡ s → end ≤ bits
     → bits ≡ min (end + end / 16) (2 ^ 64 - 1) → intervals ≡ div_ceil total (interval_len s) → AsksForRead p bits intervals
 room_judged p s end total bits intervals ends have settings fit asked is = record {
@@ -20,7 +20,7 @@ room_judged p s end total bits intervals ends have settings fit asked is = recor
   intervals_asked = is ∙ sym (ap (λ s. div_ceil total (interval_len s)) settings);
 }
 
--- what has at least the room that is asked for has that of the samples
+-- at least the room that is asked for is enough for what the samples are read from
 pub room_more : (p : Place) (bits intervals more others : ℕ) → AsksForRead p bits intervals → bits ≤ more → intervals ≤ others → HasRoomOfRead p more others
 room_more p bits intervals more others asked bits_more intervals_more = record {
   end = asked.end;

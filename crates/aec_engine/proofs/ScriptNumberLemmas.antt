@@ -1,4 +1,4 @@
--- A word that is no text writes no number.
+-- A word that isn't UTF-8 is no number.
 use Rattle.std.proofs.Common.{◌≡◌, Bool, true, false, [], ◌∷◌, ap, sym, ◌∙◌, ◌<◌, ◌&&◌, ◌==◌, if◌then◌else◌, refl, None, Some, slice_index, arith}
 use Rattle.std.specs.Str.{IsUtf8}
 use Rattle.std.specs.Str.Parse.{signed_digits_value, without_leading_sign}
@@ -10,7 +10,7 @@ use Rattle.aec_engine.specs.Numerals.{Text, is_numeral, fits_i64, decimal_in}
 use Rattle.aec_engine.specs.Scripts.{signed_in, value_in}
 use Rattle.aec_engine.proofs.NumeralLemmas.{split, all_digits}
 
--- decimal digits are text
+-- decimal digits are UTF-8
 numerals_are_text : (text : Text) → is_numeral text ≡ true → IsUtf8 text
 numerals_are_text text e = IsUtf8-from_ascii text (IsAscii-from_digits text (all_digits text (split _ _ e).1))
 
@@ -21,7 +21,7 @@ decimal_in-no_text word other = by_test (is_numeral word) refl
     by_test false e = rw e refl
     by_test true e = absurd (other (numerals_are_text word e))
 
--- a minus and digits are text
+-- decimal digits after a minus, or without a sign, are UTF-8
 signed_numerals_are_text : (text : Text) → (slice_index text 0 == 43) ≡ false → is_numeral (without_leading_sign text) ≡ true → IsUtf8 text
 signed_numerals_are_text [] other e = IsUtf8-from_ascii [] IsAscii-nil
 signed_numerals_are_text (x ∷ xs) other e = by_minus (x == 45) refl

@@ -10,13 +10,13 @@ use Rattle.aec_engine.specs.Scripts.{is_blank, is_word, words_of}
 pub words_of-blank : (x : ℕ) (line : Text) → is_blank x ≡ true → words_of (x ∷ line) ≡ words_of line
 words_of-blank x line e = rw e refl
 
--- the first part of a line, and what the later ones have to do with its rest
+-- the first part of a line; the words in the later parts are the words of the rest
 record FirstPart (line : Text) : Type 0 where
   later : List Text
   cut : slice_split is_blank line ≡ take (position_or_len is_blank line) line ∷ later
   rest : filter is_word later ≡ words_of (drop (position_or_len is_blank line) line)
 
--- a byte that is no blank stands before the first blank
+-- a byte that is no blank is before the first blank
 place-letter : (x : ℕ) (line : Text) → is_blank x ≡ false → position_or_len is_blank (x ∷ line) ≡ suc (position_or_len is_blank line)
 place-letter x line e = rw e (omega arith)
 
@@ -42,7 +42,7 @@ first_part (x ∷ line) = by_blank (first_part line) (is_blank x) refl
     }
     by_blank first false e = after_letter x line e first
 
--- where a line begins with a word, that is what stands before the first blank
+-- if a line begins with a word, the word ends before the first blank
 pub words_of-first : (line : Text) → 0 < length line → is_blank (slice_index line 0) ≡ false
     → words_of line ≡ take (position_or_len is_blank line) line ∷ words_of (drop (position_or_len is_blank line) line)
 words_of-first [] some word = absurd (omega arith)

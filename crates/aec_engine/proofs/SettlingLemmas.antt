@@ -1,4 +1,4 @@
--- Answers that are written or refused, by what stands for them before they are stored.
+-- Answers that are written or refused, from what is proved of them before they are stored.
 use Rattle.std.proofs.Common.{◌≡◌, ℕ, ◌+◌, ◌<◌, ◌≤◌, Bool, Option, None, Some, Result, Ok, Err, OnOk, OnErr, ℤ, List, length, refl, sym, ap, ◌∙◌, subst, arith}
 use Rattle.std.specs.Io.KnownBytes.{Appends}
 use Rattle.aec_params.specs.declared.settings.Settings.{Settings}
@@ -56,7 +56,7 @@ settles_map answers others sink r weaker one = record { answer = one.answer; ans
 abbrev pub samples_told : (p : Place) (total : ℕ) → HaveSamples p total → (xs : List ℤ) × AreSamplesOf p xs
 samples_told p total have = (have.samples, record { reading = have.reading })
 
--- a reader under the same terms has the same samples
+-- a reader of the same bits has the same samples
 pub samples_there : (start p : Place) (total : ℕ) → p ≡ place_from start p.block p.bit → HaveSamples start total → HaveSamples p total
 samples_there start p total same have =
     subst (λ (p : Place). HaveSamples p total) (sym same) (record { samples = have.samples; reading = have.reading; counted = have.counted })

@@ -9,7 +9,7 @@ use Rattle.aec_engine.specs.Numerals.{Text, is_numeral, fits_i64}
 use Rattle.aec_engine.specs.Scripts.{signed_in, value_in}
 use Rattle.aec_engine.proofs.NumeralLemmas.{split, list_all-digits, all_digits}
 
--- the test of 64 bits with a sign, and the fact
+-- a number passes the test exactly if it fits signed 64 bits
 fits_i64-true : (z : ℤ) → FitsSigned w64 z → fits_i64 z ≡ true
 fits_i64-true (pos n) h = lt-ltb _ _ h.sfits
 fits_i64-true (negsuc n) h = lt-ltb _ _ h.sfits
@@ -18,7 +18,7 @@ fits_from_test : (z : ℤ) → fits_i64 z ≡ true → FitsSigned w64 z
 fits_from_test (pos n) e = record { sfits = ltb-true _ _ e }
 fits_from_test (negsuc n) e = record { sfits = ltb-true _ _ e }
 
--- what `parse` gives of a text is the number that a sign or nothing and digits write
+-- `parse` returns the number of a text of digits, with or without a sign before them
 signed_in-read : {E : Type 0} (text : Text) (r : Result ℤ E) → ParsesSigned w64 10 text r → result_ok r ≡ signed_in text
 signed_in-read text (Ok z) h =
     let digits = without_leading_sign text in
@@ -32,7 +32,7 @@ signed_in-read text (Err e) h = by_test (is_numeral (without_leading_sign text) 
         let inner = split _ _ outer.0 in
         absurd (h ((ltb-true _ _ inner.0, all_digits _ inner.1), fits_from_test _ outer.1))
 
--- and where no plus stands first, a value
+-- if a text doesn't begin with a plus, `parse` returns its value
 pub value_in-read : {E : Type 0} (text : Text) (r : Result ℤ E) → ParsesSigned w64 10 text r → (slice_index text 0 == 43) ≡ false
     → result_ok r ≡ value_in text
 value_in-read text r parses other = signed_in-read text r parses ∙ sym (ap (λ t. if t then None else signed_in text) other)

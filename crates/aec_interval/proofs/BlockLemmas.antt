@@ -1,5 +1,5 @@
--- Blocks: each has J values below 2^n, and a reference with 0 in its place exactly where one is
--- due.
+-- Blocks: each has J values below 2^n. It has a reference sample, and 0 in the reference place,
+-- exactly if one is due.
 use Rattle.std.proofs.Common.{◌≡◌, ℕ, zero, suc, ◌+◌, ◌-◌, ◌*◌, ◌^◌, ◌<◌, false, Option, Some, None, ℤ, pos, List, [], ◌∷◌, ◌++◌, length, replicate, refl, sym, ap, ◌∙◌, subst, arith, ⊎_elim, ◌≤◌, add-one, mod-eq_of_lt, lt_of_mul-lt-mul_right}
 use Rattle.std.specs.Prelude.{⊤, ◌==◌, unwrap_or}
 use Rattle.std.specs.List.{AllByRecursion, last_or}
@@ -44,7 +44,7 @@ all-pieces_of P n h = by_pieces (λ xs. AllByRecursion P xs → AllByRecursion (
     (λ front rest piece ih all. subst (AllByRecursion (AllByRecursion P)) (sym (pieces_of-cons n front rest piece))
     (all_left P front rest all, ih (all_right P front rest all)))
 
--- pieces of a whole multiple are full
+-- if a list has k * n elements, each of its pieces has n
 pub whole_pieces : {X : Type 0} (n : ℕ) → 0 < n → (xs : List X) (k : ℕ) → length xs ≡ k * n → AllByRecursion (λ piece. length piece ≡ n) (pieces_of n xs)
 whole_pieces n h = by_pieces (λ xs. (k : ℕ) → length xs ≡ k * n → AllByRecursion (λ piece. length piece ≡ n) (pieces_of n xs)) n h
     (λ k e. subst (AllByRecursion (λ piece. length piece ≡ n)) (sym (pieces_of-nil n h)) tt)
@@ -101,7 +101,7 @@ all-filled_samples s x v h =
 
 -- ---- blocks
 
--- the blocks of an interval from block p on, each as it can stand there
+-- blocks from block p of an interval on, each of which can be at its place
 abbrev pub AreDueFrom : Settings → ℕ → List Block → Type 0
 AreDueFrom s p [] = ⊤
 AreDueFrom s p (b ∷ blocks) = IsBlockAt s p b × AreDueFrom s (suc p) blocks
@@ -109,7 +109,7 @@ AreDueFrom s p (b ∷ blocks) = IsBlockAt s p b × AreDueFrom s (suc p) blocks
 pub later_reference : (s : Settings) (p : ℕ) → is_reference_block s (suc p) ≡ false
 later_reference s p = and_right s.preprocess (suc p == 0) (ne_eqb (suc p) 0 (λ e. omega arith))
 
--- blocks of the stream that stay in the first interval
+-- blocks of a stream, if they end within the first interval
 AreDueFrom-stream : (s : Settings) (p : ℕ) (blocks : List Block) → p + length blocks ≤ s.interval → AreBlocksFrom s p blocks → AreDueFrom s p blocks
 AreDueFrom-stream s p [] within h = tt
 AreDueFrom-stream s p (b ∷ blocks) within h = (
@@ -121,7 +121,7 @@ length-with_reference : (reference : Option ℕ) (groups : List (List ℕ)) → 
 length-with_reference reference [] = refl
 length-with_reference reference (g ∷ groups) = ap suc (length-map groups (λ values. record { reference = None; values = values }))
 
--- so many blocks as the samples fill
+-- the number of blocks is the number of samples divided by J, rounded up
 pub length-blocks_of : (s : Settings) (v : List ℤ) → IsAllowed s → length (blocks_of s v) ≡ div_ceil (length v) s.block_size
 length-blocks_of s v a =
     length-with_reference (reference_of s v) (pieces_of s.block_size values) ∙ length-pieces_of s.block_size values

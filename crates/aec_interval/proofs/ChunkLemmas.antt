@@ -1,4 +1,4 @@
--- Samples cut at the end of a block: the block of the front, and those of what is behind it.
+-- Samples cut at the end of a block: the block of the front, and the blocks of the rest.
 use Rattle.std.proofs.Common.{◌≡◌, ℕ, zero, suc, ◌+◌, ◌-◌, ◌*◌, ◌%◌, ◌<◌, ◌≤◌, Option, Some, None, ℤ, pos, List, [], ◌∷◌, ◌++◌, length, map, replicate, refl, sym, ap, ap₂, ◌∙◌, arith}
 use Rattle.std.specs.Prelude.{unwrap_or, if◌then◌else◌}
 use Rattle.std.specs.List.{last_or}
@@ -59,7 +59,7 @@ last_or-replicate : (y : ℤ) (n : ℕ) → last_or (Some y) (replicate n y) ≡
 last_or-replicate y zero = refl
 last_or-replicate y (suc n) = last_or-replicate y n
 
--- the filler repeats the last sample
+-- with the filler the last sample stays the same
 last_or-filled : (s : Settings) (o : Option ℤ) (x : ℤ) (xs : List ℤ) → last_or o (filled_samples s (x ∷ xs)) ≡ last_or o (x ∷ xs)
 last_or-filled s o x xs =
     let last = last_or-some x xs in
@@ -108,7 +108,7 @@ with_no_reference : (groups : List (List ℕ)) → map (λ values. record { refe
 with_no_reference [] = refl
 with_no_reference (g ∷ groups) = refl
 
--- one block, and those behind it
+-- the first block, and the blocks after it
 pub blocks_after-cons : (s : Settings) (o : Option ℤ) (front rest : List ℤ) → 0 < s.block_size → IsPieceBefore s.block_size front rest
     → blocks_after s o (front ++ rest) ≡ block_after s o front ∷ blocks_after s (last_or o front) rest
 blocks_after-cons s o [] rest h piece = absurd (omega (arith, piece.some))

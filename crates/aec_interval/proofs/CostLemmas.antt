@@ -1,5 +1,5 @@
--- What coded data sets cost before the groups of their segment: never less than joining them to the
--- groups.
+-- What coded data sets cost before the groups of their segment: joining their blocks to the groups
+-- never costs more bits.
 use Rattle.std.proofs.Common.{◌≡◌, ℕ, zero, suc, ◌+◌, ◌-◌, ◌<◌, ◌≤◌, true, false, Option, None, List, [], ◌∷◌, ◌++◌, length, replicate, refl, sym, ap, ◌∙◌, subst, arith, ◌⊎◌, ⊎_elim}
 use Rattle.std.specs.Prelude.{◌==◌}
 use Rattle.std.specs.List.{flat_map, list_all}
@@ -22,7 +22,7 @@ use Rattle.aec_interval.proofs.IntervalLemmas.{AreDueFrom_right}
 use Rattle.aec_interval.proofs.PlaceLemmas.{block_count-positive}
 use Rattle.aec_interval.proofs.RunLengthLemmas.{run_code-joined, run_code-last, length-run, plain-longer, split-longer, pairs-longer}
 
--- the bits that groups are written with, and those of blocks from the start of a segment on
+-- the number of bits of groups, and of blocks from the start of a segment on
 abbrev pub group_cost : Settings → List Group → ℕ
 group_cost s groups = length (flat_map (cds_bits s) (group_sets s groups))
 
@@ -31,7 +31,7 @@ block_cost s blocks = length (flat_map (cds_bits s) (block_sets s blocks))
 
 -- ---- zero blocks before others
 
--- groups with so many zero blocks before them
+-- groups with k zero blocks before them
 abbrev pub with_zeros : Option ℕ → ℕ → List Group → List Group
 with_zeros reference k (zero_run later a ∷ groups) = zero_run reference (k + a) ∷ groups
 with_zeros reference k (single_block b ∷ groups) = zero_run reference k ∷ (single_block b ∷ groups)

@@ -1,5 +1,5 @@
--- An interval's coded data sets cover its blocks: each group is one of them, and only the very last
--- may go past the blocks.
+-- An interval's coded data sets cover its blocks: each group becomes one set, and only the very
+-- last set may go past the blocks.
 use Rattle.std.proofs.Common.{◌≡◌, ℕ, ◌+◌, ◌-◌, ◌<◌, ◌≤◌, Bool, true, false, Option, Some, None, unwrap_or, List, [], ◌∷◌, ◌++◌, length, take, replicate, refl, sym, ap, ◌∙◌, subst, arith, inl, inr, ◌⊎◌, ⊎_elim}
 use Rattle.std.specs.Prelude.{nat_le, nat_lt, ◌==◌, if◌then◌else◌}
 use Rattle.std.specs.List.{flat_map}
@@ -27,7 +27,7 @@ pub record IsCovering (s : Settings) (n p : ℕ) (sets : List CodedDataSet) (blo
 pub IsCovering-nil : (s : Settings) (n p : ℕ) → p ≡ n → IsCovering s n p [] []
 IsCovering-nil s n p e = record { reach = omega arith; covers = le-leb n p (omega arith); stand_for = refl }
 
--- a coded data set that stands for just the blocks in front
+-- a coded data set that stands for exactly the front of the blocks
 pub IsCovering-cons : (s : Settings) (n p : ℕ) (c : CodedDataSet) (sets : List CodedDataSet) (front behind : List Block) → IsLawfulAt s p c
     → cds_blocks s p c ≡ front → length front ≡ block_count s p c → 0 < block_count s p c
     → IsCovering s n (p + block_count s p c) sets behind → IsCovering s n p (c ∷ sets) (front ++ behind)
@@ -51,7 +51,7 @@ IsCovering-last s n p c blocks l e some most t = record {
 
 -- ---- one group
 
--- what is written for a group that is not cut short by the end of the blocks
+-- c is a lawful coded data set for exactly the blocks of group g
 pub record IsWrittenFor (s : Settings) (p : ℕ) (g : Group) (c : CodedDataSet) : Type 0 where
   pub lawful : IsLawfulAt s p c
   pub blocks : cds_blocks s p c ≡ group_blocks s g
@@ -61,8 +61,8 @@ run_lawful : (s : Settings) (p : ℕ) (reference : Option ℕ) (m : ℕ) → Has
     → IsLawfulAt s p (record { reference = reference; body = zero_blocks m })
 run_lawful s p reference m h k = record { shape = record { reference = h; body = tt }; small = refl; within = le-leb (run_len s p m) (segment_left s p) k }
 
--- the number that is written for a run spells its length, or where it ends its segment all that the
--- segment has left
+-- the number written for a run stands for its length; or, if the run is the last of its segment,
+-- for all blocks that the segment has left
 abbrev SpellsRun : Settings → ℕ → ℕ → Bool → ℕ → Type 0
 SpellsRun s p z is_last m = (run_len s p m ≡ z) ⊎ ((is_last ≡ true) × (run_len s p m ≡ segment_left s p))
 
@@ -110,11 +110,11 @@ block_written s p b h k =
 
 -- ---- the groups of a segment
 
--- of so many blocks that a segment has left there are z behind the first z
+-- a block z places later has z blocks fewer left in the same segment
 segment_left-later : (s : Settings) (p z : ℕ) → z < segment_left s p → segment_left s (p + z) ≡ segment_left s p - z
 segment_left-later s p z h = omega arith
 
--- groups that fill up what their segment has left, or are the last of the interval
+-- groups fill what their segment has left, or nothing comes after them in the interval
 abbrev pub EndsWell : ℕ → ℕ → List CodedDataSet → List Block → Type 0
 EndsWell total left sets behind = (total ≡ left) ⊎ ((sets ≡ []) × (behind ≡ []))
 
@@ -128,7 +128,7 @@ IsCovering-written s n p g c sets behind h w k =
     IsCovering-cons s n p c sets (group_blocks s g) behind w.lawful w.blocks (length-group_blocks s p g h ∙ sym w.count)
     (subst (λ z. 0 < z) (sym w.count) (group_len-positive s p g h)) (subst (λ z. IsCovering s n (p + z) sets behind) (sym w.count) k)
 
--- the run at the end of an interval, written as one that ends its segment
+-- the run at the end of the blocks; its number stands for all that the segment has left
 IsCovering-overhang : (s : Settings) (n p z m : ℕ) (reference : Option ℕ) → (0 < z) × HasReference s (is_reference_block s p) reference
     → run_len s p m ≡ segment_left s p → z ≤ segment_left s p → p + z ≡ n
     → IsCovering s n p (record { reference = reference; body = zero_blocks m } ∷ []) (group_blocks s (zero_run reference z))
@@ -140,7 +140,7 @@ IsCovering-overhang s n p z m reference h e most reach =
     (ap (λ k. take k (replicate (run_len s p m - 1) (zero_block s None))) (length-replicate (z - 1) (zero_block s None))
     ∙ take-replicate (z - 1) (run_len s p m - 1) (zero_block s None) (omega arith)))
 
--- the same with nothing behind it
+-- such a run, if no group, coded data set or block comes after it
 IsCovering-last_run : (s : Settings) (n p z : ℕ) (reference : Option ℕ) (groups : List Group) (sets : List CodedDataSet) (behind : List Block)
     → (0 < z) × HasReference s (is_reference_block s p) reference → is_empty groups ≡ true → sets ≡ [] → behind ≡ []
     → run_len s p (run_code z (is_empty groups)) ≡ segment_left s p → z ≤ segment_left s p
@@ -159,7 +159,7 @@ empty_groups : (s : Settings) (groups : List Group) → is_empty groups ≡ true
 empty_groups s [] e = refl
 empty_groups s (g ∷ groups) e = absurd (cc)
 
--- the run that comes first among the groups of a segment
+-- a run, then the other groups of its segment, then the other segments
 IsCovering-run : (s : Settings) (n p left z : ℕ) (reference : Option ℕ) (groups : List Group) (sets : List CodedDataSet) (behind : List Block)
     → (0 < z) × HasReference s (is_reference_block s p) reference → segment_left s p ≡ left → z ≤ left
     → EndsWell (z + length (flat_map (group_blocks s) groups)) left sets behind
@@ -185,7 +185,7 @@ IsCovering-run s n p left z reference groups sets behind h k most ends reach c =
     last l e = ⊎_elim (λ f. exact (omega (arith, empty_groups s groups l)))
         (λ w. IsCovering-last_run s n p z reference groups sets behind h l w.0 w.1 e (omega arith) reach) ends
 
--- what is left of a segment behind its first group
+-- what a segment has left after its first group
 record LeftAfter (s : Settings) (n p left : ℕ) (g : Group) (groups : List Group) (sets : List CodedDataSet) (behind : List Block) : Type 0 where
   here : segment_left s p ≡ left
   fits : group_len g ≤ left

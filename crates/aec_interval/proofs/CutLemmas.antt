@@ -1,4 +1,4 @@
--- However the input of a coder is cut, it gives the stream of all samples.
+-- However its input is cut, a coder appends the stream of all samples.
 use Rattle.std.proofs.Common.{◌≡◌, ℕ, ℤ, ◌/◌, ◌<◌, Bool, None, List, [], ◌∷◌, ◌++◌, length, sym, ap, ◌∙◌, subst, arith, append_assoc, append-nil}
 use Rattle.aec_params.specs.declared.settings.Settings.{Settings}
 use Rattle.aec_params.specs.Params.{IsAllowed, interval_len, storage_len}
@@ -13,7 +13,7 @@ use Rattle.aec_interval.proofs.PieceLemmas.{whole_and_left, length-whole_front, 
 use Rattle.aec_interval.proofs.TakingLemmas.{taken_groups-all, taken_within, judged_all}
 use Rattle.aec_interval.proofs.FeedingLemmas.{same_coding, feeds_both, stops_later, stops_before}
 
--- no bytes change nothing
+-- an empty piece changes nothing
 nothing_begun : (s : Settings) (limit : ℕ) (bits : List Bool) → IsAllowed s → Feeds (fresh_coder s limit) [] bits bits (fresh_coder s limit)
 nothing_begun s limit bits a =
     let c : Coder = fresh_coder s limit in
@@ -31,7 +31,7 @@ nothing_begun s limit bits a =
           (omega (arith, ap (λ (t : TakenSamples). length t.samples) none)) (sym (ap (λ (t : TakenSamples). t.refusal) none));
     }
 
--- pieces behind bytes that were taken
+-- pieces that are taken after other bytes
 pieces_taken : (s : Settings) (limit : ℕ) (pieces : List (List ℕ)) (bytes : List ℕ) (b0 b1 b2 : List Bool) (d e : Coder) → IsAllowed s
     → Feeds (fresh_coder s limit) bytes b0 b1 d → FeedsAll d pieces b1 b2 e → Feeds (fresh_coder s limit) (bytes ++ all_bytes pieces) b0 b2 e
 pieces_taken s limit [] bytes b0 b1 b2 d e a first (bits, same) =
@@ -48,7 +48,7 @@ all_taken : (s : Settings) (limit : ℕ) (pieces : List (List ℕ)) (before afte
 all_taken s limit pieces before after d a feeds =
     pieces_taken s limit pieces [] before before after (fresh_coder s limit) d a (nothing_begun s limit before a) feeds
 
--- what was appended, and what is held
+-- what was appended, with the code of what is held, is the stream of the samples so far
 stream_so_far : (s : Settings) (limit : ℕ) (bytes : List ℕ) (before after : List Bool) (d : Coder) → IsAllowed s
     → Feeds (fresh_coder s limit) bytes before after d → IsStreamSoFar s limit bytes before after d
 stream_so_far s limit bytes before after d a feeds =

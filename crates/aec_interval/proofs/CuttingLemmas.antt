@@ -20,7 +20,7 @@ div_ceil-one m n h k =
 pub div_ceil-positive : (m n : ℕ) → 0 < n → 0 < m → 0 < div_ceil m n
 div_ceil-positive m n h k = omega (arith, div_ceil-step m n h k)
 
--- the first piece of a list and what is behind it
+-- the first piece of a list, and what comes after it
 take_front : {X : Type 0} (n : ℕ) (front rest : List X) → length front ≤ n → (0 < length rest → length front ≡ n) → take n (front ++ rest) ≡ front
 take_front n front [] k full = ap (take n) (append-nil front) ∙ take_all n front k
 take_front n front (x ∷ rest) k full = take_at front (x ∷ rest) n (full (omega arith))
@@ -47,7 +47,8 @@ pieces_of-cons n front rest h =
     count = div_ceil-step (length (front ++ rest)) n (omega (arith, h.some, h.fits)) (omega (arith, length-append front rest, h.some))
         ∙ ap (λ x. suc (div_ceil x n)) left
 
--- what holds of no elements, and of a piece and more when it holds of the rest, holds of each list
+-- P holds of each list if it holds of the empty list, and of a piece and the rest if it holds of
+-- the rest
 module _ {X : Type 0} (P : List X → Type 0) (n : ℕ) (positive : 0 < n) (nothing : P [])
     (piece : (front rest : List X) → IsPieceBefore n front rest → P rest → P (front ++ rest)) where
   by_pieces_within : (fuel : ℕ) (xs : List X) → length xs ≤ fuel → P xs
@@ -72,7 +73,7 @@ length-pieces_of n xs = length-first_chunks n (div_ceil (length xs) n) xs
     length-first_chunks n zero xs = refl
     length-first_chunks n (suc k) xs = ap suc (length-first_chunks n k (drop n xs))
 
--- m, filled up to the next multiple, is so many times n
+-- m, filled up to a multiple of n, is `div_ceil m n` times n
 pub up_to_multiple-fills : (n m : ℕ) → 0 < n → m + up_to_multiple n m ≡ div_ceil m n * n
 up_to_multiple-fills n m h = ⊎_elim part whole (cases_lt 0 (m % n))
   where
@@ -90,7 +91,7 @@ up_to_multiple-fills n m h = ⊎_elim part whole (cases_lt 0 (m % n))
         let c : div_ceil m n ≡ m / n + 1 = omega arith in
         omega (arith, div-add-mod' m n, ap (λ x. x * n) c)
 
--- the next multiple is at least the number, and the multiple before it is below
+-- the next multiple of n is at least m and less than m + n
 pub div_ceil-bounds : (m n : ℕ) → 0 < n → (m ≤ div_ceil m n * n) × (div_ceil m n * n < m + n)
 div_ceil-bounds m n h = div_ceil_times m n h
 

@@ -1,4 +1,4 @@
--- What a coded data set that was read gives a reading: the blocks that come next, or its fault.
+-- What a coded data set that was read stands for: how many blocks, which ones, and which are kept.
 use Rattle.std.proofs.Common.{◌≡◌, ℕ, suc, ◌+◌, ◌-◌, ◌%◌, ◌<◌, ◌≤◌, min, Bool, true, unwrap_or, Option, Some, None, ℤ, List, [], ◌∷◌, length, replicate, refl, sym, ap, ◌∙◌, arith, ⊎_elim}
 use Rattle.std.proofs.lemmas.Bool.{cases_lt, ltb-true}
 use Rattle.std.proofs.lemmas.List.{take_all, length-take, length-replicate}
@@ -21,7 +21,7 @@ run_count-as_run_len : (s : Settings) (p : ℕ) (told : Option ℕ) → run_coun
 run_count-as_run_len s p None = refl
 run_count-as_run_len s p (Some z) = refl
 
--- the number of a run's code stands for what its place makes of it
+-- a run's length, as it is read, means the same number of blocks as the number of its code
 pub run_count-run_len_of : (s : Settings) (p m : ℕ) → run_count s p (run_len_of m) ≡ run_len s p m
 run_count-run_len_of s p m = run_count-as_run_len s p (told_blocks m)
 
@@ -45,7 +45,7 @@ pub length-kept_blocks : (s : Settings) (count : Option ℕ) (i : ℕ) (blocks :
 length-kept_blocks s None i blocks = refl
 length-kept_blocks s (Some count) i blocks = omega (arith, length-take (div_ceil count s.block_size - i) blocks)
 
--- of one block or more, those that are kept
+-- a single block that is wanted is kept
 kept_one : (s : Settings) (count : Option ℕ) (bits : List Bool) (i b : ℕ) (block : Block) → is_wanted s count bits i b ≡ true
     → block ∷ [] ≡ kept_blocks s count i (block ∷ [])
 kept_one s None bits i b block wanted = refl

@@ -1,4 +1,4 @@
--- The codes of two intervals of equal length differ, whatever follows them.
+-- The codes of two different intervals of equal length differ, whatever bits follow them.
 use Rattle.std.proofs.Common.{◌≡◌, ℕ, ◌+◌, ◌<◌, ◌≤◌, Bool, List, [], ◌∷◌, ◌++◌, length, take, refl, sym, ap, ap₂, ◌∙◌, subst, arith}
 use Rattle.std.specs.Prelude.{ℤ}
 use Rattle.std.specs.List.{AllByRecursion, flat_map}
@@ -18,7 +18,7 @@ use Rattle.aec_interval.proofs.BlockLemmas.{length-blocks_of}
 use Rattle.aec_interval.proofs.IntervalLemmas.{ReadsBlocks-unpadded_bits}
 use Rattle.aec_interval.proofs.StreamLemmas.{padding_of, interval_bits-padded}
 
--- coded data sets that cover as many blocks are told by their bits
+-- coded data sets that reach from block p to block n and begin the same bits are equal
 pub same_covers : (s : Settings) (n p : ℕ) (sets later : List CodedDataSet) (x y : List Bool) → IsAllowed s → Covers s n p sets → Covers s n p later
     → flat_map (cds_bits s) sets ++ x ≡ flat_map (cds_bits s) later ++ y → (sets ≡ later) × (x ≡ y)
 same_covers s n p [] [] x y a h k e = (refl, e)
@@ -31,7 +31,7 @@ same_covers s n p (c ∷ sets) (d ∷ later) x y a h k e =
     (subst (λ d. Covers s n (p + block_count s p d) later) (sym first.0) k.2) first.1 in
     (ap₂ ◌∷◌ first.0 rest.0, rest.1)
 
--- the codes of intervals with equal numbers of blocks have equal blocks
+-- if codes for equal numbers of blocks begin the same bits, the blocks and the codes are equal
 same_readings : (s : Settings) (bits more x y : List Bool) (blocks others : List Block) → IsAllowed s → length blocks ≡ length others
     → ReadsBlocks s bits blocks → ReadsBlocks s more others → bits ++ x ≡ more ++ y → (blocks ≡ others) × (bits ≡ more)
 same_readings s bits more x y blocks others a len r t e =
@@ -42,7 +42,8 @@ same_readings s bits more x y blocks others a len r t e =
           ∙ sym t.spelled,
     )
 
--- intervals of equal length are told by their code, whatever follows it
+-- if the codes of two intervals of equal length begin the same bits, the intervals are equal, and
+-- the bits after them too
 pub equal_lengths : (s : Settings) (v w : List ℤ) (x y : List Bool) → IsAllowed s → AllByRecursion (IsHeld s) v → AllByRecursion (IsHeld s) w
     → 0 < length v → length v ≤ interval_len s → length v ≡ length w → interval_bits s v ++ x ≡ interval_bits s w ++ y → (v ≡ w) × (x ≡ y)
 equal_lengths s v w x y a h k some few len e =

@@ -1,4 +1,4 @@
--- Pieces behind one another are as one piece.
+-- Pieces that are fed one after the other are like one piece.
 use Rattle.std.proofs.Common.{◌≡◌, ℕ, ◌+◌, ◌/◌, ◌<◌, Bool, Option, Some, None, ℤ, List, ◌++◌, length, refl, sym, ap, ◌∙◌, subst, arith, append_assoc}
 use Rattle.std.proofs.lemmas.List.{length-append}
 use Rattle.aec_params.specs.declared.settings.Settings.{Settings}
@@ -16,7 +16,7 @@ use Rattle.aec_interval.proofs.TakingLemmas.{taken_behind, taken_groups-append, 
 
 -- ---- what two pieces complete
 
--- the groups of both
+-- the groups of both pieces
 groups_of_both : (c : Coder) (p q : List ℕ) → IsAllowed c.settings
     → byte_groups c.settings (c.rest ++ (p ++ q)) ≡ byte_groups c.settings (c.rest ++ p) ++ byte_groups c.settings ((fed c p).rest ++ q)
 groups_of_both c p q a =
@@ -75,7 +75,7 @@ fed-append c p q a none =
     (omega (arith, length-append (taken_of c p).samples (taken_of (fed c p) q).samples, ap (λ (t : TakenSamples). length t.samples) taken))
     (sym (ap (λ (t : TakenSamples). t.refusal) taken))
 
--- ---- one piece behind another
+-- ---- one piece after another
 
 bits_of_both : (c : Coder) (p q : List ℕ) (b0 b1 b2 : List Bool) → IsAllowed c.settings → (taken_of c p).refusal ≡ None
     → b1 ≡ b0 ++ fed_bits c p → b2 ≡ b1 ++ fed_bits (fed c p) q → b2 ≡ b0 ++ fed_bits c (p ++ q)
@@ -93,8 +93,7 @@ feeds_both c d e p q b0 b1 b2 a first second =
       coder = next.coder ∙ fed-append c p q a first.taken;
     }
 
--- samples that the second piece completes are among those that both do, and so are those of the
--- first
+-- if the second piece completes a sample, both together do; the same with the first
 more_samples : (c : Coder) (p q : List ℕ) → IsAllowed c.settings → (taken_of c p).refusal ≡ None → 0 < length (taken_of (fed c p) q).samples
     → 0 < length (taken_of c (p ++ q)).samples
 more_samples c p q a none some =
@@ -115,7 +114,7 @@ still_samples c p q a none some =
       ap (λ (t : TakenSamples). length t.samples) (taken_of-append c p q a none),
     )
 
--- a refusal of a piece is one of all pieces up to it
+-- a refusal of the second piece is a refusal of both pieces as one
 stops_next : (c : Coder) (p q : List ℕ) (b0 b1 b2 : List Bool) (fault : Fault) → IsAllowed c.settings → (taken_of c p).refusal ≡ None
     → b1 ≡ b0 ++ fed_bits c p → StopsFeeding (fed c p) q b1 b2 fault → StopsFeeding c (p ++ q) b0 b2 fault
 stops_next c p q b0 b1 b2 fault a none bits (refused f refusal e) =
@@ -140,7 +139,7 @@ pub stops_later : (c d : Coder) (p q : List ℕ) (b0 b1 b2 : List Bool) (fault :
 stops_later c d p q b0 b1 b2 fault a first stops =
     stops_next c p q b0 b1 b2 fault a first.taken first.bits (subst (λ x. StopsFeeding x q b1 b2 fault) first.coder stops)
 
--- whatever follows a refusal, it stays the refusal of all
+-- the refusal of a piece stays the same, whatever bytes follow
 pub stops_before : (c : Coder) (p q : List ℕ) (b0 b1 : List Bool) (fault : Fault) → IsAllowed c.settings → StopsFeeding c p b0 b1 fault
     → StopsFeeding c (p ++ q) b0 b1 fault
 stops_before c p q b0 b1 fault a (refused f refusal e) =

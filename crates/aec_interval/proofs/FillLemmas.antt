@@ -21,7 +21,7 @@ use Rattle.aec_interval.proofs.MappedLemmas.{mapped_after-replicate}
 use Rattle.aec_interval.proofs.FillingLemmas.{last_sample-kept}
 use Rattle.aec_interval.proofs.ChunkLemmas.{values_after-append, length-values_after, length-filled_block}
 
--- a full block of values that fit
+-- the values of samples are below 2^n; the block that they fill is full (`IsFull`)
 small_values : (s : Settings) (o : Option ℤ) (v : List ℤ) → IsAllowed s → HoldsPrevious s o → AllByRecursion (IsHeld s) v
     → AllByRecursion (λ m. m < 2 ^ s.bits) (values_after s o v)
 small_values s None v a h k = all-mapped_values s v a k
@@ -60,7 +60,7 @@ values-filled s o x last xs n size f =
     missing : n ≡ up_to_multiple s.block_size (length (x ∷ xs))
     missing = omega (arith, size, filled)
 
--- 0 stands in the reference place
+-- 0 is in the reference place, if there is one
 first-placed : (b : Bool) (r v : ℕ) (values : List ℕ) → HasReferencePlace (if b then Some r else None) ((if b then 0 else v) ∷ values)
 first-placed true r v values = refl
 first-placed false r v values = refl

@@ -1,4 +1,4 @@
--- The groups of a segment stand for its blocks, one behind the other.
+-- The groups of a segment stand for its blocks, in order.
 use Rattle.std.proofs.Common.{◌≡◌, ℕ, suc, ◌+◌, ◌-◌, ◌<◌, Bool, true, false, Option, Some, None, List, [], ◌∷◌, ◌++◌, length, replicate, refl, sym, ap, ap₂, ◌∙◌, subst, arith}
 use Rattle.std.specs.Prelude.{⊤, ◌==◌}
 use Rattle.std.specs.List.{flat_map, list_all}
@@ -12,7 +12,7 @@ use Rattle.aec_params.specs.Runs.{Group, zero_run, single_block, with_zero_block
 use Rattle.aec_interval.proofs.BlockLemmas.{AreDueFrom, later_reference}
 use Rattle.aec_params.specs.BlockShapes.{IsBlockOf, IsBlockAt}
 
--- the blocks that a group stands for, and how many they are
+-- the blocks that a group stands for, and their number
 abbrev pub group_blocks : Settings → Group → List Block
 group_blocks s (zero_run reference z) = zero_block s reference ∷ replicate (z - 1) (zero_block s None)
 group_blocks s (single_block b) = b ∷ []
@@ -21,7 +21,7 @@ abbrev pub group_len : Group → ℕ
 group_len (zero_run reference z) = z
 group_len (single_block b) = 1
 
--- a group as it is due at block p of an interval
+-- a group that can be at block p of an interval
 abbrev pub IsGroupAt : Settings → ℕ → Group → Type 0
 IsGroupAt s p (zero_run reference z) = (0 < z) × HasReference s (is_reference_block s p) reference
 IsGroupAt s p (single_block b) = IsBlockAt s p b
@@ -51,7 +51,7 @@ AreGroupsFrom-groups_of s p (b ∷ blocks) h =
     (λ _. groups-with_zero_block s p b.reference (groups_of blocks) h.0.reference later)
     (λ _. (h.0, groups-from_next s p (groups_of blocks) later))
 
--- ---- a segment's groups give its blocks back
+-- ---- a segment's groups stand for its blocks
 
 zeros-are : (values : List ℕ) → list_all (λ v. v == 0) values ≡ true → values ≡ replicate (length values) 0
 zeros-are [] h = refl

@@ -1,4 +1,4 @@
--- Samples put into the places behind those that are held.
+-- Samples put after others: all of them are held (`IsHeld`).
 use Rattle.std.proofs.Common.{◌≡◌, ℕ, ◌+◌, ◌≤◌, ℤ, List, ◌++◌, length, take, sym, ap, ◌∙◌, subst, arith, append_assoc, length-append}
 use Rattle.std.specs.List.{AllByRecursion}
 use Rattle.std.proofs.lemmas.List.{take-take, take_at, length-take-le}
@@ -6,7 +6,7 @@ use Rattle.aec_params.specs.declared.settings.Settings.{Settings}
 use Rattle.aec_params.specs.Params.{IsHeld}
 use Rattle.aec_params.proofs.ListLaws.{all-append}
 
--- the samples that were held in `old`, of which `xs` keeps all, and those behind them
+-- the first `len` samples of `old`, which `xs` keeps, and `out` after them are held
 pub held_behind : (s : Settings) (old xs out later all : List ℤ) (len end : ℕ) → all ≡ take len xs ++ (out ++ later) → len ≤ length old
     → take (length old) xs ≡ old → end ≡ len + length out → AllByRecursion (IsHeld s) (take len old) → AllByRecursion (IsHeld s) out
     → AllByRecursion (IsHeld s) (take end all)

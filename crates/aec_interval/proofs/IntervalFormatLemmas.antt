@@ -27,11 +27,11 @@ all-held s (x ∷ v) h =
     let parts = and_parts (is_held s x) (list_all (is_held s) v) h in
     (held_from (is_held s x) parts.0, all-held s v parts.1)
 
--- what the format has as an interval is held samples of one interval
+-- an interval of the format is held samples of one interval
 pub AreOfInterval-format : (s : Settings) (v : List ℤ) → IsInterval (interval_format s) v → AreOfInterval s v
 AreOfInterval-format s v h = record { held = all-held s v h.held; some = h.some; fits = h.few }
 
--- samples of which none is not held are an interval where they are few
+-- samples that all pass the test, at least one and no more than an interval has, are an interval
 pub interval_of_held : (s : Settings) (v : List ℤ) → first_unheld (is_held s) 0 v ≡ None → 0 < length v → length v ≤ interval_len s
     → IsInterval (interval_format s) v
 interval_of_held s v h some few = record { some = some; few = few; held = none-unheld 0 v h }
@@ -50,7 +50,7 @@ interval-most s allowed = let b = allowed.interval in grind (arith, nat_tests)
 pub interval_len-most : (s : Settings) → IsAllowed s → interval_len s ≤ 262144
 interval_len-most s a = mul-le-mul (block_size-most s a) (interval-most s a)
 
--- samples fit 64 bits
+-- samples fit signed 64 bits
 small_fits : (n : ℕ) → n < 2 ^ 32 → FitsSigned w64 (pos n)
 small_fits n h = omega (arith, ints)
 

@@ -1,4 +1,4 @@
--- An interval whose code stands somewhere in bits is read there, and nothing else is.
+-- If the code of an interval begins at a position, that interval is read there, and nothing else.
 use Rattle.std.proofs.Common.{◌≡◌, ℕ, ◌+◌, ◌-◌, ◌*◌, ◌<◌, ◌≤◌, Bool, true, false, nat_lt, Some, List, ◌++◌, length, take, refl, sym, ap, ap₂, ◌∙◌, subst, arith}
 use Rattle.std.proofs.Math.Nat.{mul_comm, zero-mul}
 use Rattle.std.specs.Prelude.{ℤ}
@@ -30,7 +30,7 @@ use Rattle.aec_interval.proofs.RoundTripLemmas.{FillBlocks-all_blocks_of}
 use Rattle.aec_interval.proofs.WalkLemmas.{same_blocks, no_reading_and_fault}
 use Rattle.aec_interval.proofs.IntervalFormatLemmas.{AreOfInterval-format}
 
--- behind other bits the code of an interval is read as its blocks
+-- if the code of an interval begins at position `start`, its blocks are read there
 IsBlockReading-behind : (s : Settings) (limit : ℕ) (pre rest bits : List Bool) (start : ℕ) (v : List ℤ) → IsAllowed s → AreOfInterval s v → start ≡ length pre
     → bits ≡ pre ++ (interval_bits s v ++ rest) → IsBlockReading s (Some (length v)) limit bits 0 start (blocks_of s v)
 IsBlockReading-behind s limit pre rest bits start v a h starts spelled =
@@ -57,7 +57,7 @@ IsBlockReading-interval s limit bits start count v a begins =
     (IsBlockReading-behind s limit (take start bits) begins.stands.0 bits start v a h (sym front)
     (sym (take-append-drop start bits) ∙ ap (◌++◌ (take start bits)) begins.stands.1)))
 
--- so what is read there is the interval's samples
+-- samples that are read where the code of an interval begins are that interval's samples
 pub read-interval : (s : Settings) (limit : ℕ) (bits : List Bool) (start count : ℕ) (samples v : List ℤ) → IsAllowed s
     → IsReadFrom s (Some count) limit bits start samples → BeginsAt (interval_format s) bits start count v → samples ≡ v
 read-interval s limit bits start count samples v a read begins =
@@ -68,7 +68,8 @@ read-interval s limit bits start count samples v a read begins =
     (subst (FillBlocks s read.all_samples) same read.filled) (FillBlocks-all_blocks_of s v a h.held) in
     read.counted ∙ ap (take count) filled ∙ take_at v _ count begins.length_is
 
--- where no more samples are asked for than an interval has, behind it nothing more is wanted
+-- if no more samples are asked for than an interval has, its first `count` samples are all that is
+-- read
 pub counted-interval : (s : Settings) (limit count : ℕ) (bits list : List Bool) (start next e : ℕ) (all counted : List ℤ) → IsAllowed s
     → count ≤ interval_len s → list ≡ bits → IsReached s (Some count) limit list 0 start next e all → IsGoneOver s (Some count) list 0 next e
     → counted ≡ counted_from s (Some count) 0 all → IsReadFrom s (Some count) limit bits start counted
@@ -86,7 +87,7 @@ counted-interval s limit count bits list start next e all counted a few same rea
         before_end next count s.block_size (block_size-positive s a) (ltb-true next (div_ceil count s.block_size) is) in
         absurd (omega (arith, fewer, few, ap (λ n. n * s.block_size) last, mul_comm s.interval s.block_size))
 
--- and it is refused for want of memory alone
+-- where the code of an interval begins, a reading with its count is refused only with `Memory`
 pub memory-alone : (s : Settings) (limit : ℕ) (bits : List Bool) (start count : ℕ) (v : List ℤ) (fault : Fault) → IsAllowed s
     → RefusesReading s (Some count) limit bits 0 start fault → BeginsAt (interval_format s) bits start count v → fault ≡ Memory
 memory-alone s limit bits start count v fault a (no_memory behind) begins = refl

@@ -1,4 +1,4 @@
--- How many samples are taken before one is refused, and why it is.
+-- How many samples are taken before one is refused, and why that one is refused.
 use Rattle.std.proofs.Common.{◌≡◌, ℕ, suc, ◌+◌, ◌-◌, ◌/◌, ◌≤◌, ◌<◌, min, Bool, true, false, Option, Some, None, unwrap_or, Result, Ok, Err, ℤ, List, [], ◌∷◌, ◌++◌, length, refl, sym, ap, ◌∙◌, arith, ⊎_elim}
 use Rattle.std.specs.Prelude.{nat_lt, if◌then◌else◌}
 use Rattle.std.specs.Result.{result_err}
@@ -14,11 +14,11 @@ use Rattle.aec_interval.proofs.TakingLemmas.{bad_behind, length-groups}
 
 -- ---- how many are taken: those before the first bad one, up to the limit
 
--- the place of the first bad one, or the place after the last
+-- the place of the first bad sample; `end` if there is none
 abbrev good_up_to : Result (List ℤ) ℕ → ℕ → ℕ
 good_up_to all end = unwrap_or (result_err all) end
 
--- sample i stands below the limit
+-- one sample more, if sample i is below the limit
 length_below : (o : Option ℤ) (limit i j n : ℕ) (taken : TakenSamples) (later : Result (List ℤ) ℕ) → i < limit
     → ((k : ℕ) → later ≡ Err k → j + 1 ≤ k)
     → length taken.samples ≡ min (good_up_to later (j + 1 + n) - (j + 1)) (limit - (i + 1))
@@ -64,7 +64,7 @@ pub length-taken_groups : (s : Settings) (limit i j : ℕ) (gs : List (List ℕ)
 length-taken_groups s limit i j [] = let none : 0 ≡ min (j + 0 - j) (limit - i) = omega arith in none
 length-taken_groups s limit i j (g ∷ gs) = length_step s limit i j g gs (λ _. length-taken_groups s limit (i + 1) (j + 1) gs)
 
--- the same of bytes, by their first bad sample
+-- how many samples of bytes are taken: those before the first bad one, up to the limit
 pub taken_count : (s : Settings) (limit count : ℕ) (bytes : List ℕ) (good n : ℕ) → n ≡ min good (limit - count)
     → good ≡ unwrap_or (result_err (samples_of_bytes s bytes)) (length bytes / storage_len s)
     → n ≡ length (taken_groups s limit count (byte_groups s bytes)).samples
@@ -80,7 +80,7 @@ few_step : (r : Result ℤ Fault) (n : ℕ) (later : TakenSamples) → length la
 few_step (Ok x) n later few = omega arith
 few_step (Err fault) n later few = omega arith
 
--- no more than there are
+-- no more samples are taken than there are groups
 pub few_taken_groups : (s : Settings) (limit i : ℕ) (gs : List (List ℕ)) → length (taken_groups s limit i gs).samples ≤ length gs
 few_taken_groups s limit i [] = omega arith
 few_taken_groups s limit i (g ∷ gs) =
@@ -93,7 +93,7 @@ all_step : (r : Result ℤ Fault) (n : ℕ) (later : TakenSamples) → suc n ≤
 all_step (Ok x) n later most ih = ih (omega arith)
 all_step (Err fault) n later most ih = absurd (omega arith)
 
--- none is refused where all are taken
+-- if all are taken, none is refused
 pub refusal-all_taken : (s : Settings) (limit i : ℕ) (gs : List (List ℕ)) → length gs ≤ length (taken_groups s limit i gs).samples
     → (taken_groups s limit i gs).refusal ≡ None
 refusal-all_taken s limit i [] all = refl
@@ -105,7 +105,7 @@ front_step : (r : Result ℤ Fault) (n : ℕ) (all front : TakenSamples) → suc
 front_step (Ok x) n all front most ih = ap suc (ih (omega arith))
 front_step (Err fault) n all front most ih = absurd (omega arith)
 
--- of fewer samples than are taken all are taken
+-- if all groups of a front are taken when others follow, all of them are taken alone
 pub length-front_taken : (s : Settings) (limit i : ℕ) (gs hs : List (List ℕ)) → length gs ≤ length (taken_groups s limit i (gs ++ hs)).samples
     → length (taken_groups s limit i gs).samples ≡ length gs
 length-front_taken s limit i [] hs most = refl
@@ -113,7 +113,7 @@ length-front_taken s limit i (g ∷ gs) hs most =
     front_step (judged_sample s limit i g) (length gs) (taken_groups s limit (i + 1) (gs ++ hs)) (taken_groups s limit (i + 1) gs) most
     (λ m. length-front_taken s limit (i + 1) gs hs m)
 
--- the refusal of sample i, which is judged first by the limit
+-- the refusal of sample i; t says whether i is below the limit, which is judged first
 abbrev fault_at : Bool → ℕ → ℕ → Fault
 fault_at t limit i = if t then SampleRange i else TooManySamples limit
 
@@ -132,7 +132,7 @@ refused_step false o limit i n later test few ih =
     let place : i ≡ i + 0 = omega arith in
     ap (λ t. Some (fault_at t limit i)) test ∙ ap (λ k. Some (refusal_at limit k)) place
 
--- the first that is not taken is refused
+-- the first sample that isn't taken is refused
 pub refusal-taken_groups : (s : Settings) (limit i : ℕ) (gs : List (List ℕ)) → length (taken_groups s limit i gs).samples < length gs
     → (taken_groups s limit i gs).refusal ≡ Some (refusal_at limit (i + length (taken_groups s limit i gs).samples))
 refusal-taken_groups s limit i [] few = absurd (omega arith)

@@ -1,4 +1,4 @@
--- How many blocks a sample count needs, told without a division.
+-- Whether a sample count needs more blocks, computed without a division.
 use Rattle.std.proofs.Common.{◌≡◌, ℕ, ◌*◌, ◌<◌, ◌≤◌, min, sym, ◌∙◌, inl, inr, arith}
 use Rattle.std.specs.Prelude.{nat_lt}
 use Rattle.std.specs.Int.{div_ceil}
@@ -9,8 +9,8 @@ use Rattle.aec_params.proofs.CountLaws.{before_end, past_end}
 enough-needed : (blocks product needed count : ℕ) → needed ≤ blocks → count ≤ product → nat_lt product count ≡ nat_lt blocks needed
 enough-needed blocks product needed count enough past = grind (arith, nat_tests)
 
--- a product that stops at the greatest number of 64 bits is below a count exactly where the whole
--- product is
+-- the product, capped at the greatest number of 64 bits, is below the count exactly if the count
+-- needs more blocks
 pub fewer-needed : (blocks size count : ℕ) → 0 < size → count < 18446744073709551616
     → nat_lt (min (blocks * size) 18446744073709551615) count ≡ nat_lt blocks (div_ceil count size)
 fewer-needed blocks size count some small =

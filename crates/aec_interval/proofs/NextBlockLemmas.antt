@@ -1,4 +1,4 @@
--- The blocks of samples with one block more: the blocks as they were, and that block.
+-- If samples gain one block, their blocks are the old ones and the new one.
 use Rattle.std.proofs.Common.{◌≡◌, ℕ, zero, suc, ◌+◌, ◌-◌, ◌*◌, ◌%◌, ◌<◌, ◌≤◌, ◌==◌, if◌then◌else◌, Option, None, ℤ, pos, List, [], ◌∷◌, ◌++◌, length, replicate, unwrap_or, refl, sym, ap, ap₂, append-nil, append_assoc, ◌∙◌, subst, arith, ⊎_elim}
 use Rattle.std.proofs.lemmas.List.{length-append}
 use Rattle.std.proofs.lemmas.Bool.{cases_lt, ne_eqb}
@@ -26,7 +26,7 @@ pub length-mapped_values : (s : Settings) (xs : List ℤ) → length (mapped_val
 length-mapped_values s [] = refl
 length-mapped_values s (x ∷ xs) = ap suc (length-mapped_after s x xs)
 
--- a first piece of a list of whole pieces is whole
+-- if a list has k * n elements, its first piece has n, and the rest a multiple of n
 pub front_full : (n a b k : ℕ) → 0 < n → a ≤ n → 0 < a → (0 < b → a ≡ n) → a + b ≡ k * n → (a ≡ n) × ((j : ℕ) × (b ≡ j * n))
 front_full n a b zero positive fits some full whole = absurd (omega (arith, zero-mul n))
 front_full n a b (suc k) positive fits some full whole = (is_full, (k, omega (arith, suc-mul k n, is_full)))
@@ -34,7 +34,7 @@ front_full n a b (suc k) positive fits some full whole = (is_full, (k, omega (ar
     is_full : a ≡ n
     is_full = ⊎_elim full (λ l. omega (arith, suc-mul k n)) (cases_lt 0 b)
 
--- whole blocks are not filled up
+-- whole blocks get no filler
 pub filled_samples-whole : (s : Settings) (v : List ℤ) → 0 < s.block_size → (k : ℕ) → length v ≡ k * s.block_size → filled_samples s v ≡ v
 filled_samples-whole s v positive k whole = ap (λ n. v ++ replicate n (last_sample v)) none ∙ append-nil v
   where
@@ -52,7 +52,7 @@ with_reference-push reference (first ∷ groups) values some =
     let first_block : Block = record { reference = reference; values = first } in
     ap (λ blocks. first_block ∷ blocks) (map-append block groups (values ∷ []))
 
--- pieces of whole length with one piece more
+-- one piece more after whole pieces
 pub pieces_of-push : {X : Type 0} (n : ℕ) → 0 < n → (xs ys : List X) (k : ℕ) → length xs ≡ k * n → length ys ≡ n
     → pieces_of n (xs ++ ys) ≡ pieces_of n xs ++ ys ∷ []
 pieces_of-push {X} n positive xs ys k whole last = by_pieces P n positive nothing step xs k whole
@@ -73,7 +73,7 @@ pieces_of-push {X} n positive xs ys k whole last = by_pieces P n positive nothin
 pub pieces_of-some : {X : Type 0} (n : ℕ) (xs : List X) → 0 < n → 0 < length xs → 0 < length (pieces_of n xs)
 pieces_of-some n xs positive some = omega (arith, length-pieces_of n xs, div_ceil-positive (length xs) n positive some)
 
--- whole blocks of one interval, and one block more of it
+-- one block more after whole blocks of one interval
 pub blocks_of-push : (s : Settings) (v ys : List ℤ) (k : ℕ) → 0 < s.block_size → 0 < length v → length v ≡ k * s.block_size → length ys ≡ s.block_size
     → blocks_of s (v ++ ys) ≡ blocks_of s v ++ (record { reference = None; values = mapped_after s (last_sample v) ys }) ∷ []
 blocks_of-push s [] ys k positive some whole last = absurd (omega arith)
@@ -115,7 +115,7 @@ pub last_sample-append : (xs ys : List ℤ) → 0 < length ys → last_sample (x
 last_sample-append xs [] some = absurd (omega arith)
 last_sample-append xs (y ∷ ys) some = ap (λ o. unwrap_or o (pos 0)) (last_or-append None xs (y ∷ ys))
 
--- the block that comes next depends on the rest behind whole intervals alone
+-- a whole interval before the other samples doesn't change the next block
 pub next_block_of-rest : (s : Settings) (front rest ys : List ℤ) → 0 < interval_len s → length front ≡ interval_len s
     → next_block_of s (front ++ rest) ys ≡ next_block_of s rest ys
 next_block_of-rest s front [] ys positive full =
@@ -127,7 +127,7 @@ next_block_of-rest s front (x ∷ rest) ys positive full =
     (ap (λ n. n % interval_len s) (length-append front (x ∷ rest) ∙ ap (λ n. n + length (x ∷ rest)) full) ∙ add-mod_left (interval_len s) (length (x ∷ rest)))
     (last_sample-append front (x ∷ rest) (omega arith))
 
--- at the start of an interval, and within one
+-- the next block at the start of an interval, and within one
 pub next_block_of-first : (s : Settings) (ys : List ℤ) → 0 < interval_len s
     → next_block_of s [] ys ≡ record { reference = reference_of s ys; values = mapped_values s ys }
 next_block_of-first s ys positive = ap (λ n. next_block_at s (n == 0) (pos 0) ys) (mod-eq_of_lt positive)
@@ -137,7 +137,8 @@ pub next_block_of-later : (s : Settings) (v ys : List ℤ) → 0 < length v → 
 next_block_of-later s v ys some within =
     ap (λ b. next_block_at s b (last_sample v) ys) (ap (λ n. n == 0) (mod-eq_of_lt within) ∙ ne_eqb (length v) 0 (λ e. absurd (omega arith)))
 
--- whole blocks behind a whole interval, and one more that fits an interval of them
+-- after a whole interval, whole blocks are left; and an interval that isn't full has room for one
+-- block more
 rest_whole : (j r k a b : ℕ) → a ≡ j * r → a + b ≡ k * j → b ≡ (k - r) * j
 rest_whole j r k a b is_full whole = omega (arith, mul-sub j k r, mul_comm j (k - r), mul_comm j k)
 
@@ -153,7 +154,7 @@ one_more_fits j r k a whole short = ⊎_elim below past (cases_lt k r)
     past : r ≤ k → a + j ≤ j * r
     past h = absurd (omega (arith, mul-le-mul_right j h, mul_comm j r))
 
--- whole blocks of samples, and one block more
+-- one block more after whole blocks
 pub all_blocks_of-push : (s : Settings) (xs ys : List ℤ) (k : ℕ) → 0 < s.block_size → 0 < s.interval → length xs ≡ k * s.block_size → length ys ≡ s.block_size
     → all_blocks_of s (xs ++ ys) ≡ all_blocks_of s xs ++ next_block_of s xs ys ∷ []
 all_blocks_of-push s xs ys k block interval whole last = by_pieces P (interval_len s) positive nothing step xs k whole

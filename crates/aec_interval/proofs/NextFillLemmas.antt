@@ -1,4 +1,4 @@
--- Samples taken back from the values of a block fill that block behind the blocks before.
+-- Samples that are unmapped from the values of a block fill that block after the blocks before it.
 use Rattle.std.proofs.Common.{◌≡◌, ℕ, zero, suc, ◌%◌, ◌<◌, ◌^◌, ◌==◌, ◌&&◌, if◌then◌else◌, Bool, true, false, Option, Some, None, ℤ, pos, List, [], ◌∷◌, ◌++◌, length, drop, unwrap_or, refl, sym, ap, ap₂, ◌∙◌, subst, append_assoc, arith, ◌-◌, neg_ℤ, int_le}
 use Rattle.std.proofs.lemmas.Bool.{le-leb}
 use Rattle.std.proofs.lemmas.Bool.Decides.{nat_tests}
@@ -42,7 +42,7 @@ pub reference-below : (s : Settings) (due : Bool) (r : ℕ) → HasReference s d
 reference-below s true r has = has
 reference-below s false r has = absurd has
 
--- without preprocessing no sample is predicted
+-- without preprocessing the prediction makes no difference
 pub mapped_values-plain : (s : Settings) (p : ℤ) (xs : List ℤ) → s.preprocess ≡ false → mapped_values s xs ≡ mapped_after s p xs
 mapped_values-plain s p [] plain = refl
 mapped_values-plain s p (x ∷ xs) plain =
@@ -104,15 +104,14 @@ fills_reference s old new r values x allowed next held pattern unmaps blocks fil
     (ap suc (sym (length-mapped_after s x unmaps.more) ∙ ap length unmaps.mapped) ∙ (ap length (sym next.place) ∙ next.count))
     (next_reference s (length old % interval_len s == 0) r x unmaps.more values (last_sample old) next.reference next.place pattern unmaps.mapped))
 
--- a sample at its own prediction
+-- a sample that equals its prediction maps to 0
 pub mapped_value-self : (s : Settings) (x : ℤ) → IsAllowed s → s.preprocess ≡ true → IsHeld s x → mapped_value s x x ≡ 0
 mapped_value-self s x allowed on held = mapped_value-offsets s x x allowed on held held ∙ at_itself (top_offset s) (sample_offset s x)
   where
     at_itself : (top a : ℕ) → mapped_offset top a a ≡ 0
     at_itself top a = grind (arith, nat_tests)
 
--- 0 is coded for the prediction alone: where it stands in the reference place, the reference sample
--- comes first
+-- only the prediction maps to 0, so a 0 in the reference place unmaps to the reference sample x
 unmaps-reference_place : (s : Settings) (x : ℤ) (values : List ℕ) (old new : List ℤ) → IsAllowed s → s.preprocess ≡ true → IsHeld s x
     → values ≡ 0 ∷ drop 1 values → Unmaps s x values old new → Unmaps s x (drop 1 values) (old ++ x ∷ []) new
 unmaps-reference_place s x values old new allowed on held placed unmaps =
@@ -133,7 +132,7 @@ unmaps-reference_place s x values old new allowed on held placed unmaps =
           mapped = ap (λ z. mapped_after s z ys) (sym same) ∙ later;
         }
 
--- ---- in the form in which the code has the facts
+-- ---- the same, stated by the code's variables
 
 pub values-below : (s : Settings) (b : Block) (old : List ℤ) (values : List ℕ) → IsNextBlock s old b → values ≡ b.values
     → AllByRecursion (λ v. v < 2 ^ s.bits) values

@@ -22,7 +22,7 @@ use Rattle.aec_interval.proofs.PartLemmas.{no_bits, part_count}
 length-byte_groups : (s : Settings) (part : List ℕ) (n : ℕ) → IsAllowed s → length part ≡ n * storage_len s → length (byte_groups s part) ≡ n
 length-byte_groups s part n a whole = length-groups (storage_len s) (length part / storage_len s) part ∙ part_count s part n a whole
 
--- all of some samples are taken
+-- samples that are all taken are a part
 part_of_taken : (u : Terms) (p : Progress) (part : List ℕ) (n : ℕ) → IsProgress u p → length part ≡ n * storage_len u.params → 0 < n
     → IsFewOrWhole (interval_len u.params) (length p.held + n)
     → length (taken_groups u.params u.limit p.count (byte_groups u.params part)).samples ≡ n → IsPart u p part
@@ -42,7 +42,7 @@ part_of_taken u p part n h whole some fills taken =
       within = omega (arith, part_count s part n h.held.allowed whole, taken, few, h.within, some);
     }
 
--- a front of some samples, no more than are taken
+-- a front of samples, no longer than what is taken of them, is a part
 front_of_taken : (u : Terms) (p : Progress) (judged front later : List ℕ) (n taken : ℕ) → IsProgress u p → judged ≡ front ++ later
     → length front ≡ n * storage_len u.params → 0 < n → IsFewOrWhole (interval_len u.params) (length p.held + n)
     → taken ≡ length (taken_groups u.params u.limit p.count (byte_groups u.params judged)).samples → n ≤ taken → IsPart u p front
@@ -55,7 +55,7 @@ front_of_taken u p judged front later n taken h cut whole some fills many within
     part_of_taken u p front n h whole some fills
     (length-front_taken s u.limit p.count (byte_groups s front) (byte_groups s later) (omega (arith, len, many, within, all)) ∙ len)
 
--- a sample of the next interval is refused
+-- if a sample is refused before the next interval is complete, the bytes are refused
 part_refused : (u : Terms) (p : Progress) (bytes judged later : List ℕ) (bits : List Bool) (n taken : ℕ) → IsProgress u p
     → bytes ≡ judged ++ later → length judged ≡ n * storage_len u.params
     → taken ≡ length (taken_groups u.params u.limit p.count (byte_groups u.params judged)).samples → taken < n
@@ -72,7 +72,7 @@ part_refused u p bytes judged later bits n taken h cut whole many fewer few =
     ∙ ap (λ k. Some (refusal_at u.limit (p.count + k))) (sym many))
     (no_bits s bits (samples_with c judged) a (omega (arith, length-append p.held (taken_of c judged).samples, many, few)))))
 
--- ---- how long it is
+-- ---- how long the part is
 
 mul_within : (n m w : ℕ) → n ≤ m / w → n * w ≤ m
 mul_within n m w few = omega (arith, mul-le-mul_right w few, div-mul-le_self m w)
@@ -109,7 +109,7 @@ none_begun (suc held) n i taken begun most few = absurd (omega (arith, begun (om
 pub front_bytes : (bytes : List ℕ) (w i n taken : ℕ) → n ≤ length bytes / w → taken ≤ n → (taken - taken % i) * w ≤ length bytes
 front_bytes bytes w i n taken few fewer = mul_within (taken - taken % i) (length bytes) w (omega (arith, few, fewer))
 
--- the whole intervals before a sample that is refused
+-- of the first n samples, the whole intervals that are taken are a part
 pub front_of_first : (u : Terms) (p : Progress) (bytes : List ℕ) (w interval held n taken : ℕ) → IsProgress u p → w ≡ storage_len u.params
     → interval ≡ interval_len u.params → held ≡ length p.held → n ≤ length bytes / w → (0 < held → held + n ≤ interval)
     → taken ≡ taken_of_first u p bytes (n * w) → interval ≤ taken → IsPart u p (take ((taken - taken % interval) * w) bytes)
@@ -133,7 +133,7 @@ within_interval : (held n i taken : ℕ) → (0 < held → held + n ≤ i) → t
 within_interval zero n i taken begun fewer below = omega arith
 within_interval (suc held) n i taken begun fewer below = omega (arith, begun (omega arith), fewer)
 
--- a sample of the interval that comes next is refused
+-- if one of the first n samples is refused, in the next interval, the bytes are refused
 pub first_refused : (u : Terms) (p : Progress) (bytes : List ℕ) (bits : List Bool) (w interval held n taken : ℕ) → IsProgress u p
     → w ≡ storage_len u.params → interval ≡ interval_len u.params → held ≡ length p.held → n ≤ length bytes / w
     → (0 < held → held + n ≤ interval) → taken ≡ taken_of_first u p bytes (n * w) → taken < n → taken < interval

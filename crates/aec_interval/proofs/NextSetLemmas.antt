@@ -1,4 +1,4 @@
--- The block of a coded data set comes next where the coded data set does.
+-- If a coded data set can come next, the block that it stands for can come next.
 use Rattle.std.proofs.Common.{◌≡◌, ℕ, zero, suc, ◌-◌, ◌%◌, ◌≤◌, true, Option, None, ℤ, List, [], ◌∷◌, take, replicate, refl, ap, ◌∙◌, subst, sub-one, arith}
 use Rattle.std.proofs.Math.Nat.{mod-lt}
 use Rattle.std.proofs.lemmas.Bool.{le-leb}
@@ -14,7 +14,7 @@ use Rattle.aec_interval.specs.NextBlock.{IsNextBlock, run_blocks}
 use Rattle.aec_interval.specs.Reached.{AreFilled}
 use Rattle.aec_interval.proofs.ZeroRunLemmas.{next_in_place}
 
--- a coded data set that stands for one block, and that comes next
+-- the only block that a coded data set stands for can come next
 pub single_next : (s : Settings) (i : ℕ) (samples : List ℤ) (reference : Option ℕ) (body : Body) (b : Block) → IsAllowed s → AreFilled s i samples
     → HasShape s (is_reference_block s (i % s.interval)) (record { reference = reference; body = body })
     → has_small_values s (record { reference = reference; body = body }) ≡ true → body_blocks s (i % s.interval) body ≡ 1
@@ -26,7 +26,7 @@ single_next s i samples reference body b allowed filled shape small one is =
     let at = blocks_in-shape s i reference body allowed shape.reference shape.body small within in
     next_in_place s i samples b allowed filled (subst (AreBlocksFrom s i) is at).0
 
--- the front of a run's blocks
+-- the first k blocks of a run
 pub run_front : (s : Settings) (reference : Option ℕ) (z k : ℕ) → 1 ≤ k → k ≤ z
     → take k (zero_block s reference ∷ replicate (z - 1) (zero_block s None)) ≡ run_blocks s reference k
 run_front s reference z zero some within = absurd (omega arith)

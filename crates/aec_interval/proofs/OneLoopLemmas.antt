@@ -46,7 +46,7 @@ drop_piece n l front (y ∷ later) piece most =
 
 -- ---- bits
 
--- an interval's bits, padded where the settings ask for it
+-- an interval's bits, padded if the settings ask for it
 abbrev closed : Settings → List Bool → List Bool
 closed s bits = if s.pad then padded_to_byte bits else bits
 
@@ -61,7 +61,7 @@ closed-nil s = by_pad s.pad
 abbrev sets_bits : Settings → List Block → List Bool
 sets_bits s blocks = flat_map (cds_bits s) (block_sets s blocks)
 
--- the bits of an interval's blocks behind a run, of which the first m belong to the run's segment
+-- the bits of a run and of the blocks after it; the first m blocks belong to the run's segment
 abbrev bits_left : Settings → ℕ → Run → List Block → List Bool
 bits_left s m run blocks = pending_bits s run (take m blocks) ++ sets_bits s (drop m blocks)
 
@@ -75,7 +75,7 @@ first_segment s front rest whole e piece =
     ∙ ap (λ segments. flat_map (cds_bits s) (flat_map (λ segment. group_sets s (groups_of segment)) segments)) (pieces_of-cons 64 front rest piece)
     ∙ flat_map-append (cds_bits s) (group_sets s (groups_of front)) (block_sets s rest)
 
--- a segment begins
+-- at the start of a segment there is no run, and the segment has up to 64 blocks
 sets_bits-segment : (s : Settings) (blocks : List Block) → sets_bits s blocks ≡ bits_left s 64 no_run blocks
 sets_bits-segment s [] = ap₂ (λ xs ys. pending_bits s no_run xs ++ sets_bits s ys) (sym (take-nil 64)) (sym (drop-nil 64))
 sets_bits-segment s (b ∷ blocks) = segment_first s (b ∷ blocks) (omega arith)
@@ -87,10 +87,11 @@ sets_bits-segment s (b ∷ blocks) = segment_first s (b ∷ blocks) (omega arith
       full = λ more. omega (arith, length-take 64 blocks, length-drop 64 blocks);
     })
 
--- ---- where the loop is
+-- ---- the state of the loop
 
--- bits are written, and samples are left: of a segment's run, m blocks of the segment, l samples of
--- the interval that begins at a bit, and the intervals behind it
+-- `new` is written, and the code of `rest` will complete it to `whole`: a run is still to be
+-- written, its segment takes m blocks more, and the interval, whose bits begin at `start`, l
+-- samples more
 pub record StreamAt (s : Settings) (m l : ℕ) (o : Option ℤ) (run : Run) (start : ℕ) (old new whole : List Bool) (rest : List ℤ) : Type 0 where
   pub previous_held : HoldsPrevious s o
   pub held : AllByRecursion (IsHeld s) rest
@@ -98,7 +99,7 @@ pub record StreamAt (s : Settings) (m l : ℕ) (o : Option ℤ) (run : Run) (sta
   pub kept : IsKept old new
   pub bits : take start new ++ (closed s (drop start new ++ bits_left s m run (blocks_after s o (take l rest))) ++ stream_of s (drop l rest)) ≡ whole
 
--- what is written in place of bits that were left
+-- bits are written, after which u is left instead of t
 replaced : (s : Settings) (start : ℕ) (new newer t u later whole : List Bool) → start ≤ length new → IsKept new newer → newer ++ u ≡ new ++ t
     → take start new ++ (closed s (drop start new ++ t) ++ later) ≡ whole → take start newer ++ (closed s (drop start newer ++ u) ++ later) ≡ whole
 replaced s start new newer t u later whole within kept written before =
@@ -163,7 +164,7 @@ at-block s m l k n o p run next start old new newer whole rest chunk later h is_
         ∙ append_assoc new (pending_bits s run (b ∷ take m bs)) rest_bits
         ∙ ap (λ j. new ++ bits_left s j run (b ∷ bs)) (sym is_k)
 
--- nothing of the segment is left
+-- the segment has no blocks left
 pub none_of_segment : (s : Settings) (m : ℕ) (run : Run) (blocks : List Block) → m ≡ 0
     → bits_left s m run blocks ≡ pending_bits s run [] ++ sets_bits s blocks
 none_of_segment s m run blocks e = ap (λ j. bits_left s j run blocks) e
@@ -176,7 +177,7 @@ none_of_interval s m l o run rest h e =
     ∙ ap₂ (λ xs ys. pending_bits s run xs ++ sets_bits s ys) (take-nil m) (drop-nil m)
     ∙ ap (λ xs. pending_bits s run [] ++ sets_bits s xs) (sym none)
 
--- a segment's run is written at its end
+-- at the end of a segment, its run is written
 pub at-segment_end : (s : Settings) (m l : ℕ) (o : Option ℤ) (run : Run) (start : ℕ) (old new newer whole : List Bool) (rest : List ℤ)
     → StreamAt s m l o run start old new whole rest
     → bits_left s m run (blocks_after s o (take l rest)) ≡ pending_bits s run [] ++ sets_bits s (blocks_after s o (take l rest))
@@ -281,7 +282,7 @@ at-inside s place m o p run start old new whole chunk later some is_m last at =
     (sym (last ∙ last_taken o chunk some))
     (subst (λ k. StreamAt s k (s.block_size * (s.interval - (place + 1))) (last_or o chunk) run start old new whole later) is_m at)
 
--- the last run of an interval is written, and the interval closed
+-- the last run of an interval is written, and the interval is closed
 pub at-closed : (s : Settings) (m l : ℕ) (o : Option ℤ) (run : Run) (start : ℕ) (old new middle newer whole : List Bool) (rest : List ℤ)
     → 0 < s.block_size → StreamAt s m l o run start old new whole rest → take l rest ≡ [] → drop l rest ≡ rest
     → middle ≡ new ++ bits_of_run s run.reference run.blocks true
@@ -300,7 +301,7 @@ none_left j i p xs past =
 interval_some : (s : Settings) → 0 < s.block_size → 0 < s.interval → 0 < interval_len s
 interval_some s h some = omega (arith, mul-le 1 1 s.block_size s.interval (omega arith) (omega arith))
 
--- the samples' end
+-- the end of the samples
 pub at-last : (s : Settings) (m l : ℕ) (o : Option ℤ) (run : Run) (start : ℕ) (old new middle newer whole : List Bool) (rest : List ℤ)
     → 0 < s.block_size → 0 < s.interval → StreamAt s m l o run start old new whole rest → rest ≡ []
     → middle ≡ new ++ bits_of_run s run.reference run.blocks true
@@ -312,7 +313,7 @@ at-last s m l o run start old new middle newer whole rest h some at e written pa
     sym (append-nil newer) ∙ ap (λ xs. newer ++ xs) (sym (ap (stream_of s) e ∙ stream_of-nil s (interval_some s h some)))
     ∙ at-closed s m l o run start old new middle newer whole rest h at none all written padded
 
--- an interval's beginning
+-- the beginning of an interval
 pub at-first : (s : Settings) → IsAllowed s → (start : ℕ) (old new whole : List Bool) (rest : List ℤ) → start ≡ length new → IsKept old new
     → AllByRecursion (IsHeld s) rest → new ++ stream_of s rest ≡ whole
     → StreamAt s (64 - 0 % 64) (s.block_size * (s.interval - 0)) None no_run start old new whole rest

@@ -25,8 +25,8 @@ use Rattle.aec_interval.proofs.PlaceLemmas.{length-cds_blocks}
 use Rattle.aec_interval.proofs.RunLengthLemmas.{length-run}
 use Rattle.aec_interval.proofs.CostLemmas.{group_cost, block_cost, groups_of-zeros, run_set, run_code-at_end, body_step}
 
--- the bits of the blocks from place p of an interval on: the rest of the segment, and then the
--- other segments
+-- how many blocks a segment takes from place p on; and the number of bits of the blocks from place
+-- p on: the rest of the segment, and then the other segments
 abbrev room : ℕ → ℕ
 room p = 64 - p % 64
 
@@ -59,7 +59,7 @@ cost_from-segment s p (b ∷ blocks) h =
     ∙ ap length (sym (flat_map-append (cds_bits s) (group_sets s (groups_of front)) (block_sets s rest)))
     ∙ ap (λ sets. length (flat_map (cds_bits s) sets)) (sym cut) ∙ ap (block_cost s) (take-append-drop 64 whole)
 
--- one coded data set that stands for just the blocks in front of the others
+-- blocks cost no more bits than one coded data set that stands for their front, and the rest
 set_step : (s : Settings) (p : ℕ) (c : CodedDataSet) (rest : List Block) → IsAllowed s → p < s.interval → IsLawfulAt s p c
     → p + block_count s p c + length rest ≤ s.interval
     → AreDueFrom s p (cds_blocks s p c ++ rest)
@@ -106,7 +106,7 @@ set_step s p c rest a h l fits due = ⊎_elim inside (λ e. at_end (omega (arith
         let alone = ap (λ u. group_cost s (groups_of u)) (append-nil front) in
         omega arith
 
--- ---- the last coded data set, which goes past the blocks
+-- ---- the last coded data set, if it goes past the blocks
 
 overhang : (s : Settings) (p : ℕ) (reference : Option ℕ) (body : Body) (blocks : List Block) → p < s.interval
     → IsLawfulAt s p (record { reference = reference; body = body })
@@ -140,8 +140,8 @@ overhang s p reference (zero_blocks m) blocks h l some more e =
 
 -- ---- all coded data sets
 
--- a coded data set that ends within the blocks, if what is behind it costs no more than the others
--- have
+-- a coded data set that ends within the blocks: if the blocks after it cost no more than the other
+-- sets, all blocks cost no more than all sets
 exact_step : (s : Settings) (n p : ℕ) (c : CodedDataSet) (sets : List CodedDataSet) (blocks : List Block) → IsAllowed s → p < s.interval → n ≤ s.interval
     → IsLawfulAt s p c
     → AreDueFrom s p blocks → p + length blocks ≡ n → take (length blocks) (covered_blocks s p (c ∷ sets)) ≡ blocks → block_count s p c ≤ length blocks
@@ -225,7 +225,7 @@ unpadded_bits-optimal s (x ∷ v) bits a held some fits r =
     let least = optimal_from s (length blocks) 0 r.sets blocks a (blocks-few s (x ∷ v) a fits) r.covers due (omega arith) r.stand_for in
     omega (arith, cost_from-segment s 0 blocks refl, ap length r.spelled)
 
--- without padding the code of an interval has no more bits than its coded data sets
+-- without padding, the code of an interval is as long as its unpadded bits
 unpadded : (s : Settings) (v : List ℤ) → s.pad ≡ false → length (interval_bits s v) ≡ length (unpadded_bits s v)
 unpadded s v e = ap length (cond-false s.pad (padded_to_byte (unpadded_bits s v)) (unpadded_bits s v) e)
 

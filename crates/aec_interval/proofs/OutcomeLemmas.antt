@@ -1,4 +1,4 @@
--- A reading or a fault always stands: the walk goes on until no coded data set is wanted or
+-- Bits always have a reading or a fault: the walk goes on until no coded data set is wanted or
 -- something is wrong.
 use Rattle.std.proofs.Common.{◌≡◌, ℕ, zero, suc, ◌+◌, ◌-◌, ◌^◌, ◌%◌, ◌<◌, ◌≤◌, min, Bool, true, false, Option, List, [], ◌∷◌, ◌++◌, length, drop, refl, sym, ap, ◌∙◌, arith, inl, inr, ◌⊎◌, ⊎_elim}
 use Rattle.std.specs.Prelude.{◌==◌, ◌&&◌}
@@ -19,7 +19,7 @@ use Rattle.aec_block.specs.ReadAt.{nothing, taken, cds_at}
 use Rattle.aec_block.proofs.CodewordLemmas.{cases_taken}
 use Rattle.aec_block.proofs.SetLemmas.{id_len-positive, what_is_read_is_spelled, nothing_is_read_where_none_begins}
 
--- ---- a coded data set has bits, so that the walk gets ahead
+-- ---- a coded data set has at least one bit, so the walk moves forward
 
 identifier-positive : (s : Settings) (body : Body) → 0 < length (identifier s body)
 identifier-positive s (uncompressed_values values) = omega (arith, length-binary (id_len s) (2 ^ id_len s - 1), id_len-positive s)
@@ -34,7 +34,7 @@ length-cds_bits-positive s c = omega (
   identifier-positive s c.body,
 )
 
--- one that stands there ends within the bits
+-- a coded data set that is at a position ends within the bits
 pub stands-within : (s : Settings) (bits : List Bool) (b : ℕ) (c : CodedDataSet) → StandsAt s bits b c → b + length (cds_bits s c) ≤ length bits
 stands-within s bits b c h =
     omega (
@@ -81,7 +81,7 @@ set_or_none s t bits b a = ⊎_elim none (λ r. some r.0 r.1.0 r.1.1) (cases_tak
 -- ---- the walk
 
 module _ (s : Settings) (a : IsAllowed s) (count : Option ℕ) (limit : ℕ) (bits : List Bool) where
-  -- what the bits are from block i and position b on
+  -- the bits from block i at position b on have a reading or a fault
   abbrev pub Outcome : ℕ → ℕ → Type 0
   Outcome i b = ((blocks : List Block) × IsBlockReading s count limit bits i b blocks) ⊎ ((fault : Fault) × IsFault s count limit bits i b fault)
 
@@ -91,7 +91,7 @@ module _ (s : Settings) (a : IsAllowed s) (count : Option ℕ) (limit : ℕ) (bi
   failed : (i b : ℕ) (fault : Fault) → is_wanted s count bits i b ≡ true → IsWrongAt s count limit bits i b fault → Outcome i b
   failed i b fault e w = inr (fault, record { sets = []; block = i; bit = b; leads = (refl, refl); wanted = e; wrong = w })
 
-  -- one coded data set before what is behind it
+  -- the outcome before a lawful coded data set within the limit, from the outcome after it
   before : (i b : ℕ) (c : CodedDataSet) → is_wanted s count bits i b ≡ true → StandsAt s bits b c → IsLawfulAt s (i % s.interval) c
       → keeps_limit s count limit (next_block s i c) ≡ true → Outcome (next_block s i c) (next_begin s bits i b c) → Outcome i b
   before i b c e x l k (inl r) =
@@ -104,7 +104,7 @@ module _ (s : Settings) (a : IsAllowed s) (count : Option ℕ) (limit : ℕ) (bi
       let h = r.1 in
       inr (r.0, record { sets = c ∷ h.sets; block = h.block; bit = h.bit; leads = (e, x, l, k, h.leads); wanted = h.wanted; wrong = h.wrong })
 
-  -- what a coded data set that stands there leads to
+  -- the outcome before any coded data set, from the outcome after it
   judged : (i b : ℕ) (c : CodedDataSet) → is_wanted s count bits i b ≡ true → IsSetAt s (is_reference_block s (i % s.interval)) bits b c
       → Outcome (next_block s i c) (next_begin s bits i b c) → Outcome i b
   judged i b c e h later =
@@ -117,7 +117,7 @@ module _ (s : Settings) (a : IsAllowed s) (count : Option ℕ) (limit : ℕ) (bi
       (λ large. failed i b (ValueTooLarge b) e (not_read _ (too_large c h large)))
       (cases_Bool (has_small_values s c))
 
-  -- the outcome at a place, from the outcomes behind what stands there
+  -- the outcome at a place, from the outcome after each coded data set that is there
   step : (i b : ℕ) → ((c : CodedDataSet) → IsSetAt s (is_reference_block s (i % s.interval)) bits b c
       → Outcome (next_block s i c) (next_begin s bits i b c)) → Outcome i b
   step i b later = ⊎_elim wanted (finished i b) (cases_Bool (is_wanted s count bits i b))
@@ -131,6 +131,6 @@ module _ (s : Settings) (a : IsAllowed s) (count : Option ℕ) (limit : ℕ) (bi
   outcome_within (suc fuel) i b h =
       step i b (λ c at. outcome_within fuel (next_block s i c) (next_begin s bits i b c) (omega (arith, next_begin-ahead s bits i b c at.stands)))
 
-  -- a reading or a fault stands
+  -- each place has a reading or a fault
   pub outcome : (i b : ℕ) → Outcome i b
   outcome i b = outcome_within (suc (length bits)) i b (omega arith)

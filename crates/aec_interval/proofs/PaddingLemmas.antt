@@ -1,4 +1,4 @@
--- The padding of an interval, whose bits begin at a bit of the list.
+-- The padding of an interval whose bits begin within a list.
 use Rattle.std.proofs.Common.{◌≡◌, ℕ, zero, suc, ◌-◌, ◌%◌, ◌/◌, ◌^◌, ◌≤◌, Bool, true, false, List, ◌∷◌, ◌++◌, length, take, drop, replicate, refl, sym, ap, ◌∙◌, arith, if◌then◌else◌}
 use Rattle.std.specs.Prelude.{◌==◌}
 use Rattle.std.proofs.Math.Nat.{zero-div}
@@ -12,7 +12,7 @@ pub binary-zeros : (w : ℕ) → binary w 0 ≡ replicate w false
 binary-zeros zero = refl
 binary-zeros (suc w) = ap (λ l. (0 / 2 ^ w % 2 == 1) ∷ l) (binary-zeros w) ∙ ap (λ n. (n % 2 == 1) ∷ replicate w false) (zero-div (2 ^ w))
 
--- padded up from a bit on
+-- zeros are appended that pad the bits from `start` on
 pub closed-padded : (s : Settings) (start n : ℕ) (old new : List Bool) → start ≤ length old → n ≡ length old → s.pad ≡ true
     → new ≡ old ++ binary ((8 - (n - start) % 8) % 8) 0 → new ≡ take start old ++ (if s.pad then padded_to_byte (drop start old) else drop start old)
 closed-padded s start n old new within is_n pad written =

@@ -1,4 +1,4 @@
--- The bytes of some samples of a piece, and the piece as a whole.
+-- Parts of a piece, which are the bytes of some samples, and the piece as a whole.
 use Rattle.std.proofs.Common.{◌≡◌, ℕ, zero, suc, ◌+◌, ◌-◌, ◌*◌, ◌/◌, ◌<◌, ◌≤◌, inl, inr, Bool, None, ℤ, List, [], ◌++◌, length, take, drop, refl, sym, ap, ◌∙◌, subst, arith, append-nil, append_assoc}
 use Rattle.std.specs.Prelude.{Result, Ok, Err, OnOk, OnErr, IfErr, MatchResult}
 use Rattle.std.specs.List.{AllByRecursion}
@@ -26,14 +26,14 @@ use Rattle.aec_interval.specs.declared.stream_coder.pieces.Terms.{Terms}
 use Rattle.aec_interval.proofs.PieceLemmas.{whole_front-few, left_behind-few_all, whole_front-all, left_behind-none, stream_of-none}
 use Rattle.aec_interval.proofs.FeedingLemmas.{coding_of, same_coding, feeds_both, stops_later, stops_before}
 
--- no bits more where fewer samples are there than an interval has
+-- fewer samples than an interval has add no bits
 pub no_bits : (s : Settings) (bits : List Bool) (held : List ℤ) → IsAllowed s → length held < interval_len s
     → bits ≡ bits ++ stream_of s (whole_front (interval_len s) held)
 no_bits s bits held a few =
     sym (append-nil bits)
     ∙ ap (λ l. bits ++ l) (sym (ap (stream_of s) (whole_front-few (interval_len s) held few) ∙ stream_of-none s a))
 
--- they are those of whole intervals
+-- samples that fill an interval, and are `IsFewOrWhole`, are whole intervals
 whole_count : (n m : ℕ) → n ≤ m → IsFewOrWhole n m → m ≡ m / n * n
 whole_count n m most (inl few) = absurd (omega arith)
 whole_count n m most (inr whole) = omega (arith, whole, div-add-mod' m n)
@@ -50,7 +50,7 @@ complete_bits s bits held xs a same most whole =
     ap (λ l. bits ++ stream_of s l) (same ∙ sym (whole_front-all (interval_len s) (length held / interval_len s) held (interval_len-positive s a)
     (whole_count (interval_len s) (length held) most whole)))
 
--- want of memory at samples that are not refused, and nothing was appended
+-- `Memory` at good samples, with nothing appended, is a refusal
 no_memory_here : (u : Terms) (p : Progress) (g : List ℕ) (before after : List Bool) (xs : List ℤ) (fault : Fault)
     → IsProgress u p → taken_groups u.params u.limit p.count (byte_groups u.params g) ≡ all_taken xs → 0 < length xs → fault ≡ Memory → after ≡ before
     → StopsFeeding (coder_at u p []) g before after fault
@@ -62,7 +62,7 @@ no_memory_here u p g before after xs fault h taken some memory same =
     (omega (arith, len, some, length-append p.held (taken_of c g).samples)) (omega (arith, len, some))
     (same ∙ sym (append-nil before) ∙ ap (λ l. before ++ l) (sym (stream_of-none u.params h.held.allowed))))
 
--- samples are taken
+-- good samples are taken
 samples_fed : (u : Terms) (p : Progress) (kept : List ℤ) (many n : ℕ) (g : List ℕ) (before after : List Bool) (xs : List ℤ)
     → IsProgress u p → length g ≡ n * storage_len u.params → taken_groups u.params u.limit p.count (byte_groups u.params g) ≡ all_taken xs
     → kept ≡ left_behind (interval_len u.params) (p.held ++ xs) → many ≡ p.count + length xs
@@ -95,7 +95,7 @@ part_count s part n a whole = div-eq_of_eq-mul_left (omega (arith, storage-least
 
 -- ---- a part is taken
 
--- want of memory for them
+-- `Memory` with nothing appended refuses a part
 pub part_no_memory : (u : Terms) (p : Progress) (part : List ℕ) (before after : List Bool) (fault : Fault) → IsProgress u p
     → IsPart u p part → fault ≡ Memory → after ≡ before → StopsFeeding (coder_at u p []) part before after fault
 part_no_memory u p part before after fault h k memory same =
@@ -104,7 +104,7 @@ part_no_memory u p part before after fault h k memory same =
     omega (arith, length-samples_of_bytes u.params part read.0 read.1, part_count u.params part k.samples h.held.allowed k.whole, k.some) in
     no_memory_here u p part before after read.0 fault h (good_taken u p part read.0 read.1 k.within) some memory same
 
--- they are taken
+-- a part is taken
 part_fed : (u : Terms) (p : Progress) (kept more : List ℤ) (many w : ℕ) (part : List ℕ) (before after : List Bool) → IsProgress u p
     → IsPart u p part → w ≡ storage_len u.params → samples_behind p.held (samples_of_bytes u.params part) ≡ Ok more
     → kept ≡ left_behind (interval_len u.params) more → many ≡ p.count + length part / w
@@ -118,7 +118,7 @@ part_fed u p kept more many w part before after h k width behind held count bits
     (held ∙ ap (left_behind (interval_len u.params)) joined) (count ∙ ap (λ w. p.count + length part / w) width ∙ ap (λ n. p.count + n) (sym len))
     (bits ∙ ap (λ l. before ++ stream_of u.params (whole_front (interval_len u.params) l)) joined)
 
--- they are taken, and are fewer than an interval has with those that are held
+-- a part is taken, and with the held samples it fills no interval
 pub part_held : (u : Terms) (p : Progress) (more : List ℤ) (many w : ℕ) (part : List ℕ) (bits : List Bool) → IsProgress u p
     → IsPart u p part → w ≡ storage_len u.params → samples_behind p.held (samples_of_bytes u.params part) ≡ Ok more
     → many ≡ p.count + length part / w → length more < interval_len u.params
@@ -127,7 +127,7 @@ part_held u p more many w part bits h k width behind count few =
     part_fed u p more more many w part bits bits h k width behind (sym (left_behind-few_all (interval_len u.params) more few)) count
     (no_bits u.params bits more h.held.allowed few)
 
--- they are taken, and the intervals that are complete then are coded
+-- a part completes intervals: they are coded, or the refusal is `Memory`
 pub part_coded : (u : Terms) (p : Progress) (kept more samples : List ℤ) (many w : ℕ) (part : List ℕ) (before after : List Bool)
     (result : Result (Unit {0}) Fault) → IsProgress u p → IsPart u p part → w ≡ storage_len u.params
     → samples_behind p.held (samples_of_bytes u.params part) ≡ Ok more → length more ≡ length p.held + length part / storage_len u.params
@@ -144,7 +144,7 @@ part_coded u p kept more samples many w part before after (Ok _) h k width behin
     part_fed u p kept more many w part before after h k width behind (none ∙ none_held u.params more a most whole) count
     (ok ∙ complete_bits u.params before more samples a same most whole)
 
--- samples of an incomplete interval are held, no more of them so far than the limit
+-- after a part, fewer samples are held than an interval has, and their count keeps the limit
 pub still_progress : (u : Terms) (p : Progress) (held : List ℤ) (many w : ℕ) (part : List ℕ) → IsProgress u p → IsPart u p part
     → w ≡ storage_len u.params → many ≡ p.count + length part / w → AllByRecursion (IsHeld u.params) held → length held < interval_len u.params
     → IsProgress u (record { held = held; count = many })
@@ -154,21 +154,21 @@ still_progress u p held many w part h k width count samples few =
       within = omega (arith, count, ap (λ w. length part / w) width, k.within);
     }
 
--- none are held
+-- after a part, no samples are held
 pub none_progress : (u : Terms) (p : Progress) (held : List ℤ) (many w : ℕ) (part : List ℕ) → IsProgress u p → IsPart u p part
     → w ≡ storage_len u.params → many ≡ p.count + length part / w → held ≡ [] → IsProgress u (record { held = held; count = many })
 none_progress u p held many w part h k width count none =
     subst (λ (l : List ℤ). IsProgress u (record { held = l; count = many })) (sym none)
     (still_progress u p [] many w part h k width count tt (interval_len-positive u.params h.held.allowed))
 
--- the same are held
+-- the same samples are held as before
 pub same_progress : (u : Terms) (p : Progress) (held : List ℤ) → IsProgress u p → held ≡ p.held → IsProgress u (record { held = held; count = p.count })
 same_progress u p held h same =
     record { held = subst (λ (l : List ℤ). AreHeldFew u.params l) (sym same) h.held; within = h.within }
 
 -- ---- a piece
 
--- no sample is complete
+-- a piece completes no sample
 pub short_fed : (u : Terms) (p : Progress) (rest piece longer : List ℕ) (bits : List Bool) → IsProgress u p
     → longer ≡ rest ++ piece → length rest + length piece < storage_len u.params
     → Feeds (coder_at u p rest) piece bits bits (coder_at u p longer)
@@ -187,7 +187,7 @@ short_fed u p rest piece longer bits h longer_is few =
           (omega (arith, ap (λ (t : TakenSamples). length t.samples) none)) (sym (ap (λ (t : TakenSamples). t.refusal) none));
     }
 
--- nothing is taken yet
+-- an empty piece changes nothing
 nothing_fed : (u : Terms) (p : Progress) (bits : List Bool) → IsProgress u p
     → Feeds (coder_at u p []) [] bits bits (coder_at u p [])
 nothing_fed u p bits h = short_fed u p [] [] [] bits h refl (omega (arith, storage-least u.params h.held.allowed))
@@ -195,7 +195,7 @@ nothing_fed u p bits h = short_fed u p [] [] [] bits h refl (omega (arith, stora
 pub cut_at : (n : ℕ) (xs front behind : List ℕ) → front ≡ take n xs → behind ≡ drop n xs → xs ≡ front ++ behind
 cut_at n xs front behind e f = sym (take-append-drop n xs) ∙ ap (λ l. l ++ drop n xs) (sym e) ∙ ap (λ l. front ++ l) (sym f)
 
--- the bytes that were left and those of the piece make a sample together
+-- a refusal of `rest` and `front` together is a refusal of `front` after `rest`
 rest_stops : (u : Terms) (p : Progress) (rest front : List ℕ) (before after : List Bool) (fault : Fault)
     → StopsFeeding (coder_at u p []) (rest ++ front) before after fault → StopsFeeding (coder_at u p rest) front before after fault
 rest_stops u p rest front before after fault (refused f refusal bits) = refused f refusal bits
@@ -215,7 +215,7 @@ rest_refused u p rest g piece front behind before after fault a e cut stops =
     (stops_before (coder_at u p rest) front behind before after fault a
     (rest_stops u p rest front before after fault (subst (λ l. StopsFeeding (coder_at u p []) l before after fault) e stops)))
 
--- a part that is no longer than a sample is the sample
+-- a part of the bytes of one sample is the whole sample
 whole_sample : (u : Terms) (p : Progress) (sample : List ℕ) (n : ℕ) → length sample ≡ storage_len u.params → n ≤ length sample
     → IsPart u p (take n sample) → take n sample ≡ sample
 whole_sample u p sample n len within k = take_all n sample (omega (arith, len, within, length-take-le n sample within, least k.samples k.some k.whole))
@@ -224,14 +224,14 @@ whole_sample u p sample n len within k = take_all n sample (omega (arith, len, w
     least zero some e = absurd (omega arith)
     least (suc m) some e = omega arith
 
--- a part of the sample that was begun and is completed is that sample
+-- a part of the sample that `front` completes is that sample
 pub completed_sample : (u : Terms) (p : Progress) (rest front sample : List ℕ) (n width have : ℕ) → sample ≡ rest ++ front
     → length front ≡ width - have → width ≡ storage_len u.params → have ≡ length rest → length rest < storage_len u.params
     → n ≤ length sample → IsPart u p (take n sample) → take n sample ≡ rest ++ front
 completed_sample u p rest front sample n width have e len is_width is_rest short within k =
     whole_sample u p sample n (omega (arith, ap length e, length-append rest front, len, is_width, is_rest, short)) within k ∙ e
 
--- the sample that was begun is taken
+-- the sample that was begun is completed and taken
 pub rest_completed : (u : Terms) (p q : Progress) (rest g piece front left : List ℕ) (before after : List Bool) → g ≡ rest ++ front
     → piece ≡ front ++ left → Feeds (coder_at u p []) g before after (coder_at u q [])
     → FeedsFront (coder_at u p rest) piece left before after (coder_at u q [])
@@ -239,7 +239,7 @@ rest_completed u p q rest g piece front left before after e cut feeds =
     let both = subst (λ l. Feeds (coder_at u p []) l before after (coder_at u q [])) e feeds in
     record { front = front; cut = cut; feeds = record { taken = both.taken; bits = both.bits; coder = both.coder } }
 
--- more of the piece is taken
+-- another part of the piece is taken
 pub front_longer : (c d e : Coder) (piece left part later : List ℕ) (b0 b1 b2 : List Bool) → IsAllowed c.settings → FeedsFront c piece left b0 b1 d
     → left ≡ part ++ later → Feeds d part b1 b2 e → FeedsFront c piece later b0 b2 e
 front_longer c d e piece left part later b0 b1 b2 a h cut feeds =
@@ -249,13 +249,13 @@ front_longer c d e piece left part later b0 b1 b2 a h cut feeds =
       feeds = feeds_both c d e h.front part b0 b1 b2 a h.feeds feeds;
     }
 
--- a refusal of the bytes that are left is one of the piece
+-- a refusal of the bytes that are left is a refusal of the piece
 pub left_refused : (c d : Coder) (piece left : List ℕ) (b0 b1 b2 : List Bool) (fault : Fault) → IsAllowed c.settings
     → FeedsFront c piece left b0 b1 d → StopsFeeding d left b1 b2 fault → StopsFeeding c piece b0 b2 fault
 left_refused c d piece left b0 b1 b2 fault a h stops =
     subst (λ l. StopsFeeding c l b0 b2 fault) (sym h.cut) (stops_later c d h.front left b0 b1 b2 fault a h.feeds stops)
 
--- and so is one of a part of them
+-- a refusal of a part of the bytes that are left is a refusal of the piece
 pub part_stops : (c d : Coder) (piece left part later : List ℕ) (b0 b1 b2 : List Bool) (fault : Fault) → IsAllowed c.settings
     → FeedsFront c piece left b0 b1 d → left ≡ part ++ later → StopsFeeding d part b1 b2 fault → StopsFeeding c piece b0 b2 fault
 part_stops c d piece left part later b0 b1 b2 fault a h cut stops =
@@ -263,7 +263,7 @@ part_stops c d piece left part later b0 b1 b2 fault a h cut stops =
     (subst (λ l. StopsFeeding d l b1 b2 fault) (sym cut)
     (stops_before d part later b1 b2 fault (subst (λ (x : Coder). IsAllowed x.settings) (sym h.feeds.coder) a) stops))
 
--- the bytes that are left are kept
+-- the bytes that are left complete no interval, and the piece is taken
 pub left_kept : (c d e : Coder) (piece left : List ℕ) (b0 b1 : List Bool) → IsAllowed c.settings → FeedsFront c piece left b0 b1 d
     → Feeds d left b1 b1 e → Feeds c piece b0 b1 e
 left_kept c d e piece left b0 b1 a h feeds =
@@ -271,7 +271,7 @@ left_kept c d e piece left b0 b1 a h feeds =
 
 -- ---- the end
 
--- the samples that are held, at least one, are an interval's
+-- the held samples, at least one, are coded as an interval
 pub finished_bits : (c d : Coder) (samples : List ℤ) (before after : List Bool) → c ≡ d → samples ≡ c.held → 0 < length c.held
     → IsAllowed c.settings → length c.held < interval_len c.settings → after ≡ before ++ interval_bits c.settings samples
     → after ≡ before ++ stream_of d.settings d.held

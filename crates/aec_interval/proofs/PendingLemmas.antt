@@ -1,4 +1,4 @@
--- A segment behind a run that is still to be written: a block that is none of zeros, and the end.
+-- A run that is still to be written: a block follows it that isn't all zeros, or its segment ends.
 use Rattle.std.proofs.Common.{◌≡◌, ℕ, zero, suc, Bool, true, false, Option, None, List, [], ◌∷◌, ◌++◌, if◌then◌else◌, length, take, sym, ap, ◌∙◌, refl, append-nil, append_assoc}
 use Rattle.std.specs.List.{flat_map}
 use Rattle.std.proofs.lemmas.List.{take_at}
@@ -24,7 +24,7 @@ bits-run_before : (s : Settings) (reference : Option ℕ) (z : ℕ) (b : Block) 
 bits-run_before s reference zero b groups = refl
 bits-run_before s reference (suc z) b groups = refl
 
--- the run is written, then the block, and nothing is left to be written
+-- the run is written, then the block, and then no run is left to be written
 pub pending-filled : (s : Settings) (run : Run) (b : Block) (rest : List Block) (old mid new : List Bool) → is_zero_block b ≡ false
     → mid ≡ old ++ bits_of_run s run.reference run.blocks false → new ≡ mid ++ shortest_bits s b
     → new ++ pending_bits s (record { reference = None; blocks = 0 }) rest ≡ old ++ pending_bits s run (b ∷ rest)
@@ -38,7 +38,7 @@ pending-filled s run b rest old mid new filled is_mid is_new =
     ∙ ap (λ g. flat_map (cds_bits s) (group_sets s (with_run run.reference run.blocks g))) (sym
     (ap (λ t. if t then with_zero_block b.reference (groups_of rest) else single_block b ∷ groups_of rest) filled)))))
 
--- ---- bits from before
+-- ---- bits that are kept
 
 pub kept-append : (bits more new : List Bool) → new ≡ bits ++ more → IsKept bits new
 kept-append bits more new e = ap (take (length bits)) e ∙ take_at bits more (length bits) refl

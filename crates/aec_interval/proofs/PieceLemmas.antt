@@ -1,5 +1,5 @@
--- Lists cut behind their last whole piece, and groups of bytes and intervals of samples behind one
--- another.
+-- Lists cut after their last whole piece; groups of bytes, and intervals of samples, one after the
+-- other.
 use Rattle.std.proofs.Common.{◌≡◌, ℕ, zero, suc, ◌+◌, ◌*◌, ◌/◌, ◌<◌, List, [], ◌∷◌, ◌++◌, length, take, drop, sym, ap, append-nil, append_assoc, ◌∙◌, arith, ℤ}
 use Rattle.std.proofs.Math.Nat.{add-mul-div_right, div-eq_of_lt}
 use Rattle.std.proofs.lemmas.List.{take_at, drop_at, take-append-drop, length-take, length-drop, length-append, nil_from_length}
@@ -25,7 +25,7 @@ length-whole_front n xs h = omega (arith, length-take (length xs / n * n) xs, di
 pub left_behind-few : {X : Type 0} (n : ℕ) (xs : List X) → 0 < n → length (left_behind n xs) < n
 left_behind-few n xs h = omega (arith, length-drop (length xs / n * n) xs, div-add-mod' (length xs) n, mod_below (length xs) n h)
 
--- so many pieces and less than one
+-- k whole pieces, and less than one piece
 whole_len : {X : Type 0} (n k : ℕ) (front back : List X) → length front ≡ k * n → length back < n → length front ≡ length (front ++ back) / n * n
 whole_len n k front back whole few =
     let count : length (front ++ back) / n ≡ k =
@@ -39,7 +39,7 @@ whole_front-cut n k front back whole few =
 pub left_behind-cut : {X : Type 0} (n k : ℕ) (front back : List X) → length front ≡ k * n → length back < n → left_behind n (front ++ back) ≡ back
 left_behind-cut n k front back whole few = drop_at front back (length (front ++ back) / n * n) (whole_len n k front back whole few)
 
--- what comes behind whole pieces and some more
+-- the whole pieces of xs, the whole pieces of its rest with ys, and what is left then
 regrouped : {X : Type 0} (n : ℕ) (xs ys : List X)
     → xs ++ ys ≡ (whole_front n xs ++ whole_front n (left_behind n xs ++ ys)) ++ left_behind n (left_behind n xs ++ ys)
 regrouped n xs ys =
@@ -66,14 +66,14 @@ left_behind-append n xs ys h =
     ∙ left_behind-cut n (length xs / n + length more / n) (whole_front n xs ++ whole_front n more) (left_behind n more) (regrouped_len n xs more h)
     (left_behind-few n more h)
 
--- fewer than a piece
+-- less than one piece
 pub whole_front-few : {X : Type 0} (n : ℕ) (xs : List X) → length xs < n → whole_front n xs ≡ []
 whole_front-few n xs few = whole_front-cut n 0 [] xs (omega arith) few
 
 pub left_behind-few_all : {X : Type 0} (n : ℕ) (xs : List X) → length xs < n → left_behind n xs ≡ xs
 left_behind-few_all n xs few = left_behind-cut n 0 [] xs (omega arith) few
 
--- just whole pieces
+-- only whole pieces
 pub whole_front-all : {X : Type 0} (n k : ℕ) (xs : List X) → 0 < n → length xs ≡ k * n → whole_front n xs ≡ xs
 whole_front-all n k xs h whole = ap (whole_front n) (sym (append-nil xs)) ∙ whole_front-cut n k xs [] whole h
 

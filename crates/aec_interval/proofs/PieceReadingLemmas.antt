@@ -1,5 +1,5 @@
--- Steps of a reading behind one another are the reading, and the refusal of one is the refusal of
--- all.
+-- Steps of a reading, one after the other, are the whole reading; the refusal of a step is a
+-- refusal of the whole.
 use Rattle.std.proofs.Common.{◌≡◌, ℕ, ◌+◌, ◌-◌, ◌*◌, ◌/◌, ◌%◌, ◌<◌, ◌≤◌, Bool, true, false, Option, Some, None, ℤ, List, [], ◌∷◌, ◌++◌, length, take, drop, refl, sym, ap, ap₂, ◌∙◌, subst, arith, append-nil, append_assoc, ⊎_elim}
 use Rattle.std.specs.Int.{div_ceil}
 use Rattle.std.specs.List.{AllByRecursion, flat_map}
@@ -40,7 +40,7 @@ all_both : {X : Type 0} (P : X → Type 0) (xs ys : List X) → AllByRecursion P
 all_both P [] ys h k = k
 all_both P (x ∷ xs) ys h k = (h.0, all_both P xs ys h.1 k)
 
--- as many blocks as whole intervals have
+-- the samples of i blocks fill whole intervals, if i is a multiple of r
 whole_intervals : (s : Settings) (i len : ℕ) → i % s.interval ≡ 0 → len ≡ i * s.block_size → len ≡ i / s.interval * interval_len s
 whole_intervals s i len begins is =
     is ∙ ap (λ n. n * s.block_size) (omega (arith, div-add-mod' i s.interval, begins)) ∙ regrouped (i / s.interval) s.interval s.block_size
@@ -124,7 +124,7 @@ module _ (s : Settings) (a : IsAllowed s) (count : Option ℕ) (limit : ℕ) (bi
   before-count : length before ≡ i
   before-count = omega (arith, length-stream_blocks s count limit bits 0 0 read.sets i b (interval-positive s a) read.leads)
 
-  -- ---- where no more is wanted
+  -- ---- if no more is wanted
 
   pub reading-of_all : is_wanted s count bits i b ≡ false → IsReading s count limit bits xs
   reading-of_all done = record {
@@ -158,12 +158,12 @@ module _ (s : Settings) (a : IsAllowed s) (count : Option ℕ) (limit : ℕ) (bi
         (LeadsTo-append s count limit bits 0 0 read.sets i b (h.sets ++ (h.last ∷ [])) h.block h.bit read.leads h.leads);
   })
 
-  -- where the whole has a reading, only memory can be missing
+  -- if all bits have a reading, only memory can be missing
   pub memory-only : (samples : List ℤ) (fault : Fault) → IsReading s count limit bits samples → RefusesReading s count limit bits i b fault → fault ≡ Memory
   memory-only samples fault whole (no_memory h) = refl
   memory-only samples fault whole (faulty f wrong) = absurd (no_reading_and_fault s a count limit bits 0 0 whole.blocks f whole.read (fault-of_all f wrong))
 
-  -- ---- where more is wanted
+  -- ---- if more is wanted
 
   module _ (wanted : is_wanted s count bits i b ≡ true) where
     kept-before : kept_blocks s count 0 before ≡ before
@@ -215,7 +215,7 @@ module _ (s : Settings) (a : IsAllowed s) (count : Option ℕ) (limit : ℕ) (bi
         same = refl;
       })
 
-      -- what was read is a front of the reading of all
+      -- the samples so far are a front of all samples
       rest-of_blocks : (samples : List ℤ) (whole : IsReading s count limit bits samples) (later : List Block) → IsBlockReading s count limit bits i b later
           → (ys : List ℤ) × (samples ≡ xs ++ ys)
       rest-of_blocks samples whole later h = (counted_from s count i back, samples-are)
@@ -251,7 +251,7 @@ module _ (s : Settings) (a : IsAllowed s) (count : Option ℕ) (limit : ℕ) (bi
 
 -- ---- by places
 
--- nothing was read at first
+-- nothing was read before the first bit
 pub has_read_nothing : (s : Settings) (count : Option ℕ) (limit : ℕ) (bits : List Bool) → HasRead (place_at s count limit bits 0 0) []
 has_read_nothing s count limit bits =
     let start = reached-start s count limit bits 0 0 0 [] refl refl in
@@ -261,41 +261,41 @@ has_read_nothing s count limit bits =
     none None = refl
     none (Some n) = sym (take_all (n - 0 * s.block_size) [] (omega arith))
 
--- one step is several
+-- one step is a case of several
 pub several-of_one : (p q : Place) (ys : List ℤ) → ReadsInterval p ys q → ReadsIntervals p ys q
 several-of_one p q ys step = record { wanted = step.wanted; begins = step.begins; piece = step.piece; ahead = step.ahead }
 
--- the samples of several steps behind those before them
+-- several steps append their samples
 pub has_read_several : (p q : Place) (xs ys : List ℤ) → IsAllowed p.settings → HasRead p xs → ReadsIntervals p ys q → HasRead q (xs ++ ys)
 has_read_several p q xs ys a read steps = read-more p.settings a p.count p.limit p.bits p.block p.bit xs read steps.wanted steps.begins ys q steps.piece
 
--- those of one
+-- one step appends its samples
 pub has_read_more : (p q : Place) (xs ys : List ℤ) → IsAllowed p.settings → HasRead p xs → ReadsInterval p ys q → HasRead q (xs ++ ys)
 has_read_more p q xs ys a read step = has_read_several p q xs ys a read (several-of_one p q ys step)
 
--- they are all where no more is wanted
+-- if no more is wanted, the samples so far are all samples
 pub has_read_all : (p : Place) (xs : List ℤ) → IsAllowed p.settings → HasRead p xs → is_wanted_at p ≡ false → IsReading p.settings p.count p.limit p.bits xs
 has_read_all p xs a read done = reading-of_all p.settings a p.count p.limit p.bits p.block p.bit xs read done
 
--- they fill whole intervals where more is wanted at the begin of one
+-- if more is wanted at the start of an interval, the samples so far fill whole intervals
 pub has_read_whole : (p : Place) (xs : List ℤ) → IsAllowed p.settings → HasRead p xs → is_wanted_at p ≡ true → p.block % p.settings.interval ≡ 0
     → length xs ≡ p.block / p.settings.interval * interval_len p.settings
 has_read_whole p xs a read wanted begins = intervals p.settings a p.count p.limit p.bits p.block p.bit xs read wanted begins
 
--- a refusal is that of all
+-- the refusal of a step is a refusal of the whole reading
 pub has_read_refused : (p : Place) (xs : List ℤ) (fault : Fault) → IsAllowed p.settings → HasRead p xs → RefusesAt p fault
     → RefusesReading p.settings p.count p.limit p.bits 0 0 fault
 has_read_refused p xs fault a read refuses =
     refusal-of_all p.settings a p.count p.limit p.bits p.block p.bit xs read fault (up_to-reading _ _ _ _ _ _ _ _ refuses)
 
--- the second time only memory can be missing
+-- if the bits have a reading, a step is refused only with `Memory`
 pub lacks_memory_only : (p : Place) (xs samples : List ℤ) (fault : Fault) → IsAllowed p.settings → HasRead p xs
     → IsReading p.settings p.count p.limit p.bits samples
     → RefusesAt p fault → fault ≡ Memory
 lacks_memory_only p xs samples fault a read whole refuses =
     memory-only p.settings a p.count p.limit p.bits p.block p.bit xs read samples fault whole (up_to-reading _ _ _ _ _ _ _ _ refuses)
 
--- what was read is a front of all: behind it comes more of them
+-- if the bits have a reading, the samples so far are a front of its samples
 pub has_read_front : (p : Place) (xs samples : List ℤ) → IsAllowed p.settings → HasRead p xs → (is_wanted_at p ≡ true → p.block % p.settings.interval ≡ 0)
     → IsReading p.settings p.count p.limit p.bits samples → (ys : List ℤ) × (samples ≡ xs ++ ys)
 has_read_front p xs samples a read begins whole =
@@ -306,7 +306,7 @@ has_read_front p xs samples a read begins whole =
           ∙ sym (append-nil xs),
     )) (cases_Bool (is_wanted_at p))
 
--- they are no more than the blocks up to the place hold
+-- the samples so far are at most those of the blocks before the place
 pub has_read_few : (p : Place) (xs : List ℤ) → IsAllowed p.settings → HasRead p xs → length xs ≤ p.block * p.settings.block_size
 has_read_few p xs a read = omega (arith, asked p.count read.counted, read.filled.whole, most)
   where

@@ -1,5 +1,5 @@
--- Where coded data sets stand in a stream: those that cover an interval lead through it, with one
--- skip at its end.
+-- Places of coded data sets in a stream: those that cover an interval lead through it, and bits are
+-- skipped only at its end.
 use Rattle.std.proofs.Common.{◌≡◌, ℕ, ◌+◌, ◌*◌, ◌%◌, ◌<◌, ◌≤◌, min, Bool, true, Option, Some, List, [], ◌∷◌, ◌++◌, length, refl, sym, ap, ap₂, ◌∙◌, subst, arith}
 use Rattle.std.specs.Prelude.{◌==◌, ◌&&◌, nat_lt}
 use Rattle.std.specs.List.{flat_map}
@@ -26,11 +26,11 @@ body_blocks-positive s p (zero_blocks m) h = run_len-some s p m h
 pub block_count-positive : (s : Settings) (p : ℕ) (c : CodedDataSet) → p < s.interval → 0 < block_count s p c
 block_count-positive s p c h = body_blocks-positive s p c.body h
 
--- a lawful one ends within its interval
+-- a lawful coded data set ends within its interval
 pub lawful-within : (s : Settings) (p : ℕ) (c : CodedDataSet) → IsLawfulAt s p c → p < s.interval → p + block_count s p c ≤ s.interval
 lawful-within s p c l h = let w = leb-true (block_count s p c) (segment_left s p) l.within in omega arith
 
--- the block behind coded data sets
+-- the block after coded data sets
 abbrev pub end_of : Settings → ℕ → List CodedDataSet → ℕ
 end_of s p [] = p
 end_of s p (c ∷ sets) = end_of s (p + block_count s p c) sets
@@ -62,7 +62,7 @@ stream_blocks-covered s n p k i (c ∷ sets) h few e =
     ap₂ ◌++◌ (ap (λ q. cds_blocks s q c) place)
     (stream_blocks-covered s n (p + block_count s p c) k (next_block s i c) sets h.2 few (omega (arith, ap (λ q. block_count s q c) place)))
 
--- ---- one walk behind another
+-- ---- one walk after another
 
 pub LeadsTo-append : (s : Settings) (count : Option ℕ) (limit : ℕ) (bits : List Bool) (i b : ℕ) (sets : List CodedDataSet) (j e : ℕ)
     (later : List CodedDataSet) (k f : ℕ)
@@ -88,13 +88,13 @@ StandsAt-front s pre c rest =
     drop-append_seam pre (cds_bits s c ++ rest)
     ∙ ap (◌++◌ (cds_bits s c)) (sym (drop-append-add pre (cds_bits s c ++ rest) (length (cds_bits s c)) ∙ drop-append_seam (cds_bits s c) rest))
 
--- no skip but at the start of an interval
+-- within an interval, no bits are skipped before a coded data set
 begin_of-inside : (s : Settings) (bits : List Bool) (i b : ℕ) → 0 < i % s.interval → begin_of s bits i b ≡ b
 begin_of-inside s bits i b h =
     cond-false (s.pad && (i % s.interval == 0)) (min (next_multiple_of b 8) (length bits)) b
     (and_right s.pad (i % s.interval == 0) (ne_eqb (i % s.interval) 0 (λ e. omega arith)))
 
--- the first coded data set of a walk, at block p of interval k, which the bits pre stand before
+-- the first coded data set of a walk: it is at block p of interval k, after the bits `pre`
 record IsFirstAt (s : Settings) (count p k i b : ℕ) (pre : List Bool) (c : CodedDataSet) (bits : List Bool) : Type 0 where
   wanted : nat_lt i (div_ceil count s.block_size) ≡ true
   stands : StandsAt s bits b c

@@ -1,5 +1,5 @@
--- Plain blocks: coded data sets of their own without a reference sample, which need no test of
--- their place.
+-- Plain blocks: each is one coded data set without a reference sample, and needs no test of its
+-- place.
 use Rattle.std.proofs.Common.{length, take, ◌≡◌, ℕ, ◌+◌, ◌-◌, ◌*◌, ◌/◌, ◌%◌, ◌<◌, ◌≤◌, ◌==◌, ◌&&◌, Bool, true, false, if◌then◌else◌, min, Option, Some, None, IfSome, unwrap_or, ⊎_elim, ◌^◌, Ok, Err, ℤ, List, [], ◌∷◌, ◌++◌, refl, sym, ap, ◌∙◌, subst, arith}
 use Rattle.std.proofs.Math.Nat.{mod-lt, mul-le-mul_right, le-mul_of_pos_right, div-mul-le_self, add-mul}
 use Rattle.std.proofs.lemmas.Grind.{div_ceil_times}
@@ -33,10 +33,10 @@ use Rattle.aec_interval.proofs.ReadIntervalLemmas.{place-behind}
 use Rattle.aec_interval.proofs.NextFillLemmas.{fills_block_plain}
 use Rattle.aec_interval.proofs.ReadNextLemmas.{next-cds, reached-next}
 
--- ---- where no test is needed
+-- ---- when no test is needed
 
--- blocks of an interval without the padding behind it, whose samples are within a count or the
--- limit
+-- no block before `last` needs a test: `last` is within the interval, and before its end if padding
+-- follows; the count, or else the limit, allows the samples up to it
 pub untested-within : (s : Settings) (count : Option ℕ) (limit first end pad last : ℕ) → IsAllowed s → limit ≤ 2 ^ 32 → IfSome count (λ n. n ≤ 2 ^ 32)
     → end ≡ first + s.interval → pad ≡ (if s.pad then 1 else 0) → last ≤ end - pad → last * s.block_size ≤ unwrap_or count limit
     → IsUntestedEnd s count limit first last
@@ -72,8 +72,8 @@ pub few_samples : (count : Option ℕ) (limit : ℕ) → limit ≤ 2 ^ 32 → If
 few_samples None limit low counted = low
 few_samples (Some n) limit low counted = counted
 
--- a block of the interval that begins at block `first`, which needs no test of its place, and a one
--- is left
+-- block i, of the interval that begins at block `first`, needs no test of its place, and a 1 bit is
+-- left
 module _ (s : Settings) (count : Option ℕ) (limit first end i : ℕ) (old : Cursor) (allowed : IsAllowed s) (aligned : first % s.interval ≡ 0) (after : first ≤ i)
     (ends : IsUntestedEnd s count limit first end) (before : i < end) (one : has_one (bits_at old) ≡ true) where
   wanted_by : (count : Option ℕ) → IsUntestedEnd s count limit first end → is_wanted s count old.list i old.pos ≡ true
@@ -113,7 +113,7 @@ module _ (s : Settings) (count : Option ℕ) (limit first end i : ℕ) (old : Cu
   pub untested-begins : (list : List Bool) (b : ℕ) → b ≡ begin_of s list (i + 1) b
   untested-begins list b = sym (ap (λ skips. if skips then min (next_multiple_of b 8) (length list) else b) (unpadded s.pad ends.unpadded))
 
--- a reading has come to such a block, which isn't the first of its interval
+-- a reading has come to a block that needs no test and isn't the first of its interval
 module _ (s : Settings) (wanted : Wanted) (end i : ℕ) (old : Cursor) (samples : List ℤ) (allowed : IsAllowed s) (here : IsUntestedAt s wanted end i old samples)
     (before : i < end) (one : has_one (bits_at old) ≡ true) where
   after : wanted.first ≤ i
@@ -133,7 +133,7 @@ module _ (s : Settings) (wanted : Wanted) (end i : ℕ) (old : Cursor) (samples 
   begins : (list : List Bool) (b : ℕ) → b ≡ begin_of s list (i + 1) b
   begins = untested-begins s wanted.count wanted.limit wanted.first end i old allowed here.aligned after here.untested before one
 
-  -- there a plain block was read
+  -- a plain block was read there
   module _ (new : Cursor) (values : List ℕ) (read : IsReadPlain s old new values) where
     pub plain-next : IsNextBlock s samples (block_of_values None values)
     plain-next =
@@ -151,7 +151,7 @@ module _ (s : Settings) (wanted : Wanted) (end i : ℕ) (old : Cursor) (samples 
       untested = here.untested;
     }
 
--- the samples of a plain block put behind those before it
+-- the samples of a plain block are put after those before it
 plain-fills : (s : Settings) (all part : List ℤ) (values : List ℕ) (p : ℤ) (at k n : ℕ) → IsAllowed s
     → IsNextBlock s (take at all) (block_of_values None values)
     → p ≡ last_sample (take at all) → n ≡ at + k → at + k ≤ length all → length part ≡ k → Unmaps s p values [] part
@@ -202,7 +202,7 @@ front_of_extended : (items more extended all : List ℤ) (b : Bool) (from : ℕ)
 front_of_extended items more extended all true from is same place = rw (same, is, place) (take-append_seam items more)
 front_of_extended items more extended all false from is same place = rw (same, is) (take_all from items (omega (arith, place)))
 
--- what was read into places that were added after samples, of which those that are filled are kept
+-- blocks were read into places that were added after the samples; only filled places are kept
 pub reads_kept : (s : Settings) (n j from : ℕ) (old new : Cursor) (items more extended all filled kept : List ℤ) (b : Bool)
     → extended ≡ (if b then items ++ more else items) → all ≡ extended → from ≡ length items → j ≡ s.block_size → kept ≡ take (from + n * j) filled
     → ReadsPlain s n old (take from all) new (take (from + n * s.block_size) filled) → ReadsPlain s n old items new kept
@@ -233,7 +233,7 @@ len-joined old mid new block next read size forward front more =
     let sum : next + read - block ≡ next - block + read = omega (arith, forward) in
     omega (arith, ap (λ n. n * size) sum, front, more, add-mul (next - block) read size)
 
--- a step of a reading from an untested block to the next
+-- a reading goes n blocks further, to a block that needs no test either
 pub untested_further : (s : Settings) (wanted : Wanted) (last next n : ℕ) (old start new : Cursor) (samples more : List ℤ) → start ≡ old
     → IsUntestedAt s wanted last next old samples → n ≤ last - next → ReadsPlain s n start samples new more → IsUntestedAt s wanted last (next + n) new more
 untested_further s wanted last next n old start new samples more same here few read =

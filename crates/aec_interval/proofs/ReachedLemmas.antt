@@ -1,4 +1,4 @@
--- A reading that has come so far comes one coded data set further.
+-- A reading goes one coded data set further.
 use Rattle.std.proofs.Common.{◌≡◌, ℕ, zero, suc, ◌+◌, ◌-◌, ◌%◌, ◌<◌, ◌≤◌, Bool, true, Option, Some, None, ℤ, List, [], ◌∷◌, ◌++◌, length, take, refl, sym, ap, ◌∙◌, subst, arith}
 use Rattle.std.proofs.Math.Nat.{mod-lt, sub-zero, suc-sub-suc}
 use Rattle.std.proofs.lemmas.List.{length-append, take_all}
@@ -16,7 +16,7 @@ use Rattle.aec_params.proofs.SettingLaws.{interval-positive}
 use Rattle.aec_interval.proofs.ReadingSteps.{LeadsTo-push, stream_blocks-push}
 use Rattle.aec_params.proofs.StreamLaws.{length-cds_blocks}
 
--- as many blocks as the coded data sets lead through
+-- coded data sets that lead from block i to block j stand for j - i blocks
 pub length-stream_blocks : (s : Settings) (count : Option ℕ) (limit : ℕ) (bits : List Bool) (i b : ℕ) (sets : List CodedDataSet) (j e : ℕ) → 0 < s.interval
     → LeadsTo s count limit bits i b sets j e → i + length (stream_blocks s i sets) ≡ j
 length-stream_blocks s count limit bits i b [] j e positive leads = omega (arith, leads.0)
@@ -31,7 +31,7 @@ take-append-past zero (x ∷ xs) ys within = absurd (omega arith)
 take-append-past (suc n) (x ∷ xs) ys within =
     ap (λ rest. x ∷ rest) (take-append-past n xs ys (omega arith) ∙ ap (λ k. xs ++ take k ys) (sym (suc-sub-suc n (length xs))))
 
--- blocks that are wanted are all kept, and of those behind them what is still needed
+-- if more is wanted after some blocks, all of these are kept, and those after them that are needed
 pub kept_blocks-append : (s : Settings) (count : Option ℕ) (bits : List Bool) (first i b : ℕ) (blocks more : List Block) → first + length blocks ≡ i
     → is_wanted s count bits i b ≡ true → kept_blocks s count first (blocks ++ more) ≡ blocks ++ kept_blocks s count i more
 kept_blocks-append s None bits first i b blocks more len wanted = refl
@@ -47,7 +47,7 @@ kept_blocks-wanted s (Some count) bits first i b blocks len wanted =
     let below = ltb-true i (div_ceil count s.block_size) wanted in
     take_all (div_ceil count s.block_size - first) blocks (omega arith)
 
--- where more is wanted, the samples fill as many blocks as were read
+-- if more is wanted, the samples fill all blocks that were read
 pub AreFilled-reached : (s : Settings) (count : Option ℕ) (limit : ℕ) (bits : List Bool) (first start i b : ℕ) (samples : List ℤ) → IsAllowed s
     → IsReached s count limit bits first start i b samples → is_wanted s count bits i b ≡ true → AreFilled s (i - first) samples
 AreFilled-reached s count limit bits first start i b samples allowed reached wanted =

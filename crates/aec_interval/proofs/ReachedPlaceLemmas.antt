@@ -1,4 +1,4 @@
--- Places that a reader comes to: where coded data sets lead from the first bit on.
+-- Places that a reader reaches: coded data sets lead there from the first bit on.
 use Rattle.std.proofs.Common.{◌≡◌, ℕ, ◌+◌, ◌%◌, ◌<◌, ◌≤◌, ◌^◌, min, Bool, true, false, ◌&&◌, ◌==◌, if◌then◌else◌, Option, List, [], ◌∷◌, ◌++◌, length, drop, sym, ap, subst, arith}
 use Rattle.std.proofs.lemmas.List.{length-append, length-drop}
 use Rattle.std.specs.Int.{next_multiple_of}

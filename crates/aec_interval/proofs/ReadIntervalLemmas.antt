@@ -1,4 +1,4 @@
--- One interval read from its start: how far it comes, and how much room its samples take.
+-- One interval read from its start: how far the reading comes, and how much room its samples take.
 use Rattle.std.proofs.Common.{max, ◌≡◌, ℕ, Bool, true, false, Option, ◌&&◌, nat_lt, List, refl, ◌+◌, ◌-◌, ◌*◌, ◌/◌, ◌%◌, ◌<◌, ◌≤◌, ◌^◌, sym, ap, ◌∙◌, subst, arith, Result, IfErr}
 use Rattle.std.proofs.Math.Nat.{mul-le-mul_right, add-mul-mod_self_right}
 use Rattle.std.proofs.lemmas.Nat.{div-add-mod', mod-mul-add}
@@ -14,14 +14,14 @@ use Rattle.aec_interval.specs.NextSet.{blocks_before_end}
 use Rattle.aec_interval.specs.Steps.{IsWantedNext, ComesNext, IsGoneOver}
 use Rattle.aec_interval.proofs.RefusalLemmas.{of_refusal}
 
--- so many blocks behind the start of an interval
+-- block i is at place i - first of the interval that begins at block `first`
 pub place-behind : (s : Settings) (first i : ℕ) → first % s.interval ≡ 0 → first ≤ i → i < first + s.interval → i % s.interval ≡ i - first
 place-behind s first i aligned after below =
     ap (λ n. n % s.interval) (omega (arith, div-add-mod' first s.interval, aligned, after))
     ∙ mod-mul-add (first / s.interval) s.interval (i - first) (omega (arith, after, below))
 
--- where no room is left for the blocks before the end of an interval, there was none for all of its
--- samples
+-- a capacity too small for the blocks up to the end of an interval is too small for a whole
+-- interval
 no_room : (s : Settings) (first i len capacity : ℕ) → first % s.interval ≡ 0 → first ≤ i → i < first + s.interval → len ≤ (i - first) * s.block_size
     → capacity < len + blocks_before_end s i * s.block_size → capacity < interval_len s
 no_room s first i len capacity aligned after below few full =
@@ -36,8 +36,8 @@ no_room s first i len capacity aligned after below few full =
 both_parts : (d e n j : ℕ) → d + e ≡ n → d * j + e * j ≡ n * j
 both_parts d e n j is = omega (arith, ap (λ n. n * j) is)
 
--- an interval that begins at block `first` and ends at block `end` was gone over up to block i at
--- position b, where more is wanted
+-- the interval of the blocks from `first` up to `end` was read or skipped up to block i at position
+-- b, where more is wanted
 pub record IsInside (s : Settings) (count : Option ℕ) (limit : ℕ) (bits : List Bool) (first i b end : ℕ) : Type 0 where
   pub wanted : IsWantedNext s count limit bits first i b
   pub after : first ≤ i
@@ -61,15 +61,15 @@ module _ (s : Settings) (count : Option ℕ) (limit : ℕ) (bits : List Bool) (f
   no_room-refuses len capacity before fault few grown full memory =
       omega (arith, no_room s first i len capacity inside.wanted.aligned inside.after before_end few (full memory), grown)
 
-  -- what holds of the refusal of a coded data set by the end of its interval holds by the end of
-  -- the interval that is gone over
+  -- what holds of a refusal up to the end of the interval of block i holds of it up to the end of
+  -- the interval that begins at block `first`
   pub by_its_end : {X : Type 0} (P : List Bool → ℕ → Fault → Type 0) (r : Result X Fault) (fault : Fault) (list : List Bool) → list ≡ bits
       → IsErrAnd r (λ e. e ≡ fault) → P list (i + blocks_before_end s i) fault → IfErr r (λ fault. P bits (first + s.interval) fault)
   by_its_end P r fault list same exit refuses =
       let ends : i + blocks_before_end s i ≡ first + s.interval = omega (arith, place, inside.after, before_end) in
       of_refusal r (P bits (first + s.interval)) fault exit (subst (λ e. P bits e fault) ends (subst (λ l. P l (i + blocks_before_end s i) fault) same refuses))
 
-  -- plain blocks behind a coded data set are no further on than where the interval ends
+  -- plain blocks that are read after a coded data set don't go past the end of the interval
   module _ (behind next : ℕ) (to : ComesNext s i behind) (after : behind ≤ next) (most : next ≤ max behind end) where
     pub comes-further : next < 2 ^ 34 → ComesNext s i next
     comes-further few = record {
@@ -85,12 +85,12 @@ module _ (s : Settings) (count : Option ℕ) (limit : ℕ) (bits : List Bool) (f
         both_parts (behind - i) (next - behind) (next - i) s.block_size (omega (arith, to.forward, after)) in
         omega (arith, both, few, more)
 
-  -- a coded data set before the end of an interval ends in it
+  -- a coded data set that begins in an interval ends in it
   module _ (next : ℕ) (further : ComesNext s i next) where
     next-within : next ≤ first + s.interval
     next-within = omega (arith, place, inside.after, before_end, further.within)
 
-    -- where the interval doesn't go on, but more is wanted, it has ended
+    -- if the loop ends though more is wanted, the interval has ended
     next-to_end : (wanted : Bool) → (nat_lt next end && wanted) ≡ false → wanted ≡ true → next ≡ first + s.interval
     next-to_end wanted done more =
         let past : end ≤ next = ltb-false next end (sym (ap (λ w. nat_lt next end && w) more ∙ and_true (nat_lt next end)) ∙ done) in

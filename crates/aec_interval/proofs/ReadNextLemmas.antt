@@ -1,4 +1,4 @@
--- One coded data set more, in the form in which the reader has the facts.
+-- One coded data set more, stated by the values that the reader has.
 use Rattle.std.proofs.Common.{◌≡◌, ℕ, ◌+◌, ◌-◌, ◌%◌, ◌<◌, ◌≤◌, Bool, true, false, Option, Some, None, ℤ, List, [], length, refl, sym, ap, ◌∙◌, subst, arith, Result, Ok, Err, IfErr, IfSome}
 use Rattle.std.proofs.Math.Nat.{zero-div, zero-mod, zero-mul, add-mul-mod_self_right, mul-le-mul_right}
 use Rattle.std.proofs.lemmas.Nat.{div-add-mod'}
@@ -33,7 +33,7 @@ use Rattle.aec_interval.specs.Skipping.{IsLedTo, IsFaultBefore}
 use Rattle.aec_interval.proofs.DecodeLemmas.{next-answer_of, front-answer_of}
 use Rattle.aec_interval.proofs.WantedSetLemmas.{MayStand, may_stand, unplaced-wrong, lawful, keeps-is, next-is, forward, comes-next as behind, leads-next, begin-is}
 
--- a fault before a block is a refusal up to it
+-- a fault before a block is a refusal up to that block
 pub refuses-fault : (s : Settings) (count : Option ℕ) (limit : ℕ) (bits : List Bool) (first start end : ℕ) (fault : Fault)
     → IsFaultBefore s count limit bits first start end fault → RefusesUpTo s count limit bits first start end fault
 refuses-fault s count limit bits first start end fault h = wrong_before fault h.wrong h.before
@@ -42,7 +42,7 @@ pub led-reached : (s : Settings) (count : Option ℕ) (limit : ℕ) (bits : List
     → IsReached s count limit bits first start i b samples → IsLedTo s count limit bits first start i b
 led-reached s count limit bits first start i b samples reached = record { sets = reached.sets; leads = reached.leads }
 
--- the coded data set that was read stands for as many blocks as one that was gone over
+-- a coded data set stands for the same number of blocks, whether it is read or skipped
 read_len-answer_of : (reference : Option ℕ) (body : Body) → read_len (answer_of reference body) ≡ body_len body
 read_len-answer_of reference (uncompressed_values values) = refl
 read_len-answer_of reference (value_pairs members) = refl
@@ -56,25 +56,25 @@ skipped-read s due old new c cds len len_is read = record {
   told = len_is ∙ (ap read_len read.answer ∙ read_len-answer_of c.reference c.body);
 }
 
--- behind whole intervals the places are the same
+-- counted from the start of an interval, block i has the same place in its interval
 pub same_place : (s : Settings) (first i behind : ℕ) → 0 < s.interval → first % s.interval ≡ 0 → first ≤ i → behind ≡ i - first
     → behind % s.interval ≡ i % s.interval
 same_place s first i behind positive aligned after is =
     sym (ap (λ n. n % s.interval) (omega (arith, div-add-mod' first s.interval, aligned, after, is))
     ∙ add-mul-mod_self_right behind (first / s.interval) s.interval)
 
--- so far as a reading has come it has not gone back
+-- a reading doesn't go back
 pub blocks_after : (s : Settings) (count : Option ℕ) (limit : ℕ) (bits : List Bool) (first start i b : ℕ) (samples : List ℤ) → IsAllowed s
     → IsReached s count limit bits first start i b samples → first ≤ i
 blocks_after s count limit bits first start i b samples allowed reached =
     omega (arith, length-stream_blocks s count limit bits first start reached.sets i b (interval-positive s allowed) reached.leads)
 
--- where there is no room for some blocks, there is none for more
+-- if there is no room for some blocks, there is none for more
 pub more_room : (kept left capacity len j : ℕ) → kept ≤ left → capacity < len + kept * j → capacity < len + left * j
 more_room kept left capacity len j most full = omega (arith, mul-le-mul_right j most, full)
 
 -- a reading has come to block i, where a coded data set is wanted and was read: `due` says whether
--- it has a reference, `len` for how many blocks it stands
+-- it has a reference, `len` how many blocks it stands for
 module _ (s : Settings) (count : Option ℕ) (limit : ℕ) (first start : ℕ) (old new : Cursor) (i : ℕ) (samples : List ℤ) (allowed : IsAllowed s)
     (reached : IsReached s count limit old.list first start i old.pos samples) (wanted : is_wanted s count old.list i old.pos ≡ true)
     (due : Bool) (cds : Cds) (len : RunLen) (due_is : due ≡ is_reference_block s (i % s.interval)) (len_is : len ≡ read_len cds)
@@ -97,7 +97,7 @@ module _ (s : Settings) (count : Option ℕ) (limit : ℕ) (first start : ℕ) (
       refuses-fault s count limit old.list first start (i + blocks_before_end s i) fault
       (unplaced-wrong s count limit first start old new i allowed led wanted due len due_is found_there bit fault at is)
 
-  -- it stands at its place
+  -- it is allowed there, and block `next` comes after it
   module _ (bit next : ℕ) (placed : Ok next ≡ block_behind s count limit i (run_count s (i % s.interval) len) bit) where
     stand : MayStand s count limit i (run_count s (i % s.interval) len) next
     stand = may_stand s count limit i (run_count s (i % s.interval) len) bit next placed
@@ -133,7 +133,7 @@ module _ (s : Settings) (count : Option ℕ) (limit : ℕ) (first start : ℕ) (
         by_count (Some n) wanted is =
             let below = ltb-true i (div_ceil n s.block_size) wanted in (omega (arith, forward-next, is, below), omega (arith, is))
 
-    -- as many blocks were read as come before it in its interval, or whole intervals more
+    -- what it stands for can come after the blocks that were read
     pub next-cds : (kept behind : ℕ) → first % s.interval ≡ 0 → behind ≡ i - first → kept ≡ kept_count s count i (next - i)
         → IsNextCds s behind samples kept cds
     next-cds kept behind aligned behind_is is =
@@ -169,7 +169,7 @@ pub few-wanted : (s : Settings) (count : Option ℕ) (bits : List Bool) (i b : �
 few-wanted s None bits i b wanted = tt
 few-wanted s (Some n) bits i b wanted = let below = ltb-true i (div_ceil n s.block_size) wanted in omega arith
 
--- where nothing more is wanted, the samples are what is read
+-- if nothing more is wanted, the samples so far are what is read
 pub reading-done : (s : Settings) (count : Option ℕ) (limit : ℕ) (bits : List Bool) (start i b : ℕ) (samples : List ℤ)
     → IsReached s count limit bits 0 start i b samples → is_wanted s count bits i b ≡ false
     → IsReadFrom s count limit bits start (counted_samples count samples)
@@ -181,7 +181,7 @@ reading-done s count limit bits start i b samples reached done = record {
   counted = refl;
 }
 
--- at the start, whatever the settings
+-- at the start of a reading there are no samples
 pub reached-start : (s : Settings) (count : Option ℕ) (limit : ℕ) (bits : List Bool) (first start b : ℕ) (samples : List ℤ) → b ≡ start → samples ≡ []
     → IsReached s count limit bits first start first b samples
 reached-start s count limit bits first start b samples begins none =
@@ -208,7 +208,7 @@ counting-refuses {X} r fault s count limit bits is above =
     let P : Result X Fault → Type 0 = λ r. IfErr r (λ fault. RefusesDecoding s count limit bits fault) in
     subst P (sym is) (above_limit fault (sym above))
 
--- what the reading of a list refuses, where the list is that of the bits
+-- a refusal to read a list is a refusal to read equal bits
 pub reading-refuses : (s : Settings) (count : Option ℕ) (limit : ℕ) (bits list : List Bool) (first start : ℕ) (fault : Fault)
     → list ≡ bits → RefusesReading s count limit list first start fault → RefusesReading s count limit bits first start fault
 reading-refuses s count limit bits list first start fault same refuses =

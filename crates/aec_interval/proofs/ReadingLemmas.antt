@@ -1,4 +1,4 @@
--- Readings of samples: there is one, or a fault, and never two answers.
+-- Bits have one reading, or one fault, and never two results.
 use Rattle.std.proofs.Common.{◌≡◌, ℕ, ◌+◌, ◌-◌, ◌*◌, ◌%◌, ◌≤◌, Bool, Option, Some, None, List, [], ◌∷◌, length, take, drop, sym, ap, ◌∙◌, subst, arith, inl, inr, ◌⊎◌, ⊎_elim}
 use Rattle.std.specs.Prelude.{ℤ}
 use Rattle.std.specs.List.{AllByRecursion}
@@ -41,14 +41,14 @@ bits_are_read_in_one_way s count limit bits a = record {
   one_fault = one_fault s a count limit bits 0 0;
 }
 
--- ---- what a reading has
+-- ---- the samples of a reading
 
 all-counted : (s : Settings) (count : Option ℕ) (xs : List ℤ) → AllByRecursion (IsHeld s) xs → AllByRecursion (IsHeld s) (counted_samples count xs)
 all-counted s None xs h = h
 all-counted s (Some count) xs h = all_left (IsHeld s) (take count xs) (drop count xs)
     (subst (AllByRecursion (IsHeld s)) (sym (take-append-drop count xs)) h)
 
--- a walk from block i to block j stands for the blocks between them
+-- a walk from block i to block j stands for j - i blocks
 pub length-stream_blocks : (s : Settings) (count : Option ℕ) (limit : ℕ) (bits : List Bool) (i b : ℕ) (sets : List CodedDataSet) (j e : ℕ) → IsAllowed s
     → LeadsTo s count limit bits i b sets j e → i + length (stream_blocks s i sets) ≡ j
 length-stream_blocks s count limit bits i b [] j e a h = omega (arith, h.0)

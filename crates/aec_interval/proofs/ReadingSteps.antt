@@ -1,4 +1,4 @@
--- Reading goes on by one coded data set: what was reached with one more behind it.
+-- A reading goes on by one coded data set: what it has reached, and one more set after it.
 use Rattle.std.proofs.Common.{add-one, ◌≡◌, ℕ, ◌+◌, ◌*◌, ◌%◌, ◌<◌, Bool, true, Option, ℤ, List, [], ◌∷◌, ◌++◌, length, refl, sym, ap, ap₂, append-nil, append_assoc, ◌∙◌, subst}
 use Rattle.std.proofs.lemmas.List.{length-append}
 use Rattle.std.proofs.Math.Nat.{suc-mul}

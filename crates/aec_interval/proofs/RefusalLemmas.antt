@@ -1,4 +1,4 @@
--- What holds of the refusal of a call holds of the answer that hands it on.
+-- What holds of the refusal of a call holds of a result that passes the refusal on.
 use Rattle.std.proofs.Common.{◌≡◌, sym, subst, Result, IfErr}
 use Rattle.std.specs.Prelude.{MatchResult}
 use Rattle.std.specs.Result.{IsErrAnd}

@@ -1,4 +1,4 @@
--- Reading codes of samples with their count gives the samples.
+-- Reading the code of samples with their count returns the samples.
 use Rattle.std.proofs.Common.{◌≡◌, ℕ, ◌+◌, ◌-◌, ◌*◌, ◌%◌, ◌<◌, ◌≤◌, Bool, false, Option, Some, None, List, [], ◌∷◌, ◌++◌, length, map, replicate, refl, sym, ap, ap₂, ◌∙◌, subst, arith}
 use Rattle.std.specs.Prelude.{ℤ, pos, unwrap_or}
 use Rattle.std.specs.List.{AllByRecursion, flat_map, last_or}
@@ -36,13 +36,13 @@ length-all_blocks_of s a = by_pieces Counted (interval_len s) (interval_len-posi
         ap length (all_blocks_of-cons s front (x ∷ rest) piece) ∙ length-append (blocks_of s front) (all_blocks_of s (x ∷ rest))
         ∙ ap₂ ◌+◌ (length-full_blocks s front a (piece.full (omega arith))) ih ∙ sym (div_ceil-interval s front (x ∷ rest) a (piece.full (omega arith)))
 
--- ---- the filler belongs to the blocks
+-- ---- the filler
 
 last_or-append : {X : Type 0} (o : Option X) (front : List X) (x : X) (rest : List X) → last_or o (front ++ (x ∷ rest)) ≡ last_or (Some x) rest
 last_or-append o [] x rest = refl
 last_or-append o (y ∷ front) x rest = last_or-append (Some y) front x rest
 
--- full intervals in front of samples need no filler
+-- a full interval before other samples gets no filler
 filled_samples-append : (s : Settings) (front : List ℤ) (x : ℤ) (rest : List ℤ) → length front ≡ interval_len s
     → filled_samples s (front ++ (x ∷ rest)) ≡ front ++ filled_samples s (x ∷ rest)
 filled_samples-append s front x rest full =
@@ -55,7 +55,7 @@ filled_samples-append s front x rest full =
         (ap (λ m. m % s.block_size) (length-append front (x ∷ rest) ∙ omega (arith, full))
         ∙ add-mul-mod_self_left (length (x ∷ rest)) s.block_size s.interval)
 
--- whole blocks need no filler
+-- whole blocks get no filler
 filled_samples-whole : (s : Settings) (v : List ℤ) (k : ℕ) → IsAllowed s → length v ≡ k * s.block_size → filled_samples s v ≡ v
 filled_samples-whole s v k a e = ap (λ m. v ++ replicate m (unwrap_or (last_or None v) (pos 0))) none ∙ append-nil v
   where
@@ -73,14 +73,14 @@ blocks_of-filled s x v a =
     (filled_samples-whole s (filled_samples s (x ∷ v)) (div_ceil (length (x ∷ v)) s.block_size) a
     (length-filled_samples s (x ∷ v) (block_size-positive s a)))
 
--- the filler stays within the interval
+-- samples of one interval still fit it with their filler
 filled-fits : (s : Settings) (v : List ℤ) → IsAllowed s → length v ≤ interval_len s → length (filled_samples s v) ≤ interval_len s
 filled-fits s v a few =
     let n = length-blocks_of s v a in
     let most = mul-le-mul_right s.block_size (blocks-few s v a few) in
     omega (arith, length-filled_samples s v (block_size-positive s a), ap (λ m. m * s.block_size) n, most)
 
--- the blocks of samples are those of the samples that fill them
+-- samples have the same blocks with their filler
 pub all_blocks_of-filled : (s : Settings) → IsAllowed s → (xs : List ℤ) → all_blocks_of s (filled_samples s xs) ≡ all_blocks_of s xs
 all_blocks_of-filled s a = by_pieces Same (interval_len s) (interval_len-positive s a) (ap (all_blocks_of s) (filled_samples-nil s a)) step
   where
@@ -114,8 +114,8 @@ FillBlocks-all_blocks_of s xs a held = record {
   mapped = all_blocks_of-filled s a xs;
 }
 
--- codes that read the intervals of samples one by one, each padded by its own length where the
--- parameters pad, are read as the samples
+-- codes that are read as the blocks of each interval, one after the other, each padded by its own
+-- length if the settings pad, are read as the blocks of all samples
 IsBlockReading-codes : (s : Settings) (limit : ℕ) (xs : List ℤ) (codes : List (List Bool)) (rest : List Bool) → IsAllowed s
     → ReadsEach s codes (intervals_of s xs) → IsBlockReading s (Some (length xs)) limit (flat_map (padded_code s) codes ++ rest) 0 0 (all_blocks_of s xs)
 IsBlockReading-codes s limit xs codes rest a each =
@@ -140,14 +140,14 @@ IsReading-codes s limit xs codes rest a held each = record {
   counted = sym (take_at xs (replicate (up_to_multiple s.block_size (length xs)) (unwrap_or (last_or None xs) (pos 0))) (length xs) refl);
 }
 
--- the code of samples is such codes
+-- the code of samples is read as the samples
 pub IsReading-stream_of : (s : Settings) (limit : ℕ) (xs : List ℤ) (rest : List Bool) → IsAllowed s → AllByRecursion (IsHeld s) xs
     → IsReading s (Some (length xs)) limit (stream_of s xs ++ rest) xs
 IsReading-stream_of s limit xs rest a held =
     subst (λ code. IsReading s (Some (length xs)) limit (code ++ rest) xs) (sym (stream_of-codes s (intervals_of s xs)))
     (IsReading-codes s limit xs (map (unpadded_bits s) (intervals_of s xs)) rest a held (ReadsEach-unpadded_bits s a xs held))
 
--- and without padding so are codes as they stand
+-- without padding, any codes for the blocks of each interval are read as the samples
 pub each_code_is_read : (s : Settings) (limit : ℕ) (xs : List ℤ) (codes : List (List Bool)) (rest : List Bool) → IsAllowed s → s.pad ≡ false
     → AllByRecursion (IsHeld s) xs → ReadsEach s codes (intervals_of s xs)
     → IsReading s (Some (length xs)) limit (flat_map (λ code. code) codes ++ rest) xs

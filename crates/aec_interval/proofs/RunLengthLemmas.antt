@@ -1,4 +1,4 @@
--- How long runs are, and that a block by itself is longer than a run of one.
+-- How long runs are, and that a single block is never shorter than a run of one.
 use Rattle.std.proofs.Common.{◌≡◌, ℕ, ◌+◌, ◌-◌, ◌/◌, ◌%◌, ◌^◌, ◌<◌, ◌≤◌, Bool, true, false, Option, List, [], ◌∷◌, ◌++◌, length, arith}
 use Rattle.std.specs.List.{flat_map}
 use Rattle.std.proofs.lemmas.List.{length-append}
@@ -20,7 +20,7 @@ run_code-joined k a t h l = grind (arith, nat_tests)
 pub run_code-last : (z : ℕ) → run_code z true ≤ run_code z false
 run_code-last z = grind (arith, nat_tests)
 
--- ---- a block by itself has at least so many bits
+-- ---- the least number of bits of a single block
 
 -- the bits of a run
 pub length-run : (s : Settings) (reference : Option ℕ) (m : ℕ)
@@ -42,7 +42,7 @@ written_count-least : (s : Settings) (t : Bool) → IsAllowed s → 7 ≤ writte
 written_count-least s t a =
     cond_both t (s.block_size - 1) s.block_size (λ n. 7 ≤ n) (λ _. omega (arith, block_size-least s a)) (λ _. omega (arith, block_size-least s a))
 
--- a single block is longer than a run of one
+-- a single block is never shorter than a run of one
 pub plain-longer : (s : Settings) (t : Bool) (reference : Option ℕ) (values : List ℕ) → IsAllowed s → length values ≡ written_count s t
     → id_len s + length (reference_bits s reference) + 2 ≤ length (cds_bits s (record { reference = reference; body = uncompressed_values values }))
 plain-longer s t reference values a h =

@@ -1,4 +1,4 @@
--- Pieces of samples that a loop takes, the last sample of each, and bits that stay in front.
+-- Pieces of samples that a loop takes, the last sample of each, and bits that stay the same.
 use Rattle.std.proofs.Common.{◌≡◌, ℕ, ◌-◌, ◌<◌, ◌≤◌, min, Bool, Option, Some, ℤ, List, [], ◌∷◌, ◌++◌, length, take, drop, refl, sym, ap, ◌∙◌, arith}
 use Rattle.std.specs.Prelude.{slice_get}
 use Rattle.std.specs.List.{AllByRecursion, last_or}
@@ -14,7 +14,7 @@ use Rattle.aec_interval.proofs.CuttingLemmas.{IsPieceBefore}
 pub nothing_left : {X : Type 0} (xs : List X) → length xs ≡ 0 → xs ≡ []
 nothing_left xs h = nil_from_length xs h
 
--- what a loop over pieces of n takes is a piece
+-- a loop over pieces of n takes a piece each time
 pub piece_taken : {X : Type 0} (n : ℕ) (whole front rest : List X) → 0 < n → whole ≡ front ++ rest → length front ≡ min n (length whole)
     → 0 < length whole → IsPieceBefore n front rest
 piece_taken n whole front rest h e len some =

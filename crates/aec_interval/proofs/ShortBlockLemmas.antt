@@ -9,13 +9,13 @@ use Rattle.aec_params.specs.Places.{placed_values}
 use Rattle.aec_block.proofs.ListMappingLemmas.{mapped_after-first}
 use Rattle.aec_interval.specs.Chunks.{values_after, reference_after}
 
--- values were pushed for the samples up to p; with those of the rest they will be the whole list
+-- the values of the samples up to p were pushed; with those of the rest they are the whole list
 pub record MappedSoFar (s : Settings) (p : ℤ) (rest : List ℤ) (values whole : List ℕ) : Type 0 where
   pub previous_held : IsHeld s p
   pub held : AllByRecursion (IsHeld s) rest
   pub joined : values ++ mapped_after s p rest ≡ whole
 
--- one value more is pushed
+-- one more value is pushed
 pub mapped-more : (s : Settings) (p q x : ℤ) (xs : List ℤ) (i : ℕ) (values whole new : List ℕ) (v : ℕ) → i < length xs → q ≡ p
     → x ≡ get_or xs i (pos 0) → MappedSoFar s p (drop i xs) values whole → v ≡ mapped_value s q x → new ≡ values ++ v ∷ []
     → MappedSoFar s x (drop (i + 1) xs) new whole
@@ -37,7 +37,7 @@ mapped-more s p q x xs i values whole new v within is_q is_x so_far is_v is_new 
     cut_held : AllByRecursion (IsHeld s) (x ∷ drop (i + 1) xs)
     cut_held = subst (AllByRecursion (IsHeld s)) cut so_far.held
 
--- at the start of an interval, after the reference place if there is one
+-- the start of an interval: the reference place, if there is one, and the values after it
 mapped-start : (s : Settings) (x : ℤ) (xs : List ℤ) (on : Bool) → s.preprocess ≡ on → IsAllowed s → AllByRecursion (IsHeld s) (x ∷ xs)
     → placed_values (if on then Some (sample_pattern s x) else None) []
     ++ mapped_after s x (drop (length (placed_values (if on then Some (sample_pattern s x) else None) [])) (x ∷ xs)) ≡ mapped_values s (x ∷ xs)

@@ -34,7 +34,7 @@ use Rattle.aec_interval.proofs.PlainLemmas.{untested-within, few_samples, wanted
 
 -- ---- the first block of an interval
 
--- with a reference sample, or without one
+-- the first block was read, with a reference sample or without one
 module _ (s : Settings) (old new : Cursor) (due : Bool) (block : Block) (more : List ℤ) (allowed : IsAllowed s) (is_due : s.preprocess ≡ due)
     (all : due ≡ (due && true)) (read : (c : CodedDataSet) × IsReadAs s due old new c (Single block)) (one : has_one (bits_at old) ≡ true)
     (fills : IsNextBlock s [] block → FillsNext s [] more (block ∷ [])) where
@@ -92,7 +92,7 @@ reads_unpredicted s old new values x more allowed off read one zero unmaps same 
     (λ next. fills_block_plain s [] more (block_of_values None values) x values allowed next refl zero refl unmaps) same
     (held-unmapped s x values more unmaps)
 
--- as many places were filled as the block has values
+-- the number of filled places is the number of values
 pub filled_places : {X : Type 0} (filled samples : List X) (n size : ℕ) → length filled ≡ length (take n samples) → n ≡ size → size ≤ length samples
     → length filled ≡ size
 filled_places filled samples n size is all room = omega (arith, is, all, room, length-take n samples)
@@ -104,7 +104,7 @@ pub whole_end : (s : Settings) (count : Option ℕ) (limit i n : ℕ) → IsAllo
 whole_end s count limit i n allowed is within =
     untested-within s count limit i n 0 n allowed within.low within.counted is (sym (ap (λ b. if b then 1 else 0) within.unpadded)) (omega arith) within.samples
 
--- its first block, and the others
+-- the first block of an interval, and the others
 pub reads_interval : (s : Settings) (rest : ℕ) (old mid new : Cursor) (first samples : List ℤ) → IsAllowed s → 1 + rest ≡ s.interval
     → ReadsFirst s old mid first → ReadsPlain s rest mid first new samples → ReadsWhole s 1 old new samples
 reads_interval s rest old mid new first samples allowed all begun plain = record {
@@ -118,7 +118,7 @@ reads_interval s rest old mid new first samples allowed all begun plain = record
       (subst (λ list. IsReached s count limit list i old.pos (i + 1 + rest) new.pos samples) (plain.list ∙ begun.list) there.reached);
 }
 
--- ---- intervals one behind the other
+-- ---- intervals one after the other
 
 pub reads_none : (s : Settings) (old new : Cursor) (samples : List ℤ) → new ≡ old → samples ≡ [] → ReadsWhole s 0 old new samples
 reads_none s old new samples same none = record {
@@ -129,7 +129,7 @@ reads_none s old new samples same none = record {
       (reached-start s count limit old.list i old.pos new.pos samples (ap (λ (cursor : Cursor). cursor.pos) same) none);
 }
 
--- a reader that stays, and samples whose front stays
+-- the reader hasn't moved, and the front of the samples is the same
 pub reads_stay : (s : Settings) (n at len : ℕ) (old here there : Cursor) (before after : List ℤ) → there ≡ here → at ≡ len
     → take at after ≡ take at before → ReadsWhole s n old here (take at before) → ReadsWhole s n old there (take len after)
 reads_stay s n at len old here there before after stays place kept reads =
@@ -141,7 +141,7 @@ wanted_first : (s : Settings) (count : Option ℕ) (limit : ℕ) (bits : List Bo
 wanted_first s count limit bits i b [] j e further leads = absurd (omega (arith, further, leads.0))
 wanted_first s count limit bits i b (c ∷ sets) j e further leads = leads.0
 
--- a reading that goes on where an interval begins
+-- a reading goes on where an interval begins
 module _ (s : Settings) (count : Option ℕ) (limit : ℕ) (bits : List Bool) (first start n i b j e : ℕ) (xs ys : List ℤ) (allowed : IsAllowed s)
     (i_is : i ≡ first + n * s.interval) (further : i < j) (front : IsReached s count limit bits first start i b xs)
     (back : IsReached s count limit bits i b j e ys) where
@@ -182,7 +182,7 @@ within_less s count limit i j less within = record {
   samples = omega (arith, mul-le-mul_right s.block_size less, within.samples);
 }
 
--- and one more
+-- one interval more
 pub reads_one_more : (s : Settings) (n : ℕ) (old mid new : Cursor) (xs ys all : List ℤ) → IsAllowed s → ReadsWhole s n old mid xs → ReadsWhole s 1 mid new ys
     → all ≡ xs ++ ys → ReadsWhole s (n + 1) old new all
 reads_one_more s n old mid new xs ys all allowed front back is = record {
@@ -204,7 +204,7 @@ reads_one_more s n old mid new xs ys all allowed front back is = record {
     one_end : (i n r : ℕ) → i + n * r + 1 * r ≡ i + (n + 1) * r
     one_end i n r = omega arith
 
--- what stands before a part stays
+-- samples before a part stay the same
 pub front_kept : (xs part : List ℤ) (at k : ℕ) → at ≤ length xs → take at (put_mid at k xs part) ≡ take at xs
 front_kept xs part at k within = take_at (take at xs) (part ++ drop k (drop at xs)) at (length-take-le at xs within)
 

@@ -1,5 +1,5 @@
--- Coded data sets gone over: there are samples that they stand for, and where one is refused there
--- is a fault.
+-- Coded data sets that are skipped: that there are samples they stand for, and how many of these
+-- are asked for.
 use Rattle.std.proofs.Common.{◌≡◌, ℕ, zero, suc, ◌+◌, ◌-◌, ◌*◌, ◌/◌, ◌%◌, ◌<◌, ◌≤◌, Bool, true, Option, Some, None, ℤ, List, [], length, take, drop, refl, sym, ap, ◌∙◌, subst, arith, min, ⊎_elim}
 use Rattle.std.proofs.Math.Nat.{zero-mul, suc-mul, mul-le-mul_right, mul-sub, mul_comm}
 use Rattle.std.proofs.lemmas.Nat.{div-add-mod'}
@@ -23,7 +23,7 @@ use Rattle.aec_interval.proofs.ReachedLemmas.{length-stream_blocks}
 
 -- ---- the samples of coded data sets
 
--- whole intervals further on the places are the same
+-- blocks can be at a place if they can be k intervals later
 AreBlocksFrom-intervals : (s : Settings) (k i : ℕ) (blocks : List Block) → AreBlocksFrom s (i + k * s.interval) blocks → AreBlocksFrom s i blocks
 AreBlocksFrom-intervals s zero i blocks h = subst (λ n. AreBlocksFrom s n blocks) (omega (arith, zero-mul s.interval)) h
 AreBlocksFrom-intervals s (suc k) i blocks h =
@@ -51,9 +51,9 @@ pub led-start : (s : Settings) (count : Option ℕ) (limit : ℕ) (bits : List B
     → IsLedTo s count limit bits first start first b
 led-start s count limit bits first start b begins = record { sets = []; leads = (refl, begins) }
 
--- ---- its samples
+-- ---- how many samples are asked for
 
--- as many samples are asked for of whole blocks as are kept
+-- the count asks for the same number of samples of the kept blocks as of all blocks
 asked_of : (f c k j n : ℕ) → n ≤ c * j → min (n - f * j) (min (c - f) k * j) ≡ min (k * j) (n - f * j)
 asked_of f c k j n most = ⊎_elim fewer all (cases_lt (c - f) k)
   where
@@ -121,7 +121,7 @@ interval-skipped s count limit bits first start i b allowed aligned wanted led a
       counted = counted;
     }
 
--- the same from the place of a reader
+-- an interval skipped from the place of a reader
 pub place-skipped : (p : Place) (s : Settings) (count : Option ℕ) (limit : ℕ) (list bits : List Bool) (first bit start i b len : ℕ)
     → place_at s count limit list first bit ≡ p → IsAllowed s → start ≡ bit → bits ≡ list → first % s.interval ≡ 0
     → is_wanted s count list first bit ≡ true → IsLedTo s count limit bits first start i b → first < i → i ≤ first + s.interval

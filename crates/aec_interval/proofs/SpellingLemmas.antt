@@ -27,7 +27,7 @@ best_of-either P beats a (x ∷ xs) h k =
 
 -- ---- what is written of a block
 
--- one value less where there is a reference
+-- one value less if there is a reference
 pub length-written_values : (s : Settings) (t : Bool) (reference : Option ℕ) (values : List ℕ) → HasReference s t reference → length values ≡ s.block_size
     → length (after_reference reference values) ≡ written_count s t
 length-written_values s true (Some r) values h e = length-drop 1 values ∙ ap (λ k. k - 1) e

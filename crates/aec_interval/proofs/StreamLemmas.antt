@@ -1,4 +1,4 @@
--- The codes of intervals, one behind the other, are read as the intervals.
+-- The codes of intervals, one after the other, are read as the intervals.
 use Rattle.std.proofs.Common.{◌≡◌, ℕ, ◌+◌, ◌-◌, ◌*◌, ◌/◌, ◌%◌, ◌<◌, ◌≤◌, min, Bool, true, false, Some, List, [], ◌∷◌, ◌++◌, length, map, take, replicate, refl, sym, ap, ap₂, ◌∙◌, subst, arith, ⊎_elim}
 use Rattle.std.specs.Prelude.{ℤ, ◌==◌, ◌&&◌, if◌then◌else◌}
 use Rattle.std.specs.List.{AllByRecursion, flat_map}
@@ -24,9 +24,9 @@ use Rattle.aec_interval.proofs.PlaceLemmas.{end_of, end_of-reaches, end_of-withi
 pub use Rattle.aec_params.proofs.SettingLaws.{interval-positive}
 pub use Rattle.aec_params.proofs.SampleLaws.{interval_len-positive, all_blocks_of-nil}
 
--- ---- whole intervals in front
+-- ---- whole intervals before others
 
--- so many whole pieces more
+-- k whole pieces more
 div_ceil-add : (k m n : ℕ) → 0 < n → div_ceil (n * k + m) n ≡ k + div_ceil m n
 div_ceil-add k m n h =
     let e : n * k + m ≡ m + k * n = omega arith in
@@ -49,7 +49,7 @@ all_blocks_of-cons s front rest h = ap (flat_map (blocks_of s)) (pieces_of-cons 
 pub all_blocks_of-one : (s : Settings) (v : List ℤ) → 0 < length v → length v ≤ interval_len s → all_blocks_of s v ≡ blocks_of s v
 all_blocks_of-one s v some few = ap (flat_map (blocks_of s)) (pieces_of-one (interval_len s) v some few) ∙ append-nil (blocks_of s v)
 
--- the blocks of a full interval, and of what is behind it
+-- the blocks of a full interval, and of what comes after it
 pub length-full_blocks : (s : Settings) (front : List ℤ) → IsAllowed s → length front ≡ interval_len s → length (blocks_of s front) ≡ s.interval
 length-full_blocks s front a full =
     length-blocks_of s front a ∙ ap (λ m. div_ceil m s.block_size) (full ∙ omega arith) ∙ div_ceil-times s.interval s.block_size (block_size-positive s a)
@@ -65,7 +65,7 @@ div_ceil-interval s front rest a full =
 abbrev pub padding_of : Settings → List Bool → List Bool
 padding_of s code = if s.pad then replicate (up_to_multiple 8 (length code)) false else []
 
--- a code, padded by its own length where the parameters pad
+-- a code, padded by its own length if the settings pad
 abbrev pub padded_code : Settings → List Bool → List Bool
 padded_code s code = code ++ padding_of s code
 
@@ -83,11 +83,11 @@ length-padding_of s code t =
 pub no_padding : (s : Settings) (code : List Bool) → s.pad ≡ false → padded_code s code ≡ code
 no_padding s code t = ap (◌++◌ code) (cond-false s.pad (replicate (up_to_multiple 8 (length code)) false) [] t) ∙ append-nil code
 
--- bits that begin an interval: with padding whole bytes stand before them
+-- bits before the start of an interval: with padding they are whole bytes
 abbrev pub IsAligned : Settings → List Bool → Type 0
 IsAligned s pre = s.pad ≡ true → length pre % 8 ≡ 0
 
--- behind the code of a full interval the next one begins behind the padding
+-- after the code of a full interval, the next interval begins at the end of the padding
 begin_of-code : (s : Settings) (code pre rest : List Bool) (k : ℕ) → IsAligned s pre
     → begin_of s (pre ++ (padded_code s code ++ rest)) (k * s.interval) (length pre + length code) ≡ length (pre ++ padded_code s code)
 begin_of-code s code pre rest k aligned = ⊎_elim padded plain (cases_Bool s.pad)
@@ -123,8 +123,8 @@ IsAligned-code s code pre aligned t =
 
 -- ---- from interval to interval
 
--- a walk through codes of samples, of so many blocks in all, which stands for their blocks,
--- whatever follows the codes
+-- a walk from block i at position b to the last needed block; its needed blocks are those of xs
+-- (`HasWalk`: through any codes of xs, whatever bits follow)
 pub record IsWalk (s : Settings) (count limit : ℕ) (bits : List Bool) (i b : ℕ) (xs : List ℤ) : Type 0 where
   pub sets : List CodedDataSet
   pub end_block : ℕ
@@ -204,7 +204,7 @@ last_walk s count limit tail a v some few (code ∷ codes) k i b pre bits each a
       blocks = ap₂ take needed part.covered ∙ part.stand_for ∙ sym (all_blocks_of-one s v some few);
     }
 
--- the walk through the code of a full interval, and on
+-- the walk through the code of a full interval, and on through the others
 walk_on : (s : Settings) (count limit : ℕ) (tail : List Bool) → IsAllowed s → (front rest : List ℤ) → IsPieceBefore (interval_len s) front rest
     → 0 < length rest → HasWalk s count limit tail rest → HasWalk s count limit tail (front ++ rest)
 walk_on s count limit tail a front rest piece more ih [] k i b pre bits each aligned e f spelled need =
@@ -273,9 +273,9 @@ pub walk_of : (s : Settings) (count limit : ℕ) (tail : List Bool) → IsAllowe
 walk_of s count limit tail a =
     by_pieces (HasWalk s count limit tail) (interval_len s) (interval_len-positive s a) (no_walk s count limit tail a) (step s count limit tail a)
 
--- ---- the code of samples is such codes
+-- ---- the code of samples
 
--- the code of samples, as the codes of their intervals
+-- the code of samples is the padded codes of their intervals
 pub stream_of-codes : (s : Settings) (intervals : List (List ℤ))
     → flat_map (interval_bits s) intervals ≡ flat_map (padded_code s) (map (unpadded_bits s) intervals)
 stream_of-codes s [] = refl

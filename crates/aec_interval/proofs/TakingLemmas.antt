@@ -1,4 +1,4 @@
--- Samples taken behind others, and what bytes are as a whole.
+-- Samples that are taken after others, and what bytes are as a whole.
 use Rattle.std.proofs.Common.{◌≡◌, ℕ, zero, suc, ◌+◌, ◌/◌, ◌≤◌, ◌<◌, Bool, true, false, Option, Some, None, Result, Ok, Err, ℤ, List, [], ◌∷◌, ◌++◌, length, drop, refl, sym, ap, ap₂, ◌∙◌, arith, ⊎_elim}
 use Rattle.std.proofs.lemmas.Bool.{cases_lt, cond-true, cond-false, lt-ltb, le-ltb}
 use Rattle.std.specs.Simd.{first_chunks}
@@ -10,7 +10,7 @@ use Rattle.aec_params.specs.declared.fault.Fault.TheVariants.{SampleRange, TooMa
 use Rattle.aec_params.specs.Stored.{number_in, sample_of_number, sample_before, samples_of_groups, samples_of_bytes, byte_groups}
 use Rattle.aec_interval.specs.Taking.{TakenSamples, in_range, judged_sample, taken_before, taken_groups, judged_samples}
 
--- what is taken behind samples of which none was refused
+-- what is taken in all, if none of the first samples was refused
 abbrev pub taken_behind : TakenSamples → TakenSamples → TakenSamples
 taken_behind first later = record { samples = first.samples ++ later.samples; refusal = later.refusal }
 
@@ -33,7 +33,7 @@ refused_step : (o : Result ℤ Fault) (fault : Fault) (later all : TakenSamples)
 refused_step (Ok x) fault later all refusal ih = ap (taken_before (Ok x)) (ih refusal)
 refused_step (Err e) fault later all refusal ih = refl
 
--- nothing is taken behind a refusal
+-- nothing is taken after a refusal
 pub taken_groups-refused : (s : Settings) (limit i : ℕ) (gs hs : List (List ℕ)) (fault : Fault) → (taken_groups s limit i gs).refusal ≡ Some fault
     → taken_groups s limit i (gs ++ hs) ≡ taken_groups s limit i gs
 taken_groups-refused s limit i [] hs fault refusal = absurd (cc)
@@ -50,7 +50,7 @@ all_step true (Some x) i f later all none ih = ap (sample_before (Some x) i) (ih
 all_step true None i f later all none ih = absurd (cc)
 all_step false o i f later all none ih = absurd (cc)
 
--- where none is refused, the samples that are taken are those that the groups are
+-- if none is refused, the samples that are taken are those of all groups
 pub taken_groups-all : (s : Settings) (limit i : ℕ) (gs : List (List ℕ)) → (taken_groups s limit i gs).refusal ≡ None
     → samples_of_groups s i gs ≡ Ok (taken_groups s limit i gs).samples
 taken_groups-all s limit i [] none = refl
@@ -60,7 +60,7 @@ taken_groups-all s limit i (g ∷ gs) none =
 
 -- ---- the refusal
 
--- the number of a bad sample, if there is one
+-- the number of the bad sample; 0 if there is none
 abbrev bad_of : Result (List ℤ) ℕ → ℕ
 bad_of (Ok xs) = 0
 bad_of (Err k) = k
@@ -74,7 +74,7 @@ bad_step (Some x) i k (Err m) ih e =
     let same : m ≡ k = ap bad_of e in
     omega (arith, ih m refl)
 
--- a bad sample is none before the first
+-- the number of a bad sample is not below that of the first sample
 pub bad_behind : (s : Settings) (i k : ℕ) (gs : List (List ℕ)) → samples_of_groups s i gs ≡ Err k → i ≤ k
 bad_behind s i k [] e = absurd (cc)
 bad_behind s i k (g ∷ gs) e =
@@ -85,7 +85,7 @@ abbrev pub judged_from : ℕ → ℕ → Result (List ℤ) ℕ → Option Fault
 judged_from limit i (Ok samples) = if nat_lt limit (i + length samples) then Some (TooManySamples limit) else None
 judged_from limit i (Err bad) = Some (if nat_lt bad limit then SampleRange bad else TooManySamples limit)
 
--- sample i stands below the limit
+-- the refusal, if sample i is below the limit
 judged_below : (o : Option ℤ) (limit i : ℕ) (later : Result (List ℤ) ℕ) (taken : TakenSamples) → i < limit
     → taken.refusal ≡ judged_from limit (i + 1) later
     → (taken_before (in_range i o) taken).refusal ≡ judged_from limit i (sample_before o i later)
@@ -95,7 +95,7 @@ judged_below (Some x) limit i (Ok xs) taken below ih =
     ih ∙ ap (λ n. if nat_lt limit n then Some (TooManySamples limit) else None) (omega arith)
 judged_below (Some x) limit i (Err k) taken below ih = ih
 
--- it stands at the limit
+-- the refusal, if sample i is at the limit
 judged_above : (o : Option ℤ) (limit i : ℕ) (later : Result (List ℤ) ℕ) → i ≡ limit → ((k : ℕ) → later ≡ Err k → i + 1 ≤ k)
     → Some (TooManySamples limit) ≡ judged_from limit i (sample_before o i later)
 judged_above None limit i later at bad =
@@ -137,11 +137,11 @@ judged_at_start : (limit : ℕ) (all : Result (List ℤ) ℕ) → judged_from li
 judged_at_start limit (Ok xs) = ap (λ n. if nat_lt limit n then Some (TooManySamples limit) else None) (omega arith)
 judged_at_start limit (Err k) = refl
 
--- the refusal by what the groups are as a whole
+-- the refusal, from what the groups are as a whole
 pub judged_all : (s : Settings) (limit : ℕ) (gs : List (List ℕ)) → (taken_groups s limit 0 gs).refusal ≡ judged_samples limit (samples_of_groups s 0 gs)
 judged_all s limit gs = judged_groups s limit 0 gs (omega arith) ∙ judged_at_start limit (samples_of_groups s 0 gs)
 
--- samples that are not refused are no more than the limit
+-- if none is refused, at most `limit` samples are taken
 pub taken_within : (s : Settings) (limit : ℕ) (gs : List (List ℕ)) → (taken_groups s limit 0 gs).refusal ≡ None
     → length (taken_groups s limit 0 gs).samples ≤ limit
 taken_within s limit gs none =
@@ -174,7 +174,7 @@ pub length-groups : (n k : ℕ) (bytes : List ℕ) → length (first_chunks n k 
 length-groups n zero bytes = refl
 length-groups n (suc k) bytes = ap suc (length-groups n k (drop n bytes))
 
--- bytes hold as many samples as whole groups
+-- bytes hold one sample in each whole group
 pub length-samples_of_bytes : (s : Settings) (bytes : List ℕ) (samples : List ℤ) → samples_of_bytes s bytes ≡ Ok samples
     → length samples ≡ length bytes / storage_len s
 length-samples_of_bytes s bytes samples read =
@@ -188,7 +188,7 @@ abbrev pub good_of : Result (List ℤ) ℕ → List ℤ
 good_of (Ok xs) = xs
 good_of (Err k) = []
 
--- the samples that groups are don't depend on the place where counting begins
+-- the samples of groups don't depend on the number at which counting begins
 counted_step : (o : Option ℤ) (i j : ℕ) (later there : Result (List ℤ) ℕ) (xs : List ℤ) → sample_before o i later ≡ Ok xs
     → ((ys : List ℤ) → later ≡ Ok ys → there ≡ Ok ys) → sample_before o j there ≡ Ok xs
 counted_step None i j later there xs e ih = absurd (cc)
@@ -201,7 +201,7 @@ counted_from s i j (g ∷ gs) xs e =
     counted_step (sample_of_number s (number_in s g)) i j (samples_of_groups s (i + 1) gs) (samples_of_groups s (j + 1) gs) xs e
     (λ ys later. counted_from s (i + 1) (j + 1) gs ys later)
 
--- samples within the limit are all taken
+-- good samples within the limit are all taken
 pub taken_groups-good : (s : Settings) (limit i j : ℕ) (gs : List (List ℕ)) (xs : List ℤ) → samples_of_groups s j gs ≡ Ok xs → i + length xs ≤ limit
     → taken_groups s limit i gs ≡ all_taken xs
 taken_groups-good s limit i j gs xs e within =

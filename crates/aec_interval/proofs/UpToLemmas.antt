@@ -1,4 +1,4 @@
--- A refusal that is met by some block is the refusal of the reading.
+-- A refusal up to some block is a refusal of the reading.
 use Rattle.std.proofs.Common.{ℕ, Bool, Option, List}
 use Rattle.aec_params.specs.declared.settings.Settings.{Settings}
 use Rattle.aec_params.specs.declared.fault.Fault.{Fault}

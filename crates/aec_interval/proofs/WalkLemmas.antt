@@ -1,5 +1,5 @@
--- From one place there is one walk at most: readings are unique, so are faults, and no bits have
--- both.
+-- From one place there is at most one walk: readings are unique, faults are unique, and no bits
+-- have both.
 use Rattle.std.proofs.Common.{◌≡◌, ℕ, ◌+◌, ◌%◌, Bool, true, false, Option, List, [], ◌∷◌, length, drop, refl, sym, ap, ap₂, ◌∙◌, subst}
 use Rattle.std.proofs.lemmas.Bool.{both_ways}
 use Rattle.aec_params.specs.declared.settings.Settings.{Settings}
@@ -12,7 +12,7 @@ use Rattle.aec_params.specs.Reading.{StandsAt, next_block, next_begin, is_wanted
 use Rattle.aec_params.specs.Faults.{IsSetAt, IsNotRead, IsWrongAt, not_read, cut_short, too_large, too_long, too_many, IsFault}
 use Rattle.aec_block.proofs.SetLemmas.{no_set_is_a_prefix}
 
--- one coded data set at most stands at a place
+-- at most one coded data set is at a place
 pub same_set : (s : Settings) (bits : List Bool) (b : ℕ) (t : Bool) (c d : CodedDataSet) → IsAllowed s → HasShape s t c → HasShape s t d
     → StandsAt s bits b c → StandsAt s bits b d → c ≡ d
 same_set s bits b t c d a h k x y =
@@ -20,7 +20,7 @@ same_set s bits b t c d a h k x y =
 
 -- ---- two walks
 
--- where two walks end, if both are done
+-- two walks have the same coded data sets and the same end
 pub record SameWalk (one other : List CodedDataSet) (j e k f : ℕ) : Type 0 where
   pub sets : one ≡ other
   pub block : j ≡ k
@@ -31,7 +31,7 @@ wanted-back : (s : Settings) (count : Option ℕ) (bits : List Bool) (i b j e : 
 wanted-back s count bits i b j e t h w = ap₂ (is_wanted s count bits) (sym h.0) (sym h.1) ∙ w
 
 module _ (s : Settings) (a : IsAllowed s) (count : Option ℕ) (limit : ℕ) (bits : List Bool) where
-  -- the walk behind a coded data set is the walk behind an equal one
+  -- the walk after a coded data set is the walk after an equal one
   leads-from_same : (i b : ℕ) (c d : CodedDataSet) (sets : List CodedDataSet) (j e : ℕ) → c ≡ d
       → LeadsTo s count limit bits (next_block s i d) (next_begin s bits i b d) sets j e
       → LeadsTo s count limit bits (next_block s i c) (next_begin s bits i b c) sets j e
@@ -53,13 +53,13 @@ module _ (s : Settings) (a : IsAllowed s) (count : Option ℕ) (limit : ℕ) (bi
       let r = same_walk i b x.sets y.sets x.end_block x.end_bit y.end_block y.end_bit x.leads y.leads x.done y.done in
       x.kept ∙ ap (λ sets. kept_blocks s count i (stream_blocks s i sets)) r.sets ∙ sym y.kept
 
-  -- where a coded data set of small values stands, one is read
+  -- a coded data set of small values is read where it is
   pub read_there : (t : Bool) (b : ℕ) (c : CodedDataSet) (fault : Fault) → IsSetAt s t bits b c → has_small_values s c ≡ true → IsNotRead s t bits b fault → ⊥
   read_there t b c fault at small (cut_short none) = none c at
   read_there t b c fault at small (too_large d other large) =
       both_ways (has_small_values s d) large (ap (has_small_values s) (same_set s bits b t d c a other.shape at.shape other.stands at.stands) ∙ small)
 
-  -- where a lawful coded data set stands, within the limit, nothing is wrong
+  -- at a lawful coded data set within the limit, nothing is wrong
   pub not_wrong : (i b : ℕ) (c : CodedDataSet) (fault : Fault) → StandsAt s bits b c → IsLawfulAt s (i % s.interval) c
       → keeps_limit s count limit (next_block s i c) ≡ true
       → IsWrongAt s count limit bits i b fault → ⊥
@@ -76,7 +76,7 @@ module _ (s : Settings) (a : IsAllowed s) (count : Option ℕ) (limit : ℕ) (bi
   wrong-back : (i b j e : ℕ) (fault : Fault) → (j ≡ i) × (e ≡ b) → IsWrongAt s count limit bits j e fault → IsWrongAt s count limit bits i b fault
   wrong-back i b j e fault h w = subst (λ x. IsWrongAt s count limit bits x b fault) h.0 (subst (λ x. IsWrongAt s count limit bits j x fault) h.1 w)
 
-  -- a walk that is done and one that ends in a fault
+  -- a walk that is done and a walk that ends in a fault can't begin at the same place
   pub not_both : (i b : ℕ) (sets later : List CodedDataSet) (j e k f : ℕ) (fault : Fault) → LeadsTo s count limit bits i b sets j e
       → LeadsTo s count limit bits i b later k f
       → is_wanted s count bits j e ≡ false → is_wanted s count bits k f ≡ true → IsWrongAt s count limit bits k f fault → ⊥
@@ -96,7 +96,7 @@ module _ (s : Settings) (a : IsAllowed s) (count : Option ℕ) (limit : ℕ) (bi
   same_unread t b fault other (too_large c at large) (cut_short none) = absurd (none c at)
   same_unread t b fault other (too_large c at large) (too_large d at' large') = refl
 
-  -- one coded data set can't be judged in two ways
+  -- two coded data sets at one place can't differ in whether they stay in their segment
   different_long : (i b : ℕ) (c d : CodedDataSet) → IsSetAt s (is_reference_block s (i % s.interval)) bits b c
       → IsSetAt s (is_reference_block s (i % s.interval)) bits b d
       → stays_in_segment s (i % s.interval) c ≡ false → stays_in_segment s (i % s.interval) d ≡ true → ⊥

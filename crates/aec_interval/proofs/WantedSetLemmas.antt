@@ -1,4 +1,4 @@
--- A coded data set that is wanted and was found: the block behind it, or its fault.
+-- A coded data set that is wanted and was found: the block after it, or its fault.
 use Rattle.std.proofs.Common.{◌≡◌, ◌+◌, ◌*◌, ◌%◌, ◌^◌, ◌<◌, ◌≤◌, ◌∷◌, ◌++◌, ◌∙◌, if◌then◌else◌}
 use Rattle.std.proofs.Common.{ℕ, lit≤, Bool, true, false, Option, Some, None, List, [], refl, sym, ap, subst, arith, Ok, Err, IfSome, nat_lt}
 use Rattle.std.proofs.Math.Nat.{mod-lt, le-mul_of_pos_right}
@@ -24,14 +24,14 @@ use Rattle.aec_interval.specs.Skipping.{IsLedTo, IsFaultBefore}
 use Rattle.aec_interval.proofs.ReadingSteps.{LeadsTo-push}
 use Rattle.aec_interval.proofs.DecodeLemmas.{run_count-run_len_of}
 
--- a reference is due at a block as at its place in the interval
+-- whether block i needs a reference depends on its place in the interval
 pub due_there : (s : Settings) (is_reference : Bool) (place i : ℕ) → is_reference ≡ is_reference_block s place → place ≡ i % s.interval
     → is_reference ≡ is_reference_block s (i % s.interval)
 due_there s is_reference place i at_place is_place = at_place ∙ ap (is_reference_block s) is_place
 
--- ---- the block behind, or why there is none
+-- ---- the block after it, or why there is none
 
--- so many blocks may stand from block i on
+-- z blocks are allowed from block i on, and block `next` comes after them
 pub record MayStand (s : Settings) (count : Option ℕ) (limit i z next : ℕ) : Type 0 where
   pub within : z ≤ segment_left s (i % s.interval)
   pub keeps : keeps_limit s count limit (i + z) ≡ true
@@ -53,7 +53,7 @@ may_stand s count limit i z bit next is = by_place (nat_lt (segment_left s (i % 
     by_place false within is =
         by_limit (keeps_limit s count limit (i + z)) (ltb-false (segment_left s (i % s.interval)) z within) refl is
 
--- what holds of the two refusals
+-- what holds of both refusals holds of the one that is returned
 pub may_not_stand : (s : Settings) (count : Option ℕ) (limit i z bit : ℕ) (fault : Fault) (P : Fault → Type 0)
     → Err fault ≡ block_behind s count limit i z bit → (segment_left s (i % s.interval) < z → P (RunTooLong bit))
     → (z ≤ segment_left s (i % s.interval) → keeps_limit s count limit (i + z) ≡ false → P (TooManySamples limit)) → P fault
@@ -73,7 +73,7 @@ may_not_stand s count limit i z bit fault P is long many = by_place (nat_lt (seg
     by_place false within is =
         by_limit (keeps_limit s count limit (i + z)) (ltb-false (segment_left s (i % s.interval)) z within) refl is
 
--- ---- one that was found
+-- ---- a coded data set that was found
 
 pub run_count-body_len : (s : Settings) (p : ℕ) (body : Body) → run_count s p (body_len body) ≡ body_blocks s p body
 run_count-body_len s p (uncompressed_values values) = refl
@@ -100,18 +100,18 @@ module _ (s : Settings) (count : Option ℕ) (limit : ℕ) (first start : ℕ) (
     before = omega (arith, mod-lt i (interval-positive s allowed));
   }
 
-  -- none is found there
+  -- no coded data set is found there
   pub unread-wrong : (due : Bool) (fault : Fault) → due ≡ is_reference_block s (i % s.interval) → IsNotRead s due old.list old.pos fault
       → IsFaultBefore s count limit old.list first start (i + blocks_before_end s i) fault
   unread-wrong due fault due_is none = wrong_here fault (not_read fault (subst (λ b. IsNotRead s b old.list old.pos fault) due_is none))
 
-  -- one is found there
+  -- a coded data set is found there
   module _ (due : Bool) (len : RunLen) (due_is : due ≡ is_reference_block s (i % s.interval))
       (found_there : (c : CodedDataSet) × IsSkippedAs s due old new c len) where
     abbrev pub c : CodedDataSet
     c = found_there.0
 
-    -- for how many blocks it stands
+    -- how many blocks it stands for
     abbrev pub blocks : ℕ
     blocks = run_count s (i % s.interval) len
 
@@ -146,7 +146,7 @@ module _ (s : Settings) (count : Option ℕ) (limit : ℕ) (first start : ℕ) (
     pub same_list : new.list ≡ old.list
     same_list = ap (λ (cursor : Cursor). cursor.list) found.read.behind
 
-    -- what stands behind it
+    -- the block after it
     module _ (bit next : ℕ) (placed : Ok next ≡ block_behind s count limit i blocks bit) where
       pub stand : MayStand s count limit i blocks next
       stand = may_stand s count limit i blocks bit next placed

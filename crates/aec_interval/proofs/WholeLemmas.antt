@@ -1,4 +1,4 @@
--- All samples: the first that is none, and interval upon interval.
+-- All samples: the first number that is no sample, and the intervals one after the other.
 use Rattle.std.proofs.Common.{◌≡◌, ℕ, ◌+◌, ◌<◌, Bool, true, false, IsTrue, Some, None, ℤ, List, [], ◌∷◌, ◌++◌, ap, rules}
 use Rattle.std.specs.Prelude.{if◌then◌else◌}
 use Rattle.std.specs.List.{AllByRecursion, flat_map}

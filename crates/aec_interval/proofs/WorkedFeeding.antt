@@ -35,11 +35,11 @@ sixteen_have_14_bits = refl
 pub seventeen_are_counted : (fed begun (replicate 12 0)).count ≡ 17
 seventeen_are_counted = refl
 
--- one more is too many
+-- one more sample is too many
 pub eighteen_are_too_many : (taken_of (fed begun (replicate 12 0)) (0 ∷ [])).refusal ≡ Some (TooManySamples 17)
 eighteen_are_too_many = refl
 
--- half a sample is left, and with the other half it is one
+-- half a sample is left; the other half completes it
 pub half_is_left : (fed (fresh_coder sixteen_bits 1) (0x34 ∷ [])).rest ≡ 0x34 ∷ []
 half_is_left = refl
 

@@ -1,4 +1,4 @@
--- Whole intervals that are one run of zero blocks each, of which none needs a test of its place.
+-- Whole intervals that are each one run of zero blocks and need no test of their places.
 use Rattle.std.proofs.Common.{◌≡◌, ℕ, ◌+◌, ◌-◌, ◌*◌, ◌%◌, ◌<◌, ◌≤◌, ◌==◌, ◌&&◌, Bool, true, false, if◌then◌else◌, min, Option, Some, None, Ok, Err, ℤ, List, [], replicate, length, refl, sym, ap, ◌∙◌, subst, arith}
 use Rattle.std.proofs.Math.Nat.{mul_comm}
 use Rattle.std.proofs.lemmas.Bool.{le-ltb}

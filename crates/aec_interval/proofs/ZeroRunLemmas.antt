@@ -1,4 +1,4 @@
--- Zero blocks that come next, one behind the other.
+-- Zero blocks that come next, one after the other.
 use Rattle.std.proofs.Common.{◌≡◌, ℕ, zero, suc, ◌+◌, ◌*◌, ◌/◌, ◌%◌, ◌<◌, ◌≤◌, ◌==◌, ◌&&◌, Bool, true, false, Option, Some, None, ℤ, pos, List, [], ◌∷◌, ◌++◌, length, take, drop, replicate, unwrap_or, ◌-◌, ◌^◌, refl, sym, ap, ap₂, ◌∙◌, subst, append_assoc, add-one, arith}
 use Rattle.std.proofs.Math.Nat.{mul_comm, mod-lt, zero-mul, one-mul, suc-mul, mul-pos, mul-lt-mul_of_pos_right}
 use Rattle.std.proofs.lemmas.Nat.{div-add-mod', mod-mul-add}
@@ -26,7 +26,7 @@ use Rattle.aec_block.proofs.ListMappingLemmas.{last_or-append}
 use Rattle.aec_interval.proofs.MappedLemmas.{mapped_after-replicate}
 use Rattle.aec_interval.proofs.NextFillLemmas.{held-zero, held-last_sample, mapped_value-self, fills_plain, fills_reference, reference-below}
 
--- whole blocks of samples end an interval exactly where their number does
+-- the samples of i blocks end an interval exactly if i is a multiple of r
 starts_alike : (j r i : ℕ) → 0 < j → 0 < r → (i * j % (j * r) == 0) ≡ (i % r == 0)
 starts_alike j r i some positive =
     ap (λ n. n % (j * r) == 0) whole ∙ (ap (λ n. n == 0) (mod-mul-add (i / r) (j * r) (i % r * j) below) ∙ zero_alike (i % r))
@@ -49,7 +49,7 @@ HasReference-next s i samples reference allowed filled due =
     (sym (ap (λ n. n % interval_len s == 0) (filled.filled.whole ∙ ap (λ k. k * s.block_size) filled.count_is)
     ∙ starts_alike s.block_size s.interval i (block_size-positive s allowed) (interval-positive s allowed))) due
 
--- a block that can stand there comes next
+-- a block that can be at its place can come next
 pub next_in_place : (s : Settings) (i : ℕ) (samples : List ℤ) (b : Block) → IsAllowed s → AreFilled s i samples → IsBlockAt s (i % s.interval) b
     → IsNextBlock s samples b
 next_in_place s i samples b allowed filled at = record {
@@ -92,7 +92,7 @@ no_reference-later s i k some within = subst (λ b. HasReference s b None) (sym 
     not_first = ap (λ p. s.preprocess && (p == 0)) place
         ∙ (ap (λ b. s.preprocess && b) (ne_eqb (i % s.interval + k) 0 (λ e. absurd (omega arith))) ∙ and_false s.preprocess)
 
--- one zero block more
+-- one more zero block
 pub run_blocks-push : (s : Settings) (reference : Option ℕ) (z : ℕ) → 1 ≤ z
     → run_blocks s reference (z + 1) ≡ run_blocks s reference z ++ zero_block s None ∷ []
 run_blocks-push s reference zero some = absurd (omega arith)
@@ -113,7 +113,7 @@ FillsNext-push s old mid new reference z some first later blocks filled =
 
 -- ---- the samples of zero blocks
 
--- places that are coded as 0, the first at p
+-- n zeros unmap to n samples x, the first with the prediction p
 unmaps-zeros : (s : Settings) (p x : ℤ) (n : ℕ) (old : List ℤ) → IsHeld s x → mapped_value s p x ≡ 0 → mapped_value s x x ≡ 0
     → Unmaps s p (replicate n 0) old (old ++ replicate n x)
 unmaps-zeros s p x n old held first later =
@@ -123,7 +123,7 @@ unmaps-zeros s p x n old held first later =
     zeros zero = refl
     zeros (suc n) = ap₂ (λ v vs. v ∷ vs) first (mapped_after-replicate s x n ∙ ap (replicate n) later)
 
--- behind the reference sample
+-- zeros after the reference place unmap to samples x after the reference sample x
 unmaps-reference : (s : Settings) (x : ℤ) (n : ℕ) (old : List ℤ) → 0 < n → IsHeld s x → mapped_value s x x ≡ 0
     → Unmaps s x (drop 1 (replicate n 0)) (old ++ x ∷ []) (old ++ replicate n x)
 unmaps-reference s x zero old some held later = absurd (omega arith)
@@ -131,7 +131,7 @@ unmaps-reference s x (suc n) old some held later =
     subst (λ new. Unmaps s x (replicate n 0) (old ++ x ∷ []) new) (append_assoc old (x ∷ []) (replicate n x))
     (unmaps-zeros s x x n (old ++ x ∷ []) held later later)
 
--- what is needed of the sample that a run repeats
+-- what has to hold of the sample x that a run repeats
 pub record Repeats (s : Settings) (reference : Option ℕ) (old : List ℤ) (x : ℤ) : Type 0 where
   pub held : IsHeld s x
   pub later : mapped_value s x x ≡ 0
@@ -151,7 +151,7 @@ pub sample_of_zeros-plain : (s : Settings) (reference : Option ℕ) (old : List 
     → sample_of_zeros s reference old ≡ pos 0
 sample_of_zeros-plain s reference old is off = ap (λ o. sample_of_zeros s o old) is ∙ cond-false s.preprocess (last_sample old) (pos 0) off
 
--- a reference stands only where samples are predicted
+-- a block has a reference only with preprocessing
 reference-on : (s : Settings) (p r : ℕ) → HasReference s (is_reference_block s p) (Some r) → s.preprocess ≡ true
 reference-on s p r due = by_preprocess s.preprocess refl due
   where
@@ -221,7 +221,7 @@ last_sample-repeated old (suc n) x some =
     same zero = refl
     same (suc n) = same n
 
--- behind some blocks of a run one block more
+-- one more block of a run, after at least one
 fills-longer : (s : Settings) (i z : ℕ) (old : List ℤ) (reference : Option ℕ) (x : ℤ) → IsAllowed s → 1 ≤ z → i % s.interval + z < s.interval
     → AreFilled s i old → Repeats s reference old x → FillsNext s old (old ++ replicate (z * s.block_size) x) (run_blocks s reference z)
     → FillsNext s old (old ++ replicate ((z + 1) * s.block_size) x) (run_blocks s reference (z + 1))
@@ -262,7 +262,7 @@ fills-run s i (suc (suc k)) old reference x allowed some within due filled repea
     (fills-longer s i (suc k) old reference x allowed (omega arith) (omega arith) filled repeats
     (fills-run s i (suc k) old reference x allowed (omega arith) (omega arith) due filled repeats))
 
--- samples to which a run's are appended in one go
+-- the samples of a run are all appended at once
 pub fills-resized : (s : Settings) (i z : ℕ) (old new : List ℤ) (reference : Option ℕ) (kept : ℤ) (len n : ℕ) → IsAllowed s → 1 ≤ z
     → i % s.interval + z ≤ s.interval
     → HasReference s (is_reference_block s (i % s.interval)) reference → AreFilled s i old → kept ≡ sample_of_zeros s reference old → len ≡ length old

@@ -1,4 +1,4 @@
--- Blocks at their places, joined and taken apart.
+-- Lists of blocks that fit at their places, joined and split.
 use Rattle.std.proofs.Common.{◌≡◌, ℕ, suc, ◌+◌, List, [], ◌∷◌, ◌++◌, length, sym, subst, arith}
 use Rattle.std.proofs.Math.Nat.{add-mod_right}
 use Rattle.aec_params.specs.declared.settings.Settings.{Settings}
@@ -24,7 +24,7 @@ AreBlocksFrom-back s i (x ∷ xs) ys h =
     let e : i + 1 + length xs ≡ i + suc (length xs) = omega arith in
     subst (λ (t : ℕ). AreBlocksFrom s t ys) e (AreBlocksFrom-back s (i + 1) xs ys h.1)
 
--- an interval further on the places are the same
+-- blocks that fit one interval later also fit here
 pub AreBlocksFrom-interval : (s : Settings) (i : ℕ) (xs : List Block) → AreBlocksFrom s (i + s.interval) xs → AreBlocksFrom s i xs
 AreBlocksFrom-interval s i [] h = tt
 AreBlocksFrom-interval s i (x ∷ xs) h =

@@ -17,7 +17,7 @@ next_multiple_of-whole m = omega arith
 pub padded_to_byte-whole : (bits : List Bool) → length (padded_to_byte bits) % 8 ≡ 0
 padded_to_byte-whole bits = ap (λ (t : ℕ). t % 8) (length-padded_to_byte bits) ∙ next_multiple_of-whole (length bits)
 
--- whole bytes need no filling
+-- bits that fill whole bytes are not padded
 pub padded_to_byte-of_whole : (bits : List Bool) → length bits % 8 ≡ 0 → padded_to_byte bits ≡ bits
 padded_to_byte-of_whole bits e =
     let z : up_to_multiple 8 (length bits) ≡ 0 = omega arith in

@@ -1,4 +1,4 @@
--- Codewords tell numbers apart wherever they stand, and binary numbers are read back.
+-- Codewords of different numbers differ, whatever bits follow; binary numbers are read back.
 use Rattle.std.proofs.Common.{◌≡◌, ℕ, zero, suc, ◌+◌, ◌*◌, ◌/◌, ◌%◌, ◌^◌, ◌<◌, Bool, true, false, cond, eqb, List, [], ◌∷◌, ◌++◌, length, map, refl, ap, sym, ◌∙◌, arith, append_assoc}
 use Rattle.std.specs.List.{flat_map, AllByRecursion}
 use Rattle.std.proofs.lemmas.Nat.{mod-pow-add, pow_pos, same_from_place, mod_below, shr_high, mod_low}
@@ -24,7 +24,7 @@ pub length-binary : (w v : ℕ) → length (binary w v) ≡ w
 length-binary zero v = refl
 length-binary (suc w) v = ap suc (length-binary w v)
 
--- the lowest w + 1 bits are the topmost of them and the lowest w
+-- the lowest w + 1 bits are bit w and the lowest w bits
 pub low_bits : (w v : ℕ) → v % 2 ^ suc w ≡ (v / 2 ^ w % 2) * 2 ^ w + v % 2 ^ w
 low_bits w v = let e : suc w ≡ 1 + w = omega arith in rw e (mod-pow-add v 1 w)
 
@@ -59,7 +59,7 @@ bits_number-below [] = omega arith
 bits_number-below (true ∷ bits) = let h = bits_number-below bits in let d = double (length bits) in omega (arith, pow_pos (length bits))
 bits_number-below (false ∷ bits) = let h = bits_number-below bits in let d = double (length bits) in omega (arith, pow_pos (length bits))
 
--- only the lowest w bits are spelled
+-- a binary number in w bits depends only on the lowest w bits
 pub binary-same : (w a b : ℕ) → a % 2 ^ w ≡ b % 2 ^ w → binary w a ≡ binary w b
 binary-same zero a b e = refl
 binary-same (suc w) a b e =
@@ -89,10 +89,10 @@ binary-bits_number (true ∷ bits) =
 binary-bits_number (false ∷ bits) =
     without_top_bit (length bits) (bits_number bits) (bits_number-below bits) ∙ ap (λ (t : List Bool). false ∷ t) (binary-bits_number bits)
 
--- ---- codes of many
+-- ---- codes of lists
 
--- A code that tells the key of each element, wherever its codeword stands, tells the keys of a list
--- of known length.
+-- if a codeword determines the key of its element, whatever bits follow, the code of a list of
+-- known length determines the keys of its elements
 pub flat_map-tells : {X K : Type 0} (P : X → Type 0) (code : X → List Bool) (key : X → K)
     → ((a b : X) (u v : List Bool) → P a → P b → code a ++ u ≡ code b ++ v → (key a ≡ key b) × (u ≡ v))
     → (xs ys : List X) (u v : List Bool) → length xs ≡ length ys → AllByRecursion P xs → AllByRecursion P ys

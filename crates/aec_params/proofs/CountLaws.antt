@@ -1,4 +1,4 @@
--- How many pieces of n places so many places fill, rounded up.
+-- How many pieces of n places m places fill, rounded up.
 use Rattle.std.proofs.Common.{◌≡◌, ℕ, ◌+◌, ◌*◌, ◌/◌, ◌%◌, ◌<◌, ◌≤◌, ap, ◌∙◌, inl, inr, arith}
 use Rattle.std.specs.Int.{div_ceil}
 use Rattle.std.proofs.Math.Nat.{mul-le-mul_right}
@@ -20,7 +20,7 @@ ceil_bounds m n h =
           (omega arith, omega arith)
     ]
 
--- one product is a whole n below the other
+-- if i is below k, i * n is at least n below k * n
 pub row_below : (i k n : ℕ) → i < k → i * n + n ≤ k * n
 row_below i k n h = omega (arith, mul-le-mul_right {m = i + 1} {n = k} n (omega arith))
 

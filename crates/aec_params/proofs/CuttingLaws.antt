@@ -1,4 +1,4 @@
--- The pieces of a list: what they join to, how long they are, and that no other lists are so cut.
+-- The pieces of a list join to the list, have known lengths, and are the only lists cut this way.
 use Rattle.std.proofs.Common.{◌≡◌, ℕ, zero, suc, ◌+◌, ◌-◌, ◌/◌, ◌%◌, ◌<◌, ◌≤◌, List, [], ◌∷◌, ◌++◌, length, take, drop, refl, ap, sym, ◌∙◌, subst, arith, ⊎_elim, append_assoc, length-append}
 use Rattle.std.specs.Int.{div_ceil}
 use Rattle.std.specs.List.{flat_map, AllByRecursion}
@@ -13,7 +13,7 @@ use Rattle.aec_params.specs.Laws.{AreCut}
 pub div_ceil-zero : (n : ℕ) → 0 < n → div_ceil 0 n ≡ 0
 div_ceil-zero n h = let q : 0 / n ≡ 0 = div-eq_of_lt h in let r : 0 % n ≡ 0 = mod-eq_of_lt h in rw (q, r) refl
 
--- one more where there is a first piece
+-- m > 0 places have one piece more than the m - n places after the first piece
 pub div_ceil-step : (m n : ℕ) → 0 < n → 0 < m → div_ceil m n ≡ suc (div_ceil (m - n) n)
 div_ceil-step m n h l = ⊎_elim (short m n h l) (long m n h) (cases_lt m n)
   where
@@ -37,7 +37,7 @@ pieces_of-nil n h = rw (div_ceil-zero n h) refl
 pub pieces_of-step : {X : Type 0} (n : ℕ) (xs : List X) → 0 < n → 0 < length xs → pieces_of n xs ≡ take n xs ∷ pieces_of n (drop n xs)
 pieces_of-step n xs h l = rw (div_ceil-step (length xs) n h l, length-drop n xs) refl
 
--- what holds of no pieces, and of one more in front, holds of all pieces
+-- a property that holds for no pieces, and stays true if a piece is put first, holds for all pieces
 pub by_pieces : {X : Type 0} (n : ℕ) (P : List X → List (List X) → Type 0) → 0 < n → P [] []
     → ((xs : List X) → 0 < length xs → P (drop n xs) (pieces_of n (drop n xs)) → P xs (take n xs ∷ pieces_of n (drop n xs)))
     → (xs : List X) → P xs (pieces_of n xs)
@@ -80,13 +80,13 @@ AreCut-pieces_of {X} n xs h = by_pieces n (λ (xs : List X) (ps : List (List X))
     more : (xs : List X) → 0 < length xs → AreCut n (pieces_of n (drop n xs)) → AreCut n (take n xs ∷ pieces_of n (drop n xs))
     more xs l cut = AreCut-cons n (take n xs) (pieces_of n (drop n xs)) cut (simp length-take (omega arith)) (simp length-take (omega arith)) (whole xs)
 
--- a whole piece in front
+-- a whole piece before a list is the first piece
 pub pieces_of-append : {X : Type 0} (n : ℕ) (p xs : List X) → 0 < n → length p ≡ n → pieces_of n (p ++ xs) ≡ p ∷ pieces_of n xs
 pieces_of-append n p xs h e =
     let l : 0 < length (p ++ xs) = simp length-append (omega arith) in
     pieces_of-step n (p ++ xs) h l ∙ rw (take_at p xs n e, drop_at p xs n e) refl
 
--- whole pieces in front
+-- whole pieces before a list are the first pieces
 pub pieces_of-join : {X : Type 0} (n : ℕ) (ps : List (List X)) (xs : List X) → 0 < n → AllByRecursion (λ (p : List X). length p ≡ n) ps
     → pieces_of n (flat_map (λ (p : List X). p) ps ++ xs) ≡ ps ++ pieces_of n xs
 pieces_of-join n [] xs h all = refl
@@ -94,14 +94,14 @@ pieces_of-join {X} n (p ∷ ps) xs h all =
     ap (pieces_of n) (append_assoc p (flat_map (λ (p : List X). p) ps) xs)
     ∙ (pieces_of-append n p (flat_map (λ (p : List X). p) ps ++ xs) h all.0 ∙ ap (λ (t : List (List X)). p ∷ t) (pieces_of-join n ps xs h all.1))
 
--- one piece alone
+-- a list of 1 to n members is one piece
 pub pieces_of-one : {X : Type 0} (n : ℕ) (p : List X) → 0 < length p → length p ≤ n → pieces_of n p ≡ p ∷ []
 pieces_of-one {X} n p h l =
     let z : 0 < n = omega arith in
     let none = pieces_of-nil {X = X} n z in
     pieces_of-step n p z h ∙ rw (take_all n p l, drop_all n p l, none) refl
 
--- lists that are cut so are the pieces of what they join to
+-- lists that are cut this way are the pieces of the list that they join to
 pub pieces_of-unique : {X : Type 0} (n : ℕ) (ps : List (List X)) → 0 < n → AreCut n ps → pieces_of n (flat_map (λ (p : List X). p) ps) ≡ ps
 pieces_of-unique n [] h cut = pieces_of-nil n h
 pieces_of-unique n (p ∷ []) h cut = ap (pieces_of n) (append-nil p) ∙ pieces_of-one n p cut.0 cut.1
@@ -109,7 +109,7 @@ pieces_of-unique {X} n (p ∷ (q ∷ ps)) h cut =
     pieces_of-append n p (flat_map (λ (p : List X). p) (q ∷ ps)) h cut.0
     ∙ ap (λ (t : List (List X)). p ∷ t) (pieces_of-unique n (q ∷ ps) h cut.1)
 
--- where n divides the length, all pieces are whole
+-- if n divides the length, all pieces are whole
 pub whole-pieces_of : {X : Type 0} (n : ℕ) (xs : List X) → 0 < n → length xs % n ≡ 0 → AllByRecursion (λ (p : List X). length p ≡ n) (pieces_of n xs)
 whole-pieces_of {X} n xs h e =
     by_pieces n (λ (xs : List X) (ps : List (List X)). length xs % n ≡ 0 → AllByRecursion (λ (p : List X). length p ≡ n) ps) h (λ _. tt) more xs e

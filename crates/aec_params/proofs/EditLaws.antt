@@ -1,4 +1,4 @@
--- Which intervals an edit touches and opens.
+-- Which intervals an edit touches, and how many it opens.
 use Rattle.std.proofs.Common.{◌≡◌, ℕ, zero, suc, ◌+◌, ◌-◌, ◌*◌, ◌/◌, ◌%◌, ◌<◌, ◌≤◌, min, Bool, true, false, cond, eqb, ltb, List, [], ◌∷◌, ◌++◌, length, map, refl, ap, sym, ◌∙◌, subst, arith, ⊎_elim, ◌⊎◌, length-append}
 use Rattle.std.specs.List.{range_with_len, dedup_from, filter}
 use Rattle.std.specs.Int.{div_ceil}
@@ -26,7 +26,7 @@ div-step n a h =
     let e = add-div_right a h in
     grind arith
 
--- one more quotient k in front of those that begin at l and end at m
+-- the quotients from l to m, each once, with k put first, are those from k to m; l is k or k + 1
 one_more : (k l m : ℕ) (later : List ℕ) → l ≤ m → (l ≡ k) ⊎ (l ≡ k + 1)
     → dedup_from (λ i k. eqb i k) l later ≡ range_with_len l (suc (m - l))
     → cond (eqb l k) (dedup_from (λ i k. eqb i k) k later) (k ∷ dedup_from (λ i k. eqb i k) l later) ≡ range_with_len k (suc (m - k))
@@ -43,7 +43,7 @@ one_more k l m later h step e = ⊎_elim (same k l m later e) (next k l m later 
         let c : suc (m - l) ≡ m - k = omega arith in
         rw f (ap (λ (t : List ℕ). k ∷ t) (e ∙ (ap (range_with_len l) c ∙ ap (λ (t : ℕ). range_with_len t (m - k)) q)))
 
--- the numbers of the intervals from the place before these on, each once
+-- the numbers of the intervals of the places a to a + len, each once
 dedup-quotients : (n a len : ℕ) → 0 < n → dedup_from (λ i k. eqb i k) (a / n) (map (λ (place : ℕ). place / n) (range_with_len (a + 1) len))
     ≡ range_with_len (a / n) (suc ((a + len) / n - a / n))
 dedup-quotients n a zero h =
@@ -97,7 +97,7 @@ range-last a (suc m) =
     let e : a + 1 + m ≡ a + suc m = omega arith in
     ap (λ (t : List ℕ). a ∷ t) (range-last (a + 1) m ∙ ap (λ (t : ℕ). range_with_len (a + 1) m ++ (t ∷ [])) e)
 
--- a test that only the first and the last of some numbers can pass, at most two pass
+-- if only the first and the last of some numbers can pass a test, at most two pass
 ends_alone : (test : ℕ → Bool) (a m : ℕ) → ((k : ℕ) → a < k → k < a + m → test k ≡ false) → length (filter test (range_with_len a (suc m))) ≤ 2
 ends_alone test a zero none = let h = length-filter-le test (a ∷ []) in omega arith
 ends_alone test a (suc m) none =
@@ -123,7 +123,7 @@ keeps_head n old first stop k before = grind (arith, nat_tests)
 pub keeps_tail : (n old first stop k : ℕ) → stop < min (k * n + n) old → keeps_a_sample n old (record { first = first; stop = stop }) k ≡ true
 keeps_tail n old first stop k behind = grind (arith, nat_tests)
 
--- an interval between the first and the last touched one keeps nothing
+-- an interval between the first and the last touched one keeps no sample
 keeps_nothing : (n old first len k : ℕ) → 0 < n → 0 < len → first / n < k → k < (first + len - 1) / n
     → keeps_a_sample n old (record { first = first; stop = first + len }) k ≡ false
 keeps_nothing n old first len k h l a b =
@@ -163,7 +163,7 @@ pub positive : (m : ℕ) → (m ≡ 0 → ⊥) → 0 < m
 positive zero h = absurd (h refl)
 positive (suc m) h = omega arith
 
--- a piece that is begun is one more
+-- an append to a last interval that isn't full codes at least one interval
 ceil_more : (n old len : ℕ) → 0 < n → 0 < old % n → 0 < len → 1 ≤ div_ceil (old + len) n - old / n
 ceil_more n old len h r l = ⊎_elim (same n old len r l) (λ (k : old / n < (old + len) / n). omega arith)
     (two_cases (old / n) ((old + len) / n) (div-le n old (old + len) h (omega arith)))
@@ -195,7 +195,7 @@ opened_intervals-le-needed_calls n old (Truncate count) h stays = omega arith
 opened_intervals-le-needed_calls n old (Insert first values) h stays = absurd stays
 opened_intervals-le-needed_calls n old (Remove first len) h stays = absurd stays
 
--- an append codes the intervals that its samples lie in
+-- how many intervals m > 0 places reach: one more than the number of the last of these intervals
 ceil-pred : (m n : ℕ) → 0 < n → 0 < m → div_ceil m n ≡ (m - 1) / n + 1
 ceil-pred zero n h l = absurd (omega arith)
 ceil-pred (suc m) n h l =

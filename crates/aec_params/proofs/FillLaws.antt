@@ -59,7 +59,7 @@ samples_of_values s r (v ∷ values) a h l b z =
 
 -- ---- one interval
 
--- the blocks behind the first block of an interval: no reference, and values as they are to be
+-- a block after the first of its interval: no reference sample, J values below 2^n
 record IsLaterBlock (s : Settings) (b : Block) : Type 0 where
   reference : b.reference ≡ None
   count : length b.values ≡ s.block_size
@@ -106,7 +106,7 @@ and_true : (b : Bool) → (b && true) ≡ b
 and_true true = refl
 and_true false = refl
 
--- whole blocks need no filling
+-- samples that fill whole blocks get no filler
 filled_whole : (s : Settings) (xs : List ℤ) (k : ℕ) → length xs ≡ k * s.block_size → filled_samples s xs ≡ xs
 filled_whole s xs k e =
     let z : length xs % s.block_size ≡ 0 = ap (λ (t : ℕ). t % s.block_size) e ∙ mul-mod_left k s.block_size in
@@ -165,7 +165,7 @@ later_block s p b l h = record {
     no_reference s None h = refl
     no_reference s (Some r) h = absurd h
 
--- the blocks behind the first within an interval
+-- blocks that fit after the first block of an interval, within it, are later blocks
 later_blocks : (s : Settings) (i : ℕ) (bs : List Block) → 0 < i → i + length bs ≤ s.interval → AreBlocksFrom s i bs → AllByRecursion (IsLaterBlock s) bs
 later_blocks s i [] l k h = tt
 later_blocks s i (b ∷ bs) l k h =
@@ -194,7 +194,7 @@ few_samples : (s : Settings) (k m : ℕ) → k ≤ s.interval → m ≡ k * s.bl
 few_samples s k m l e =
     let p : k * s.block_size ≤ s.interval * s.block_size = mul-le-mul_right s.block_size l in omega (arith, mul_comm s.interval s.block_size)
 
--- the blocks of the last interval
+-- the blocks of the last interval have samples
 last_samples : (s : Settings) (b : Block) (bs : List Block) → IsAllowed s → length (b ∷ bs) ≤ s.interval → AreBlocksFrom s 0 (b ∷ bs) → HasSamples s (b ∷ bs)
 unfolding HasSamples
 last_samples s b bs a l h =
@@ -203,7 +203,7 @@ last_samples s b bs a l h =
     let few = few_samples s (length (b ∷ bs)) (length r.0) l r.2 in
     (r.0, record { held = r.1; whole = r.2; mapped = all_blocks_of-one s r.0 some few ∙ r.3 })
 
--- a whole interval's blocks before others
+-- the blocks of a whole interval, then blocks that have samples, have samples
 more_samples : (s : Settings) (b : Block) (bs later : List Block) → IsAllowed s → length (b ∷ bs) ≡ s.interval
     → AreBlocksFrom s 0 (b ∷ bs) → HasSamples s later → HasSamples s ((b ∷ bs) ++ later)
 unfolding HasSamples

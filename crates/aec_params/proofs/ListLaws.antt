@@ -1,4 +1,4 @@
--- Small laws of lists that the laws of the format rest on.
+-- Small lemmas about lists, used by the proofs of the format's laws.
 use Rattle.std.proofs.Common.{◌≡◌, ℕ, zero, suc, Bool, true, false, ◌&&◌, List, [], ◌∷◌, ◌++◌, length, replicate, refl, arith}
 use Rattle.std.specs.List.{AllByRecursion, list_all}
 

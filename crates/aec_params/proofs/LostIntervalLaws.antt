@@ -1,4 +1,4 @@
--- The intervals that an insertion or a removal opens are those that are not there after it.
+-- The intervals that an insertion or a removal cuts anew are those that don't exist after it.
 use Rattle.std.proofs.Common.{◌≡◌, ℕ, ◌+◌, ◌-◌, ◌*◌, ◌/◌, ◌%◌, ◌<◌, ◌≤◌, true, false, inl, inr, eqb, Some, List, [], refl, sym, ◌∙◌, arith, ◌⊎◌}
 use Rattle.std.specs.List.{range_with_len, list_any}
 use Rattle.std.specs.Int.{div_ceil}
@@ -22,8 +22,8 @@ is_none n x intervals i k is there = record { one = λ e. absurd (cc); none = λ
 from_some : {a b : ℕ} → Some a ≡ Some b → a ≡ b
 from_some e = cc
 
--- where an interval that is there after an exchange begins: where it began before it, or behind the
--- new samples
+-- an interval that still exists after an exchange begins at its old place, or after the new
+-- samples, moved with its own samples
 module _ (n old first stop fresh i k : ℕ) (h : 0 < n) (order : first ≤ stop) (within : stop ≤ old) (inside : i * n < old)
     (same : IsFromBefore n (record { old = old; gone = from_to first stop; fresh = fresh }) k i) where
   begins : ((k * n < first) × (k * n ≡ i * n)) ⊎ ((first + fresh ≤ k * n) × (k * n + stop ≡ i * n + (first + fresh)))
@@ -56,7 +56,7 @@ module _ (n old first i : ℕ) (h : 0 < n) (below : i < div_ceil old n) where
   in_front : i < first / n → i * n + n ≤ first
   in_front less = omega (arith, place_parts.0, row_below i (first / n) n less)
 
-  -- those from that of the place on, up to an end
+  -- the intervals from that of the place on, below number m
   abbrev up_to : ℕ → List ℕ
   up_to m = range_with_len (first / n) (m - first / n)
 

@@ -1,4 +1,4 @@
--- The samples and the values below 2^n stand for one another, at each prediction.
+-- At each prediction, the mapping is one-to-one between the samples and the values below 2^n.
 use Rattle.std.proofs.Common.{◌≡◌, ℕ, zero, suc, ◌+◌, ◌-◌, ◌*◌, ◌/◌, ◌%◌, ◌^◌, ◌<◌, ◌≤◌, min, Bool, true, false, cond, leb, ltb, ◌&&◌, ℤ, pos, negsuc, refl, ap, sym, ◌∙◌, subst, arith, inl, inr, ⊎_elim, ◌⊎◌}
 use Rattle.std.specs.Prelude.{◌-ℤ◌, ◌+ℤ◌, neg_ℤ, nat_abs, int_le, if◌then◌else◌}
 use Rattle.std.proofs.lemmas.Bool.{cases_lt, and_parts, and_from, le-leb, le-ltb, and_right}
@@ -12,9 +12,9 @@ use Rattle.aec_params.specs.declared.settings.Settings.{Settings}
 use Rattle.aec_params.specs.Params.{IsAllowed, IsHeld, x_min, x_max}
 use Rattle.aec_params.specs.Mapping.{room_around, mapped_error}
 
--- ---- differences as natural numbers: a room t, so many places above and below it
+-- ---- differences as natural numbers, with t the smaller of the places below and above
 
--- the value of a difference of e upwards, and of suc e downwards
+-- the value of the difference e; `below`: the value of the difference -(e + 1)
 abbrev above : ℕ → ℕ → ℕ
 above t e = cond (leb e t) (2 * e) (t + e)
 
@@ -45,7 +45,7 @@ below_apart low high e f h k q = grind (arith, nat_tests)
 both_apart : (low high e f : ℕ) → e ≤ high → f < low → above (min low high) e ≡ below (min low high) f → ⊥
 both_apart low high e f h k q = grind (arith, nat_tests)
 
--- a value below low + high + 1 is that of a difference upwards or downwards
+-- m is the value of a difference of at most `high` upwards or `low` downwards
 HasDifference : ℕ → ℕ → ℕ → Type 0
 HasDifference low high m =
     ((e : ℕ) × (e ≤ high) × (above (min low high) e ≡ m)) ⊎ ((e : ℕ) × (e < low) × (below (min low high) e ≡ m))
@@ -81,7 +81,7 @@ difference_of low high m h =
     (two_remainders m))
     (cases_lt (2 * min low high) m)
 
--- a difference that leads to a sample
+-- a difference whose sample is in the range
 abbrev IsWithin : ℕ → ℕ → ℤ → Type 0
 IsWithin low high (pos e) = e ≤ high
 IsWithin low high (negsuc e) = e < low
@@ -123,7 +123,7 @@ span_of false n h = omega (arith, ints)
 span : (s : Settings) → IsAllowed s → x_max s -ℤ x_min s ≡ pos (2 ^ s.bits - 1)
 span s allowed = span_of s.signed s.bits (at_least_one_bit s allowed)
 
--- how far b is above a
+-- b - a, if a is at most b
 gap : ℤ → ℤ → ℕ
 gap a b = nat_abs (b -ℤ a)
 
@@ -141,7 +141,7 @@ int_min-pos a b = grind (arith, ints, clamps)
 between : (s : Settings) (p : ℤ) → IsHeld s p → (int_le (x_min s) p ≡ true) × (int_le p (x_max s) ≡ true)
 between s p held = and_parts (int_le (x_min s) p) (int_le p (x_max s)) held
 
--- the places below and above the prediction p, among which the samples lie
+-- how many samples are below the prediction p, and how many above it
 record Places (s : Settings) (p : ℤ) (low high : ℕ) : Type 0 where
   down : p -ℤ x_min s ≡ pos low
   up : x_max s -ℤ p ≡ pos high
@@ -166,7 +166,7 @@ within_places s p x low high h held (negsuc e) q =
 le_from_gap : (a b : ℤ) (g : ℕ) → b -ℤ a ≡ pos g → int_le a b ≡ true
 le_from_gap a b g h = grind (arith, ints)
 
--- the prediction and a difference within the places make a sample
+-- the prediction plus a difference within these places is a sample
 held_from_difference : (s : Settings) (p : ℤ) (low high : ℕ) → Places s p low high → (d : ℤ) → IsWithin low high d → IsHeld s (p +ℤ d)
 held_from_difference s p low high h (pos e) w =
     let u = h.up in let d = h.down in

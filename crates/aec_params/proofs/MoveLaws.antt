@@ -1,4 +1,4 @@
--- What insertions and removals code and open.
+-- How many intervals insertions and removals code, and how many an insertion opens.
 use Rattle.std.proofs.Common.{◌≡◌, ℕ, zero, ◌+◌, ◌-◌, ◌*◌, ◌/◌, ◌%◌, ◌<◌, ◌≤◌, Bool, true, false, inl, inr, cond, eqb, [], length, refl, ap, ◌∙◌, arith, ⊎_elim}
 use Rattle.std.specs.List.{range_with_len, filter}
 use Rattle.std.specs.Int.{div_ceil}
@@ -14,7 +14,7 @@ use Rattle.aec_params.proofs.EditLaws.{positive, length-filter-all, keeps_head, 
 
 -- ---- numbers
 
--- so many places fill the whole intervals of them, and one more where they end inside one
+-- m places fill m / n whole intervals, and one more interval if they end inside it
 pub ceil_inside : (n m : ℕ) → 0 < n → div_ceil m n ≡ m / n + inside_calls n m
 ceil_inside n m h =
     let whole = div-add-mod' m n in
@@ -29,7 +29,7 @@ ceil_inside n m h =
           rw test (ceil_unique m n (m / n + 1) (omega arith) (omega (arith, positive (m % n) some)))
     ]
 
--- whole intervals more
+-- whole intervals add their number to the quotient
 pub div-whole : (n old len : ℕ) → 0 < n → len % n ≡ 0 → (old + len) / n ≡ old / n + len / n
 div-whole n old len h whole =
     let a = div-add-mod' old n in
@@ -71,7 +71,7 @@ moved_length n len count first stop = by_tests (eqb len 0) (eqb (len % n) 0)
     by_tests false true = length-range_with_len (first / n) (div_ceil stop n - first / n)
     by_tests false false = length-range_with_len (first / n) (div_ceil count n - first / n)
 
--- numbers that are chosen are equal where each is
+-- numbers chosen by the same tests are equal, if the numbers to choose from are
 chosen : (none whole : Bool) (x y w z : ℕ) → (whole ≡ true → x ≡ w) → y ≡ z → cond none 0 (cond whole x y) ≡ cond none 0 (cond whole w z)
 chosen true whole x y w z same other = refl
 chosen false true x y w z same other = same refl
@@ -138,7 +138,7 @@ ceil-le n a b h l =
     (λ (at_most : div_ceil a n ≤ div_ceil b n). at_most)
     (cases_lt (div_ceil b n) (div_ceil a n))
 
--- all from that of the place on keep a sample
+-- each interval from that of the place on keeps a sample
 all_kept : (n old first k : ℕ) → 0 < n → first / n ≤ k → k < div_ceil old n → keeps_a_sample n old (from_to first first) k ≡ true
 all_kept n old first k h from below =
     let parts = div-add-mod' first n in
@@ -188,7 +188,7 @@ pub none_if_whole : (b : Bool) → cond b zero zero ≡ zero
 none_if_whole true = refl
 none_if_whole false = refl
 
--- nothing is coded where an interval begins at the place, and whole intervals go, or all
+-- nothing is coded if an interval begins at the place, and whole intervals or all later samples go
 none_coded : (none whole : Bool) (inside more : ℕ) → inside ≡ 0 → (whole ≡ false → more ≡ 0) → cond none 0 (cond whole inside more) ≡ 0
 none_coded true whole inside more at_begin end = refl
 none_coded false true inside more at_begin end = at_begin

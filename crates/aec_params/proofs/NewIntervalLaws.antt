@@ -1,4 +1,4 @@
--- The intervals that an insertion or a removal codes are those that were not there before.
+-- The intervals that an insertion or a removal codes are those that did not exist before it.
 use Rattle.std.proofs.Common.{◌≡◌, ℕ, zero, suc, ◌+◌, ◌-◌, ◌*◌, ◌/◌, ◌%◌, ◌<◌, ◌≤◌, true, false, inl, inr, eqb, Some, None, List, [], refl, sym, ap, ◌∙◌, arith, ◌⊎◌}
 use Rattle.std.specs.List.{range_with_len, list_any}
 use Rattle.std.specs.Int.{div_ceil}
@@ -31,7 +31,7 @@ pub any_behind : (a m k : ℕ) → a + m ≤ k → list_any (λ i. eqb i k) (ran
 any_behind a zero k past = refl
 any_behind a (suc m) k past = rw (ne_eqb a k (λ e. absurd (omega arith))) (any_behind (a + 1) m k (omega arith))
 
--- ---- what is told of one interval
+-- ---- one interval
 
 is_one : (n : ℕ) (x : Exchange) (intervals : List ℕ) (k : ℕ) → list_any (λ i. eqb i k) intervals ≡ true
     → ((i : ℕ) → IsFromBefore n x k i → ⊥) → IsNewIfOneOf n x intervals k
@@ -77,11 +77,11 @@ module _ (n old first stop fresh : ℕ) (h : 0 < n) (order : first ≤ stop) (wi
   pub stood-behind : (place : ℕ) → first + fresh ≤ place → stood_at x place ≡ Some (place - (first + fresh) + stop)
   stood-behind place past = rw (le-ltb place first (omega arith), le-ltb place (first + fresh) past) refl
 
-  -- an interval in front of the places
+  -- an interval that ends before the exchanged places is the old interval k
   pub front_stays : (k : ℕ) → k * n + n ≤ first → IsFromBefore n x k k
   front_stays k before = record { count = omega arith; each = λ j less. stood-front (k * n + j) (omega arith) }
 
-  -- one behind them that stands as it stood
+  -- an interval after the new samples is the old interval i, if it begins where that one began
   pub behind_stays : (k i : ℕ) → first + fresh ≤ k * n → k * n + stop ≡ i * n + (first + fresh) → IsFromBefore n x k i
   behind_stays k i past moved = record {
     count = omega arith;
@@ -89,14 +89,14 @@ module _ (n old first stop fresh : ℕ) (h : 0 < n) (order : first ≤ stop) (wi
         let same : k * n + j - (first + fresh) + stop ≡ i * n + j = omega arith in stood-behind (k * n + j) (omega arith) ∙ ap Some same;
   }
 
-  -- one that holds a new sample
+  -- an interval that holds a new sample is new
   pub fresh_is_new : (k : ℕ) → 0 < fresh → k * n < first + fresh → first < k * n + n → (i : ℕ) → IsFromBefore n x k i → ⊥
   fresh_is_new k some begins ends i same =
       let was = same.each (first - k * n) (omega arith) in
       let none = stood-fresh (k * n + (first - k * n)) (omega arith) (omega arith) in
       cc
 
-  -- one behind them that stood at another place of its interval
+  -- an interval after the new samples is new, if no old interval began at its first sample
   moved_is_new : (k : ℕ) → first + fresh ≤ k * n → k * n < count_after x → ((i : ℕ) → k * n + stop ≡ i * n + (first + fresh) → ⊥)
       → (i : ℕ) → IsFromBefore n x k i → ⊥
   moved_is_new k past inside apart i same =
@@ -108,7 +108,7 @@ module _ (n old first stop fresh : ℕ) (h : 0 < n) (order : first ≤ stop) (wi
       from_some : {a b : ℕ} → Some a ≡ Some b → a ≡ b
       from_some e = cc
 
-  -- one that the places were taken out of
+  -- an interval is new if places were removed inside it
   pub cut_is_new : (k : ℕ) → fresh ≡ 0 → first < stop → k * n < first → first < k * n + n → (i : ℕ) → IsFromBefore n x k i → ⊥
   cut_is_new k none some begins ends i same =
       let was = same.each 0 (omega arith) in
@@ -126,7 +126,7 @@ module _ (n old first stop fresh : ℕ) (h : 0 < n) (order : first ≤ stop) (wi
       from_some : {a b : ℕ} → Some a ≡ Some b → a ≡ b
       from_some e = cc
 
--- nothing goes and nothing comes
+-- if no sample is removed or inserted, each interval is the old interval
 pub all_stays : (n old first k : ℕ) → first ≤ old → IsFromBefore n (record { old = old; gone = from_to first first; fresh = 0 }) k k
 all_stays n old first k within = record { count = omega arith; each = λ j less. stays (k * n + j) (cases_lt (k * n + j) first) }
   where
@@ -145,7 +145,7 @@ module _ (n old first len k : ℕ) (h : 0 < n) (within : first ≤ old) (below :
   inside : k * n < old + len
   inside = before_end k (old + len) n h below
 
-  -- the interval of the place begins in front of it
+  -- the place lies in interval first / n
   place_parts : (first / n * n ≤ first) × (first < first / n * n + n)
   place_parts = let whole = div-add-mod' first n in let small = mod-lt first h in (omega arith, omega arith)
 
@@ -155,7 +155,7 @@ module _ (n old first len k : ℕ) (h : 0 < n) (within : first ≤ old) (below :
   in_front : k < first / n → k * n + n ≤ first
   in_front less = omega (arith, place_parts.0, row_below k (first / n) n less)
 
-  -- those from that of the place on, up to an end
+  -- the intervals from that of the place on, below number m
   abbrev up_to : ℕ → List ℕ
   up_to m = range_with_len (first / n) (m - first / n)
 

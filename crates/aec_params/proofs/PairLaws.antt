@@ -4,7 +4,7 @@ use Rattle.std.proofs.lemmas.Bool.{cases_order}
 use Rattle.std.proofs.Math.Nat.{mul-div_cancel}
 use Rattle.aec_params.specs.CodedDataSets.{pair_number}
 
--- how many pairs have a sum below s
+-- the number of pairs whose sum is below s
 abbrev triangle : ℕ → ℕ
 triangle zero = 0
 triangle (suc s) = triangle s + suc s
@@ -43,7 +43,7 @@ pair_number-one_to_one a b c d e =
     let h = ap triangle g in
     (omega arith, omega arith)
 
--- the pair after the pair (a, b)
+-- a pair with the number after that of (a, b)
 next_pair : (a b m : ℕ) → triangle (a + b) + b ≡ m → (c : ℕ) × (d : ℕ) × (triangle (c + d) + d ≡ suc m)
 next_pair zero b m e =
     let p : suc b + 0 ≡ suc b = omega arith in

@@ -1,4 +1,4 @@
--- A sample and its pattern of n bits: each gives the other.
+-- A sample and its pattern of n bits: code computes each from the other.
 use Rattle.std.proofs.Common.{◌≡◌, ℕ, zero, suc, ◌+◌, ◌-◌, ◌*◌, ◌^◌, ◌%◌, ◌<◌, ◌≤◌, refl, ap, ◌∙◌, sym, arith, IsTrue}
 use Rattle.std.proofs.lemmas.Nat.{pow-add, pow_pos, mod_low, one_shl}
 use Rattle.std.proofs.lemmas.Bool.{and_parts, and_from, cond-true, cond-false, leb-true, leb-false, le-leb, lt-leb}
@@ -10,7 +10,7 @@ use Rattle.std.specs.Int.{cast_unsigned, w64}
 use Rattle.aec_params.specs.declared.settings.Settings.{Settings}
 use Rattle.aec_params.specs.Params.{IsAllowed, IsHeld, x_max, sample_pattern, pattern_value}
 
--- two halves of n bits
+-- half of 2 ^ n is 2 ^ (n - 1)
 pub pow-halves : (n : ℕ) → 1 ≤ n → 2 ^ n ≡ 2 ^ (n - 1) + 2 ^ (n - 1)
 pow-halves n h =
     let e : 1 + (n - 1) ≡ n = omega arith in
@@ -27,7 +27,7 @@ bits-greatest s a = let b = a.bits in grind arith
 pub values-most : (s : Settings) → IsAllowed s → 2 ^ s.bits ≤ 2 ^ 32
 values-most s a = pow-le-pow_right {n = 2} (omega arith) {i = s.bits} {j = 32} (bits-greatest s a)
 
--- as much below one more high part as below the first
+-- k below (g + 1) * t is t - k above g * t
 take_from_high : (g t k : ℕ) → k ≤ t → (g + 1) * t - k ≡ g * t + (t - k)
 take_from_high g t k below = omega arith
 
@@ -44,12 +44,12 @@ low_bits-negative n m h below =
     let low : 2 ^ n - (m + 1) < 2 ^ n = omega arith in
     ap (λ (k : ℕ). k % 2 ^ n) split ∙ mod_low (2 ^ (64 - n) - 1) n (2 ^ n - (m + 1)) low
 
--- a number that is not below minus k
+-- if -(m + 1) is at least -k, m is below k
 above-negated : (k m : ℕ) → int_le (neg_ℤ (pos k)) (negsuc m) ≡ true → m < k
 above-negated zero m h = absurd (cc)
 above-negated (suc k) m h = let e = leb-true m k h in omega arith
 
--- a negative sample that is held, where k is half of the number of values
+-- if a negative sample -(m + 1) is held, samples are signed and m is below k, half of the range
 negative-at : (signed : Bool) (k m : ℕ) (top : ℤ)
     → IsTrue (int_le (if signed then neg_ℤ (pos k) else pos 0) (negsuc m) && int_le (negsuc m) top) → (signed ≡ true) × (m < k)
 negative-at false k m top h = absurd (cc)
@@ -58,7 +58,7 @@ negative-at true k m top h = (refl, above-negated k m (and_parts (int_le (neg_�
 pub held-negative : (s : Settings) (m : ℕ) → IsHeld s (negsuc m) → (s.signed ≡ true) × (m < 2 ^ (s.bits - 1))
 held-negative s m h = negative-at s.signed (2 ^ (s.bits - 1)) m (x_max s) h
 
--- a sample from 0 on that is held, where t is the number of values and k half of it
+-- a held sample m of 0 or more is below t, the size of the range, and if signed below k, half of t
 positive-at : (signed : Bool) (k t m : ℕ) → 0 < k → t ≡ k + k
     → IsTrue (int_le (if signed then neg_ℤ (pos k) else pos 0) (pos m) && int_le (pos m) (if signed then pos (k - 1) else pos (t - 1)))
     → (m < t) × ((signed && nat_le k m) ≡ false)
@@ -84,20 +84,20 @@ low_bits-pattern s (negsuc m) a h =
     let next : suc m ≡ m + 1 = omega arith in
     ap (λ (k : ℕ). (2 ^ 64 - k) % 2 ^ s.bits) next ∙ low_bits-negative s.bits m (omega arith) (omega arith)
 
--- the low b bits of the bits u of a sample, as code computes them
+-- the low b bits of a sample with the bits u, as code computes them
 pub low_bits-code : (x : ℤ) (u b : ℕ) → SFits w64 x → u ≡ cast_unsigned w64 (to_z w64 (cast_unsigned w64 x)) → b < 64
     → u % (1 * 2 ^ b % 2 ^ 64) ≡ cast_unsigned w64 x % 2 ^ b
 low_bits-code x u b fits e few =
     ap (λ (k : ℕ). u % k) (one_shl b 64 few) ∙ ap (λ (k : ℕ). k % 2 ^ b) (e ∙ ap (cast_unsigned w64) (to_z-of_z w64 x fits))
 
--- they are the pattern of a held sample where b is the number of bits
+-- these low bits are the pattern of a held sample, if b is the bits per sample
 pub low_bits-held : (s : Settings) (x : ℤ) (u b : ℕ) → IsAllowed s → IsHeld s x → SFits w64 x
     → u ≡ cast_unsigned w64 (to_z w64 (cast_unsigned w64 x)) → b ≡ s.bits → u % (1 * 2 ^ b % 2 ^ 64) ≡ sample_pattern s x
 low_bits-held s x u b a h fits e width =
     let few = bits-greatest s a in
     ap (λ (k : ℕ). u % (1 * 2 ^ k % 2 ^ 64)) width ∙ low_bits-code x u s.bits fits e (omega arith) ∙ low_bits-pattern s x a h
 
--- the upper half stands for negative numbers
+-- with signed samples the pattern t - (m + 1), in the upper half of t, means -(m + 1)
 value-at : (signed : Bool) (k t m : ℕ) → t ≡ k + k → signed ≡ true → m < k
     → (if signed && nat_le k (t - (m + 1)) then pos (t - (m + 1)) -ℤ pos t else pos (t - (m + 1))) ≡ negsuc m
 value-at signed k t m e negative low =
@@ -113,7 +113,7 @@ value-pattern s (negsuc m) a h =
     let held = held-negative s m h in
     value-at s.signed (2 ^ (s.bits - 1)) (2 ^ s.bits) m (pow-halves s.bits (bits-least s a)) held.0 held.1
 
--- what code computes for the upper half: u less the number of values t
+-- u - t, as code computes it for a pattern u in the upper half of t patterns
 negative-code : (u t : ℕ) → u < t → t ≤ 2 ^ 32 → to_z w64 (of_z w64 (to_z w64 (of_z w64 (pos u)) -ℤ to_z w64 t)) ≡ negsuc (t - (u + 1))
 negative-code u t low few = omega (arith, ints)
 
@@ -143,7 +143,7 @@ from-negative false k m t e low = absurd (cc)
 from-negative true zero m t e low = absurd (omega arith)
 from-negative true (suc k) m t e low = and_from (int_le (neg_ℤ (pos (suc k))) (negsuc m)) true (le-leb m k (omega arith)) refl
 
--- the upper half of the patterns has samples
+-- the negative sample of a pattern in the upper half is held
 pub negative-held : (s : Settings) (u : ℕ) → IsAllowed s → u < 2 ^ s.bits → (s.signed && nat_le (2 ^ (s.bits - 1)) u) ≡ true
     → IsHeld s (negsuc (2 ^ s.bits - (u + 1)))
 negative-held s u a low test =
@@ -161,7 +161,7 @@ from-positive true (suc k) t u low test =
     let less = leb-false (suc k) u test in
     and_from (int_le (neg_ℤ (pos (suc k))) (pos u)) (int_le (pos u) (pos (suc k - 1))) refl (le-leb u (suc k - 1) (omega arith))
 
--- and so have the others
+-- the sample of any other pattern is held
 pub positive-held : (s : Settings) (u : ℕ) → u < 2 ^ s.bits → (s.signed && nat_le (2 ^ (s.bits - 1)) u) ≡ false → IsHeld s (pos u)
 positive-held s u low test = from-positive s.signed (2 ^ (s.bits - 1)) (2 ^ s.bits) u low test
 

@@ -1,4 +1,4 @@
--- The samples and the patterns of n bits stand for one another.
+-- Patterns are one-to-one between the samples and the numbers below 2^n.
 use Rattle.std.proofs.Common.{◌≡◌, ℕ, zero, suc, ◌-◌, ◌^◌, ◌<◌, ◌≤◌, Bool, true, false, ◌&&◌, ℤ, pos, negsuc, refl, ap, arith, ⊎_elim}
 use Rattle.std.specs.Prelude.{neg_ℤ, int_le, if◌then◌else◌}
 use Rattle.std.proofs.lemmas.Bool.{cases_lt, and_parts, and_from, le-leb, leb-true}

@@ -1,4 +1,4 @@
--- Each reading of blocks is a reading of samples, of one list alone.
+-- Each reading of blocks is a reading of exactly one list of samples.
 use Rattle.std.proofs.Common.{◌≡◌, ℕ, ◌+◌, ◌-◌, ◌%◌, ◌≤◌, Bool, List, [], ◌∷◌, length, take, drop, Option, Some, None, ℤ, refl, ap, sym, ◌∙◌, subst, arith}
 use Rattle.std.specs.Int.{div_ceil}
 use Rattle.std.proofs.lemmas.List.{take-append-drop}
@@ -25,7 +25,7 @@ kept-shape s (Some count) i blocks h =
     let n = div_ceil count s.block_size - i in
     AreBlocksFrom-front s i (take n blocks) (drop n blocks) (rw (take-append-drop n blocks) h)
 
--- the blocks of a reading can stand where they stand
+-- the blocks of a reading fit at their places
 pub IsBlockReading-shape : (s : Settings) (count : Option ℕ) (limit : ℕ) (bits : List Bool) (i b : ℕ) (blocks : List Block)
     → IsAllowed s → IsBlockReading s count limit bits i b blocks → AreBlocksFrom s i blocks
 IsBlockReading-shape s count limit bits i b blocks a h =
@@ -42,7 +42,7 @@ IsReading-of_blocks s count limit bits blocks a h =
     let r = samples-of_reading s count limit bits blocks a h in
     (counted_samples count r.0, record { blocks = blocks; read = h; all_samples = r.0; filled = r.1; counted = refl })
 
--- the blocks that coded data sets of one interval stand for
+-- the blocks that coded data sets of one interval stand for fit at their places
 pub covered_blocks-shape : (s : Settings) (n p : ℕ) (sets : List CodedDataSet) → IsAllowed s → n ≤ s.interval → Covers s n p sets
     → AreBlocksFrom s p (covered_blocks s p sets)
 covered_blocks-shape s n p [] a l h = tt

@@ -1,4 +1,4 @@
--- Which intervals a removal opens.
+-- How many intervals a removal opens.
 use Rattle.std.proofs.Common.{◌≡◌, ℕ, zero, suc, ◌+◌, ◌-◌, ◌*◌, ◌/◌, ◌%◌, ◌<◌, ◌≤◌, min, Bool, true, false, inl, inr, cond, eqb, ltb, [], ◌∷◌, ◌++◌, length, refl, ap, ◌∙◌, arith, length-append}
 use Rattle.std.specs.List.{range_with_len, filter}
 use Rattle.std.specs.Int.{div_ceil}
@@ -22,13 +22,14 @@ range-append a (suc m) k =
     let place : a + 1 + m ≡ a + suc m = omega arith in
     rw count (ap (λ l. a ∷ l) (range-append (a + 1) m k ∙ ap (λ b. range_with_len (a + 1) m ++ range_with_len b k) place))
 
--- an interval in front of the last cut one keeps nothing, unless it begins in front of the place
+-- an interval that lies within the removed places keeps no sample
 keeps_none : (n old first stop k : ℕ) → first ≤ k * n → k * n + n ≤ stop → keeps_a_sample n old (from_to first stop) k ≡ false
 keeps_none n old first stop k behind before =
     or_from (ltb (k * n) first) (ltb stop (min (k * n + n) old))
     (le-ltb (k * n) first behind) (le-ltb stop (min (k * n + n) old) (omega arith))
 
--- of the intervals in front of the last cut one only the first can keep a sample
+-- of the intervals that end by `stop`, only the first can keep a sample, and only if the place is
+-- inside it
 first_alone : (n old first stop m : ℕ) → 0 < n → (first / n + m) * n ≤ stop
     → length (filter (keeps_a_sample n old (from_to first stop)) (range_with_len (first / n) m)) ≤ inside_calls n first
 first_alone n old first stop zero h within = omega arith
@@ -54,7 +55,7 @@ first_alone n old first stop (suc m) h within = elim (cases_eq (first % n) 0) [ 
         (λ k from below. kept_none k (omega (arith, parts, mod-lt first h, row_below (first / n) k n (omega arith))) (omega arith)) in
         rw test (omega (arith, one, ap length others))
 
--- the intervals up to number m: those in front of the last cut one, and those from it on
+-- the intervals below number m are those before the last cut interval, and those from it on
 split_at_cut : (n old first stop m : ℕ) → first / n ≤ stop / n → stop / n ≤ m
     → length (filter (keeps_a_sample n old (from_to first stop)) (range_with_len (first / n) (m - first / n)))
     ≡ length (filter (keeps_a_sample n old (from_to first stop)) (range_with_len (first / n) (stop / n - first / n)))
@@ -70,7 +71,7 @@ split_at_cut n old first stop m low high =
     ∙ ap (λ k. before ++ range_with_len k (m - stop / n)) place in
     ap (λ l. length (filter keeps l)) split ∙ ap length (filter-append keeps before behind) ∙ length-append (filter keeps before) (filter keeps behind)
 
--- those that keep a sample: the first, and those from the last cut one on
+-- only the first interval, and those from the last cut interval on, can keep a sample
 removal_keeps : (n old first stop m : ℕ) → 0 < n → first ≤ stop → stop / n ≤ m
     → length (filter (keeps_a_sample n old (from_to first stop)) (range_with_len (first / n) (m - first / n))) ≤ inside_calls n first + (m - stop / n)
 removal_keeps n old first stop m h order high =
@@ -85,7 +86,7 @@ removal_keeps n old first stop m h order high =
       length-range_with_len (stop / n) (m - stop / n),
     )
 
--- all that is there goes on to the last cut interval
+-- the last cut interval is at most one after the last interval
 cut_within : (n old stop : ℕ) → 0 < n → stop ≤ old → stop / n ≤ div_ceil old n
 cut_within n old stop h within =
     elim (cases_lt (div_ceil old n) (stop / n)) [
@@ -93,7 +94,7 @@ cut_within n old stop h within =
       | inl past ↦ absurd (omega (arith, div-add-mod' stop n, row_below (div_ceil old n) (stop / n) n past, (ceil_bounds old n h).0))
     ]
 
--- the first and the last cut interval aside, what is opened is coded
+-- at most two intervals more can keep a sample than are coded: the first and the last cut interval
 removal_codes : (n old first len : ℕ) → 0 < n → first + len ≤ old
     → inside_calls n first + (div_ceil old n - (first + len) / n) ≤ div_ceil (old - len) n - first / n + 2
 removal_codes n old first len h within = elim (cases_lt (div_ceil (old - len) n + (first + len) / n + 1) (div_ceil old n + first / n)) [
@@ -150,13 +151,13 @@ removals_open n old first len h within =
           removal_codes n old first len h within,
         )
 
--- ---- those that it opens where whole intervals go
+-- ---- intervals that a removal of whole intervals opens
 
 module _ (n old first len : ℕ) (h : 0 < n) (some : 0 < len) (whole : len % n ≡ 0) (within : first + len ≤ old) where
   abbrev gone : Stretch
   gone = from_to first (first + len)
 
-  -- the place behind the last that goes is in a later interval
+  -- the place after the removed ones is len / n > 0 intervals later
   later : ((first + len) / n ≡ first / n + len / n) × (0 < len / n) × ((len / n) * n ≡ len)
   later =
       let parts : len / n * n + len % n ≡ len = omega (arith, div-add-mod' len n) in

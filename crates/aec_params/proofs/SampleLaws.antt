@@ -1,4 +1,4 @@
--- Samples are known from their blocks, where their number is.
+-- The blocks and the number of samples determine the samples.
 use Rattle.std.proofs.Common.{◌≡◌, ℕ, zero, suc, ◌+◌, ◌-◌, ◌<◌, ◌≤◌, Bool, true, false, cond, ℤ, pos, List, [], ◌∷◌, ◌++◌, length, take, drop, map, replicate, min, Option, Some, None, refl, ap, sym, ◌∙◌, arith, ⊎_elim, ◌⊎◌, inl, inr, length-append}
 use Rattle.std.specs.List.{flat_map, AllByRecursion, last_or}
 use Rattle.std.specs.Option.{unwrap_or}
@@ -36,7 +36,7 @@ mapped_after-one_to_one s p (x ∷ xs) (y ∷ ys) a h k l e =
     let r = mapped_after-one_to_one s x xs ys a k.0 k.1 l.1 t in
     cc
 
--- with its reference, a list of values has one list of samples
+-- the reference and the values determine the samples
 pub mapped_values-one_to_one : (s : Settings) (xs ys : List ℤ) → IsAllowed s → AreHeld s xs → AreHeld s ys
     → reference_of s xs ≡ reference_of s ys → mapped_values s xs ≡ mapped_values s ys → xs ≡ ys
 mapped_values-one_to_one s [] [] a h k r e = refl
@@ -71,7 +71,7 @@ filled_apart s xs ys l e =
 
 -- ---- blocks
 
--- the values of blocks, one behind the other
+-- the values of all blocks, in order
 abbrev pub values_in : List Block → List ℕ
 values_in blocks = flat_map (λ (b : Block). b.values) blocks
 
@@ -105,7 +105,7 @@ first_reference-blocks_of s x xs h =
     let e = pieces_of-step s.block_size values h (omega arith) in
     first_reference-of (reference_of s (x ∷ xs)) (pieces_of s.block_size values) (omega (arith, ap length e))
 
--- the samples of an interval are known from its blocks and their number
+-- the blocks of an interval and the number of its samples determine the samples
 pub blocks_of-one_to_one : (s : Settings) (xs ys : List ℤ) → IsAllowed s → AreHeld s xs → AreHeld s ys → length xs ≡ length ys
     → blocks_of s xs ≡ blocks_of s ys → xs ≡ ys
 blocks_of-one_to_one s [] [] a h k l e = refl
@@ -129,7 +129,7 @@ interval_len-positive s a = mul-pos (block_size-positive s a) (interval-positive
 pub all_blocks_of-nil : (s : Settings) → IsAllowed s → all_blocks_of s [] ≡ []
 all_blocks_of-nil s a = ap (flat_map (blocks_of s)) (pieces_of-nil {X = ℤ} (interval_len s) (interval_len-positive s a))
 
--- the blocks of the first interval stand before those of the rest
+-- the blocks are those of the first interval, then those of the other samples
 pub all_blocks_of-step : (s : Settings) (xs : List ℤ) → IsAllowed s → 0 < length xs
     → all_blocks_of s xs ≡ blocks_of s (take (interval_len s) xs) ++ all_blocks_of s (drop (interval_len s) xs)
 all_blocks_of-step s xs a l = ap (flat_map (blocks_of s)) (pieces_of-step (interval_len s) xs (interval_len-positive s a) l)
@@ -146,7 +146,7 @@ pub length-mapped_values : (s : Settings) (xs : List ℤ) → length (mapped_val
 length-mapped_values s [] = refl
 length-mapped_values s (x ∷ xs) = ap suc (length-mapped_after s x xs)
 
--- how many blocks an interval has follows from its length
+-- intervals of equal length have equal numbers of blocks
 same_block_count : (s : Settings) (xs ys : List ℤ) → 0 < s.block_size → length xs ≡ length ys → length (blocks_of s xs) ≡ length (blocks_of s ys)
 same_block_count s xs ys h l = count xs ∙ (ap (λ (m : ℕ). div_ceil (m + up_to_multiple s.block_size m) s.block_size) l ∙ sym (count ys))
   where
@@ -165,7 +165,7 @@ held-take s n xs h = all-front (IsHeld s) (take n xs) (drop n xs) (rw (take-appe
 pub held-drop : (s : Settings) (n : ℕ) (xs : List ℤ) → AreHeld s xs → AreHeld s (drop n xs)
 held-drop s n xs h = all-back (IsHeld s) (take n xs) (drop n xs) (rw (take-append-drop n xs) h)
 
--- samples are known from their blocks and their number; m bounds the number
+-- the blocks and the number of samples determine the samples; m bounds the number
 apart : (m : ℕ) (s : Settings) (xs ys : List ℤ) → length xs ≤ m → IsAllowed s → AreHeld s xs → AreHeld s ys → length xs ≡ length ys
     → all_blocks_of s xs ≡ all_blocks_of s ys → xs ≡ ys
 apart m s [] [] b a h k l e = refl

@@ -52,7 +52,7 @@ all-pieces_of {X} P n xs h all =
     back : (xs : List X) → AllByRecursion P xs → AllByRecursion P (drop n xs)
     back xs all = all-back P (take n xs) (drop n xs) (rw (take-append-drop n xs) all)
 
--- a number with what is missing from it to the next multiple is one
+-- a number plus what it lacks to the next multiple of j is a multiple of j
 multiple : (m j : ℕ) → 0 < j → (m + up_to_multiple j m) % j ≡ 0
 multiple m j h =
     let r = mod-lt m h in
@@ -70,12 +70,12 @@ filled_samples-whole s xs a =
 
 -- ---- blocks
 
--- a group of values in another place than the first
+-- a group of values fits as a block at any place but the first
 later_group : (s : Settings) (i : ℕ) (g : List ℕ) → 0 < i → length g ≡ s.block_size → AllByRecursion (IsBelow s) g
     → IsBlockAt s i (record { reference = None; values = g })
 later_group s i g l c b = record { reference = rw (not_first s i l) tt; count = c; below = b; place = refl }
 
--- groups of values behind the first block
+-- groups of values fit as blocks after the first block
 later_groups : (s : Settings) (i : ℕ) (groups : List (List ℕ)) → 0 < i → i + length groups ≤ s.interval
     → AllByRecursion (λ (g : List ℕ). length g ≡ s.block_size) groups → AllByRecursion (AllByRecursion (IsBelow s)) groups
     → AreBlocksFrom s i (map (λ (values : List ℕ). record { reference = None; values = values }) groups)
@@ -86,7 +86,7 @@ later_groups s i (g ∷ groups) l h w b =
       later_groups s (i + 1) groups (omega arith) (omega arith) w.1 b.1,
     )
 
--- the first group, where it stands
+-- the first group, if there is one, has 0 in the reference place of r
 FirstPlace : Option ℕ → List (List ℕ) → Type 0
 FirstPlace r [] = Unit {0}
 FirstPlace r (g ∷ groups) = HasReferencePlace r g
@@ -120,7 +120,7 @@ first_place s x xs a =
     subst (FirstPlace (reference_of s (x ∷ xs))) (sym (pieces_of-step s.block_size values j (omega arith)))
     (first_taken s.preprocess s.block_size (sample_pattern s x) (sample_pattern s x) _ j)
 
--- how many blocks there are
+-- ---- the number of blocks
 
 length-join : (n : ℕ) (groups : List (List ℕ)) → AllByRecursion (λ (g : List ℕ). length g ≡ n) groups
     → length (flat_map (λ (g : List ℕ). g) groups) ≡ length groups * n
@@ -136,7 +136,7 @@ whole_groups s v a =
     whole-pieces_of s.block_size (mapped_values s (filled_samples s v)) (block_size-positive s a)
     (ap (λ (t : ℕ). t % s.block_size) (length-mapped_values s (filled_samples s v)) ∙ filled_samples-whole s v a)
 
--- the blocks have the interval's samples, and less than a block more
+-- the groups have room for all samples of the interval, and for less than a block more
 group_sizes : (s : Settings) (v : List ℤ) → IsAllowed s
     → (length v ≤ length (groups_in s v) * s.block_size) × (length (groups_in s v) * s.block_size < length v + s.block_size)
 unfolding groups_in
@@ -170,7 +170,7 @@ whole_count s v a e =
     let m : s.interval ≤ length (groups_in s v) = le_of_mul-le-mul_right k (block_size-positive s a) in
     omega arith
 
--- ---- one interval, and all
+-- ---- one interval, and all intervals
 
 pub blocks_of-shape : (s : Settings) (x : ℤ) (xs : List ℤ) → IsAllowed s → AreHeld s (x ∷ xs) → length (x ∷ xs) ≤ interval_len s
     → AreBlocksFrom s 0 (blocks_of s (x ∷ xs))

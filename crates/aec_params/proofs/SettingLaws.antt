@@ -1,5 +1,5 @@
--- Bounds that settings of the format keep. All that is used of a block size is said here: that it
--- is even, and from 8 to 64.
+-- Bounds of the format's settings. Of a block size, proofs use only what is stated here: it is
+-- even, and from 8 to 64.
 use Rattle.std.proofs.Common.{◌≡◌, ℕ, ◌*◌, ◌/◌, ◌%◌, ◌<◌, ◌≤◌, Bool, true, false, if◌then◌else◌, leb, arith}
 use Rattle.std.proofs.lemmas.Bool.{and_parts, leb-true}
 use Rattle.std.proofs.lemmas.Bool.Decides.{nat_tests}

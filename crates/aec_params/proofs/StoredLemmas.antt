@@ -1,4 +1,4 @@
--- Samples as they are stored.
+-- The stored number of a sample, byte groups, and the first bad sample.
 use Rattle.std.proofs.Common.{◌≡◌, ℕ, suc, ◌+◌, ◌-◌, ◌*◌, ◌/◌, ◌^◌, ◌%◌, ◌<◌, ◌≤◌, ◌⊎◌, inl, inr, List, [], ◌∷◌, ◌++◌, length, take, drop, refl, ap, ap₂, ◌∙◌, sym, arith, length-append}
 use Rattle.std.proofs.lemmas.Bool.{cases_Bool, cond-true, cond-false, ltb-true}
 use Rattle.std.proofs.lemmas.Bool.Decides.{nat_tests}
@@ -17,7 +17,7 @@ use Rattle.aec_params.specs.Params.{IsAllowed, IsHeld, pattern_value, storage_le
 use Rattle.aec_params.specs.Stored.{stored_number, byte_groups, samples_of_groups, sample_of_number, number_in, sample_before, has_sign_above}
 use Rattle.aec_params.proofs.ParamsLemmas.{bits-least, bits-greatest, pow-halves, low_bits-code, low_bits-negative, held-positive, held-negative}
 
--- the bytes of a sample of n bits have room for it, and are four at most
+-- a sample of n bits is stored in 1 to 4 bytes, which have room for n bits
 storage-at : (three : Bool) (n : ℕ) → n ≤ 32
     → (n ≤ 8 * (if nat_le n 8 then 1 else (if nat_le n 16 then 2 else (if three && nat_le n 24 then 3 else 4))))
     × (1 ≤ (if nat_le n 8 then 1 else (if nat_le n 16 then 2 else (if three && nat_le n 24 then 3 else 4))))
@@ -33,7 +33,7 @@ storage-least s a = (storage-at s.three_byte s.bits (bits-greatest s a)).1
 pub storage-most : (s : Settings) → IsAllowed s → storage_len s ≤ 4
 storage-most s a = (storage-at s.three_byte s.bits (bits-greatest s a)).2
 
--- the low bits of a held sample, in all bits of its bytes
+-- the low bits of a held sample that fill its bytes are its stored number
 pub low_bits-stored : (s : Settings) (x : ℤ) → IsAllowed s → IsHeld s x → cast_unsigned w64 x % 2 ^ (8 * storage_len s) ≡ stored_number s x
 low_bits-stored s (pos m) a h =
     let room = pow-le-pow_right {n = 2} (omega arith) {i = s.bits} {j = 8 * storage_len s} (bits-stored s a) in
@@ -47,7 +47,7 @@ low_bits-stored s (negsuc m) a h =
     let next : suc m ≡ m + 1 = omega arith in
     ap (λ (k : ℕ). (2 ^ 64 - k) % 2 ^ (8 * storage_len s)) next ∙ low_bits-negative (8 * storage_len s) m (omega arith) (omega arith)
 
--- the same, as code computes it of the bits u of the sample and the number w of bytes
+-- the stored number, as code computes it from the sample's bits u and the number w of its bytes
 pub low_bits-full : (s : Settings) (x : ℤ) (u w : ℕ) → IsAllowed s → IsHeld s x → SFits w64 x
     → u ≡ cast_unsigned w64 (to_z w64 (cast_unsigned w64 x)) → w ≡ storage_len s → u % (1 * 2 ^ (8 * w) % 2 ^ 64) ≡ stored_number s x
 low_bits-full s x u w a h fits e width =
@@ -65,7 +65,7 @@ low_bits-lt s u w a width =
     let low = mod-lt u some in
     rw whole low
 
--- a whole group in front of bytes is the first of their groups
+-- a whole group before other bytes is the first of their groups
 first_chunks-group : (n : ℕ) (g xs : List ℕ) → 1 ≤ n → length g ≡ n
     → first_chunks n (length (g ++ xs) / n) (g ++ xs) ≡ g ∷ first_chunks n (length xs / n) xs
 first_chunks-group n g xs some whole =
@@ -81,11 +81,11 @@ first_chunks-group n g xs some whole =
 pub byte_groups-group : (s : Settings) (g xs : List ℕ) → IsAllowed s → length g ≡ storage_len s → byte_groups s (g ++ xs) ≡ g ∷ byte_groups s xs
 byte_groups-group s g xs a whole = first_chunks-group (storage_len s) g xs (storage-least s a) whole
 
--- fewer bytes than a sample has are in no group
+-- fewer bytes than one sample takes make no group
 pub byte_groups-short : (s : Settings) (xs : List ℕ) → length xs < storage_len s → byte_groups s xs ≡ []
 byte_groups-short s xs short = ap (λ (k : ℕ). first_chunks (storage_len s) k xs) (div-eq_of_lt short)
 
--- behind a good sample the first bad one is among those that are left
+-- after a good sample the first bad sample is the first bad one of the rest
 pub fault-behind : (s : Settings) (i : ℕ) (o : Option ℤ) (later : Result (List ℤ) ℕ) → is_some o ≡ true
     → result_err (sample_before o i later) ≡ result_err later
 fault-behind s i None later good = absurd (cc)
@@ -101,7 +101,7 @@ fault-later s i g rest later o a cut whole sample good =
     ∙ ap (λ (p : Option ℤ). result_err (sample_before p i (samples_of_groups s (i + 1) (byte_groups s later)))) (sym sample)
     ∙ fault-behind s i o (samples_of_groups s (i + 1) (byte_groups s later)) good
 
--- a bad one is the first
+-- a bad sample before others is the first bad one
 fault-at : (s : Settings) (i : ℕ) (o : Option ℤ) (later : Result (List ℤ) ℕ) → is_some o ≡ false → result_err (sample_before o i later) ≡ Some i
 fault-at s i None later bad = refl
 fault-at s i (Some x) later bad = absurd (cc)

@@ -1,4 +1,4 @@
--- Lists of samples as they are stored.
+-- Lists of stored samples.
 use Rattle.std.proofs.Common.{◌≡◌, ℕ, zero, suc, ◌+◌, ◌-◌, ◌*◌, ◌/◌, ◌^◌, ◌%◌, ◌<◌, ◌≤◌, ◌⊎◌, inl, inr, Bool, true, false, List, [], ◌∷◌, ◌++◌, length, take, drop, set, get_or, slice_index, refl, ap, ap₂, ◌∙◌, sym, arith, subst}
 use Rattle.std.specs.Prelude.{ℤ, pos, ◌-ℤ◌, Option, Some, None, Result, Ok, nat_le, nat_lt, ◌&&◌, if◌then◌else◌}
 use Rattle.std.specs.List.{AllByRecursion, flat_map}
@@ -25,7 +25,7 @@ use Rattle.aec_params.proofs.StoredLemmas.{bits-stored, storage-most, low_bits-s
 
 -- ---- one number
 
--- the low bytes of a number, as code computes them
+-- the low w bytes of a number, as code computes them, are below 256 ^ w
 pub low_number-lt : (u w : ℕ) → w ≤ 4 → u % (1 * 2 ^ (8 * w) % 2 ^ 64) < 256 ^ w
 low_number-lt u w few =
     let fits : 8 * w < 64 = omega arith in
@@ -50,14 +50,14 @@ number_in-lt s g bytes = by_order s.msb_first
     by_order true = big_from-lt 0 (storage_len s) g bytes
     by_order false = little_from-lt 0 (storage_len s) g bytes
 
--- numbers in the order of the settings
+-- numbers are read in the byte order of the settings
 pub number_in-big : (s : Settings) → s.msb_first ≡ true → (g : List ℕ) → number_in s g ≡ big_number (storage_len s) g
 number_in-big s big g = cond-true s.msb_first (big_number (storage_len s) g) (little_number (storage_len s) g) big
 
 pub number_in-little : (s : Settings) → s.msb_first ≡ false → (g : List ℕ) → number_in s g ≡ little_number (storage_len s) g
 number_in-little s little g = cond-false s.msb_first (big_number (storage_len s) g) (little_number (storage_len s) g) little
 
--- the quotient of a number among the last 2 ^ k below 2 ^ (k + j)
+-- the quotient by 2 ^ k of one of the last 2 ^ k numbers below 2 ^ (k + j)
 last_quotient : (u k j : ℕ) → 2 ^ (k + j) - 2 ^ k ≤ u → u < 2 ^ (k + j) → u / 2 ^ k ≡ 2 ^ j - 1
 last_quotient u k j above below =
     let whole : 2 ^ (k + j) ≡ 2 ^ k * 2 ^ j = pow-add 2 k j in
@@ -74,7 +74,7 @@ either_is_some false true x y h = refl
 either_is_some false false x y (inl at_first) = absurd (cc)
 either_is_some false false x y (inr at_second) = absurd (cc)
 
--- a number that is outside is a sample
+-- a number below 2 ^ n, or from `least_extended` on, is the number of a sample
 outside-sample : (s : Settings) (u : ℕ) → IsAllowed s → u < 256 ^ storage_len s → IsOutside (2 ^ s.bits) (least_extended s) u
     → is_some (sample_of_number s u) ≡ true
 outside-sample s u a fits outside =
@@ -116,15 +116,14 @@ past_bits s b a e =
     let few = bits-greatest s a in
     ap (λ b. 1 * 2 ^ b % 2 ^ 64) e ∙ one_shl s.bits 64 (omega arith)
 
--- the low bits of a sum are those of its low bits
+-- the low bits of u + k depend only on the low bits of u
 low_bits-raised : (u k t : ℕ) → (u + k) % t ≡ (u % t + k) % t
 low_bits-raised u k t =
     let whole = div-add-mod' u t in
     let split : u + k ≡ u / t * t + (u % t + k) = omega (arith, whole) in
     ap (λ (n : ℕ). n % t) split ∙ mul-add-mod_self_right (u / t) t (u % t + k)
 
--- the upper half of t patterns stands for negative numbers: half of them is added before the cut
--- and taken away behind it
+-- (p + k) mod t, minus k, is p for the lower half of t = 2 * k patterns, and p - t for the upper
 raised-value : (k t p : ℕ) → t ≡ k + k → p < t → pos ((p + k) % t) -ℤ pos k ≡ (if nat_le k p then pos p -ℤ pos t else pos p)
 raised-value k t p halves below = elim (cases_lt p k) [
   | inl low ↦
@@ -139,7 +138,7 @@ raised-value k t p halves below = elim (cases_lt p k) [
       ap (λ (n : ℕ). pos n -ℤ pos k) cut ∙ back ∙ sym (cond-true (nat_le k p) (pos p -ℤ pos t) (pos p) (le-leb k p high))
 ]
 
--- the same for signed samples and any number that has the pattern's low bits
+-- for signed samples that computation returns the sample of the low bits of any number u
 raised-pattern : (s : Settings) (u : ℕ) → IsAllowed s → s.signed ≡ true
     → pos ((u + 2 ^ (s.bits - 1)) % 2 ^ s.bits) -ℤ pos (2 ^ (s.bits - 1)) ≡ pattern_value s (u % 2 ^ s.bits)
 raised-pattern s u a signed =
@@ -147,13 +146,13 @@ raised-pattern s u a signed =
     ∙ raised-value (2 ^ (s.bits - 1)) (2 ^ s.bits) (u % 2 ^ s.bits) (pow-halves s.bits (bits-least s a)) (mod-lt u (pow_pos s.bits))
     ∙ ap (λ (b : Bool). if b && nat_le (2 ^ (s.bits - 1)) (u % 2 ^ s.bits) then pos (u % 2 ^ s.bits) -ℤ pos (2 ^ s.bits) else pos (u % 2 ^ s.bits)) (sym signed)
 
--- what code computes: the difference of two numbers of 32 bits
+-- the difference of two numbers of 32 bits, as code computes it
 difference-code : (x y : ℤ) (m k : ℕ) → m < 2 ^ 32 → k < 2 ^ 32 → x ≡ cast_signed w64 m → y ≡ cast_signed w64 k
     → to_z w64 (of_z w64 (to_z w64 (of_z w64 x) -ℤ to_z w64 (of_z w64 y))) ≡ pos m -ℤ pos k
 difference-code x y m k low few first second =
     ap₂ (λ (x y : ℤ). to_z w64 (of_z w64 (to_z w64 (of_z w64 x) -ℤ to_z w64 (of_z w64 y)))) first second ∙ omega (arith, ints)
 
--- the same, as code computes it of the numbers b and c of bits
+-- the sample of the low bits of u, as code computes it; b and c are the bits per sample
 pub raised-sample : (s : Settings) (x y : ℤ) (u b c : ℕ) → IsAllowed s → s.signed ≡ true → b ≡ s.bits → c ≡ s.bits
     → x ≡ cast_signed w64 ((u + 1 * 2 ^ (b - 1) % 2 ^ 64) % (1 * 2 ^ c % 2 ^ 64)) → y ≡ cast_signed w64 (1 * 2 ^ (b - 1) % 2 ^ 64)
     → to_z w64 (of_z w64 (to_z w64 (of_z w64 x) -ℤ to_z w64 (of_z w64 y))) ≡ pattern_value s (u % 2 ^ s.bits)
@@ -170,7 +169,7 @@ raised-sample s x y u b c a signed bits again first second =
     (first ∙ ap₂ (λ (h w : ℕ). cast_signed w64 ((u + h) % w)) half whole) (second ∙ ap (cast_signed w64) half)
     ∙ raised-pattern s u a signed
 
--- each pattern has a held sample
+-- the sample of each pattern is held
 pub pattern-held : (s : Settings) (p : ℕ) → IsAllowed s → p < 2 ^ s.bits → IsHeld s (pattern_value s p)
 pattern-held s p a below = elim (cases_Bool (s.signed && nat_le (2 ^ (s.bits - 1)) p)) [
   | inl negative ↦ subst (IsHeld s) (pattern-negative s p below negative) (negative-held s p a below negative)
@@ -191,7 +190,7 @@ first_number s bytes =
     let at_start : 0 ≡ storage_len s * 0 = omega arith in
     number_in-take s bytes ∙ ap (λ m. number_in s (drop m bytes)) at_start
 
--- where each number is a sample, none is bad
+-- if each number is the number of a sample, no sample is bad
 good_groups : (s : Settings) (n i : ℕ) (bytes : List ℕ)
     → ((k : ℕ) → k < n → is_some (sample_of_number s (number_in s (drop (storage_len s * k) bytes))) ≡ true)
     → result_err (samples_of_groups s i (first_chunks (storage_len s) n bytes)) ≡ None
@@ -204,7 +203,7 @@ good_groups s (suc n) i bytes each =
     ∙ good_groups s n (i + 1) (drop w bytes) (λ k within.
     ap (λ g. is_some (sample_of_number s (number_in s g))) (drop_next w k bytes) ∙ each (suc k) (omega arith))
 
--- where none is bad, they are the samples of their low n bits
+-- if no sample is bad, each sample is that of its number's low n bits
 sample_first : (s : Settings) (o : Option ℤ) (i : ℕ) (x : ℤ) (xs : List ℤ) (later : Result (List ℤ) ℕ) → (o ≡ None) ⊎ (o ≡ Some x)
     → result_err (sample_before o i later) ≡ None → (result_err later ≡ None → later ≡ Ok xs) → sample_before o i later ≡ Ok (x ∷ xs)
 sample_first s o i x xs later (inl none) good rest =
@@ -233,7 +232,7 @@ loaded_groups s i bytes (x ∷ xs) each good =
 
 -- ---- lists
 
--- where all numbers are outside, in the order that is read, none is bad
+-- if all numbers, read in the byte order of the settings, are outside, no sample is bad
 pub outside-none : (s : Settings) (bytes : List ℕ) (number : ℕ → List ℕ → ℕ) (w low high : ℕ) → IsAllowed s → ((i : ℕ) → slice_index bytes i < 256)
     → w ≡ storage_len s → low ≡ 2 ^ s.bits → high ≡ least_extended s → ((g : List ℕ) → number_in s g ≡ number (storage_len s) g)
     → AreOutside (number w) w bytes low high → result_err (samples_of_bytes s bytes) ≡ None
@@ -250,17 +249,17 @@ outside-none s bytes number w low high a below width first last order outside =
         (subst (λ l. IsOutside l high (number (storage_len s) (drop (storage_len s * k) bytes))) first
         (subst (λ w. AreOutside (number w) w bytes low high) width outside k within)))
 
--- joined bits are no less than either number
+-- the OR of two numbers is at least each of them
 pub ruleset joins = (le_or_l, le_or_r)
 
--- where there are no numbers in between, all are outside
+-- if no number is from low up to high, all numbers are outside
 pub nothing_between : (number : List ℕ → ℕ) (n low high : ℕ) (bytes : List ℕ) → high ≤ low → AreOutside number n bytes low high
 nothing_between number n low high bytes none k within = elim (cases_lt (number (drop (n * k) bytes)) low) [
   | inl below ↦ inl below
   | inr above ↦ inr (omega (arith, above, none))
 ]
 
--- the samples that were loaded, in the order that is read
+-- samples loaded in the byte order of the settings are those of the bytes, if none is bad
 pub loaded-samples : (s : Settings) (bytes : List ℕ) (xs : List ℤ) (number : ℕ → List ℕ → ℕ) (w : ℕ) → w ≡ storage_len s
     → length xs ≡ length bytes / storage_len s → ((g : List ℕ) → number_in s g ≡ number (storage_len s) g)
     → ((d : ℤ) (k : ℕ) → k < length xs → get_or xs k d ≡ pattern_value s (number w (drop (w * k) bytes) % 2 ^ s.bits))
@@ -272,7 +271,7 @@ loaded-samples s bytes xs number w width many order each good =
     ∙ ap (λ u. pattern_value s (u % 2 ^ s.bits)) (sym (order (drop (storage_len s * k) bytes))))
     (ap result_err (sym count) ∙ good)
 
--- what holds at each place holds of all
+-- a property that holds below place i holds below i + 1, after x with that property is stored at i
 pub placed_step : (P : ℤ → Type 0) (xs : List ℤ) (i : ℕ) (x : ℤ) → i < length xs → P x → ((d : ℤ) (k : ℕ) → k < i → P (get_or xs k d))
     → (d : ℤ) (k : ℕ) → k < i + 1 → P (get_or (set xs i x) k d)
 placed_step P xs i x fits holds before d k within = elim (cases_lt k i) [
@@ -286,7 +285,7 @@ pub all_from_places : (P : ℤ → Type 0) (xs : List ℤ) → ((d : ℤ) (k : �
 all_from_places P [] each = tt
 all_from_places P (x ∷ xs) each = (each x 0 (omega arith), all_from_places P xs (λ d k within. each d (suc k) (omega (arith, within))))
 
--- the bytes of held samples, in the order that is written
+-- the low bytes of held samples, in the byte order of the settings, are their stored bytes
 pub bytes-stored : (s : Settings) (xs : List ℤ) (spelled : ℕ → ℕ → List ℕ) (w : ℕ) → IsAllowed s → w ≡ storage_len s
     → ((n : ℕ) → (if s.msb_first then big_bytes (storage_len s) n else little_bytes (storage_len s) n) ≡ spelled (storage_len s) n)
     → AllByRecursion (IsHeld s) xs → flat_map (λ x. spelled w (low_bytes w64 w x)) xs ≡ flat_map (stored_bytes s) xs
@@ -299,7 +298,7 @@ bytes-stored s xs spelled w a width order held =
     all (x ∷ xs) held =
         ap₂ ◌++◌ (ap (spelled (storage_len s)) (low_bits-stored s x a held.0) ∙ sym (order (stored_number s x))) (all xs held.1)
 
--- numbers are written in the order of the settings
+-- numbers are written in the byte order of the settings
 pub bytes-big : (s : Settings) → s.msb_first ≡ true
     → (n : ℕ) → (if s.msb_first then big_bytes (storage_len s) n else little_bytes (storage_len s) n) ≡ big_bytes (storage_len s) n
 bytes-big s big n = cond-true s.msb_first (big_bytes (storage_len s) n) (little_bytes (storage_len s) n) big

@@ -24,7 +24,7 @@ below_all s (v ∷ values) e =
     let h = both_true (ltb v (2 ^ s.bits)) (list_all (λ (v : ℕ). ltb v (2 ^ s.bits)) values) e in
     (ltb-true v (2 ^ s.bits) h.0, below_all s values h.1)
 
--- values behind the reference place
+-- the block of a coded data set that writes its values one by one, without the reference place
 placed_block : (s : Settings) (p : ℕ) (r : Option ℕ) (values : List ℕ) → IsAllowed s → (is_first : Bool) → is_reference_block s p ≡ is_first
     → HasReference s is_first r → length values ≡ written_count s is_first → AllByRecursion (λ (v : ℕ). v < 2 ^ s.bits) values
     → IsBlockAt s p (record { reference = r; values = placed_values r values })
@@ -38,7 +38,7 @@ placed_block s p (Some r) values a false e h c b = absurd h
 placed_block s p None values a true e h c b = absurd h
 placed_block s p None values a false e h c b = record { reference = rw e h; count = c; below = b; place = refl }
 
--- members of pairs, of which the first is no value in a reference block
+-- the block of the members of pairs; in a reference block the first member is not a value
 member_block : (s : Settings) (p : ℕ) (r : Option ℕ) (members : List ℕ) → IsAllowed s → (is_first : Bool) → is_reference_block s p ≡ is_first
     → HasReference s is_first r → length members ≡ s.block_size
     → AllByRecursion (λ (v : ℕ). v < 2 ^ s.bits) (judged_in r (value_pairs members))
@@ -53,7 +53,7 @@ zeros_first : (n : ℕ) → 0 < n → replicate {A = ℕ} n 0 ≡ 0 ∷ drop 1 (
 zeros_first zero h = absurd (omega arith)
 zeros_first (suc n) h = refl
 
--- a zero block
+-- a block of zeros fits at any place
 pub zero_block_at : (s : Settings) (p : ℕ) (r : Option ℕ) → IsAllowed s → HasReference s (is_reference_block s p) r → IsBlockAt s p (zero_block s r)
 zero_block_at s p r a h = record {
   reference = h;
@@ -71,7 +71,7 @@ zero_block_at s p r a h = record {
 pub not_first : (s : Settings) (p : ℕ) → 0 < p → is_reference_block s p ≡ false
 not_first s p l = and_right s.preprocess (eqb p 0) (ne_eqb p 0 (λ e. absurd (omega arith)))
 
--- k zero blocks from place q of an interval on, which begins at block r * d
+-- k zero blocks fit from place q > 0 on of the interval that begins at block r * d
 zeros_from : (s : Settings) (d q k : ℕ) → IsAllowed s → 0 < q → q + k ≤ s.interval
     → AreBlocksFrom s (s.interval * d + q) (replicate k (zero_block s None))
 zeros_from s d q zero a l h = tt
@@ -82,7 +82,7 @@ zeros_from s d q (suc k) a l h =
       subst (λ (t : ℕ). AreBlocksFrom s t (replicate k (zero_block s None))) (sym f) (zeros_from s d (q + 1) k a (omega arith) (omega arith)),
     )
 
--- what is left of a segment lies in its interval, and is some block
+-- what is left of a segment lies in its interval, and has at least one block
 segment_left-in_interval : (s : Settings) (p : ℕ) → segment_left s p ≤ s.interval - p
 segment_left-in_interval s p = omega arith
 
@@ -124,7 +124,7 @@ length-blocks_in s p r (zero_blocks m) l =
 pub length-cds_blocks : (s : Settings) (p : ℕ) (c : CodedDataSet) → p < s.interval → length (cds_blocks s p c) ≡ block_count s p c
 length-cds_blocks s p c l = length-blocks_in s p c.reference c.body l
 
--- the blocks of a lawful coded data set can stand where it stands
+-- the blocks of a lawful coded data set fit at its place
 pub cds_blocks-shape : (s : Settings) (i : ℕ) (c : CodedDataSet)
     → IsAllowed s → IsLawfulAt s (i % s.interval) c → AreBlocksFrom s i (cds_blocks s (i % s.interval) c)
 cds_blocks-shape s i c a h = blocks_in-shape s i c.reference c.body a h.shape.reference h.shape.body h.small h.within

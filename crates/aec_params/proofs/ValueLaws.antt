@@ -1,5 +1,5 @@
--- At each prediction the samples and the values below 2^n stand for one another, with preprocessing
--- and without it.
+-- At each prediction, mapped values are one-to-one between the samples and the numbers below 2^n,
+-- with preprocessing and without it.
 use Rattle.std.proofs.Common.{◌≡◌, ℕ, ◌^◌, ◌<◌, Bool, true, false, cond, ℤ, inl, inr, ⊎_elim, ◌⊎◌}
 use Rattle.std.specs.Prelude.{◌-ℤ◌}
 use Rattle.std.proofs.lemmas.Bool.{cond_both}

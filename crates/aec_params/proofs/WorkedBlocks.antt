@@ -106,8 +106,7 @@ ramp_block = record { reference = Some 0; values = 0 ∷ 1 ∷ 2 ∷ 2 ∷ 2 ∷
 pub ramp_blocks : of_samples usual (0 ∷ 1 ∷ 2 ∷ 3 ∷ 4 ∷ 5 ∷ 6 ∷ 7 ∷ []) ≡ ramp_block ∷ []
 ramp_blocks = refl
 
--- no compression 67, second extension 54, k = 0 and k = 1 tie at 31, then 32, and the later ones
--- longer
+-- no compression 67 bits, second extension 54, k = 0 and k = 1 both 31, k = 2 32, greater k more
 pub ramp_lengths : lengths usual ramp_block ≡ 67 ∷ 54 ∷ 31 ∷ 31 ∷ 32 ∷ 39 ∷ 46 ∷ 53 ∷ []
 ramp_lengths = refl
 

@@ -1,5 +1,5 @@
--- Readings at the corners: nothing needed, bits skipped unread, choices that this coder wouldn't
--- make, and bits that end.
+-- Corner cases of reading: no samples needed, skipped padding bits, choices that this coder would
+-- not make, and no bits at all.
 use Rattle.std.proofs.Common.{rules, lit<, ℕ, ℤ, pos, ◌≡◌, Bool, Some, None, List, [], ◌∷◌, ◌++◌, map, replicate, refl, ◌∙◌, append_assoc}
 use Rattle.aec_params.specs.declared.fault.Fault.TheVariants.{Truncated}
 use Rattle.aec_params.specs.Codewords.{bits_of_bytes}
@@ -9,7 +9,7 @@ use Rattle.aec_params.specs.Reading.{IsReading}
 use Rattle.aec_params.specs.Faults.{IsFault, not_read, cut_short}
 use Rattle.aec_params.proofs.WorkedSettings.{usual, padded}
 
--- no samples are wanted: no bit is read
+-- with a count of 0 no bit is read
 pub nothing_needed : IsReading usual (Some 0) 4096 (bits_of_bytes (0xFF ∷ [])) []
 nothing_needed = record {
   blocks = [];
@@ -19,7 +19,7 @@ nothing_needed = record {
   counted = refl;
 }
 
--- ---- with padding the bits behind a full interval are skipped, whatever they are
+-- ---- with padding, the bits after a full interval are skipped, whatever they are
 
 abbrev zeros : ℕ → List ℤ
 zeros n = map pos (replicate n 0)
@@ -67,8 +67,8 @@ ones_skipped_between = record {
 
 -- ---- choices of other coders
 
--- the second extension for zeros, its first pair being (1, 0): the 1 stands in the reference place
--- and is no value
+-- the second extension for zeros with the first pair (1, 0): the reader ignores the 1, which is in
+-- the reference place
 pub first_member_ignored : IsReading usual (Some 8) 4096 (bits_of_bytes (0x10 ∷ 0x07 ∷ 0x80 ∷ [])) (zeros 8)
 first_member_ignored = record {
   blocks = zero_block usual (Some 0) ∷ [];
@@ -85,7 +85,7 @@ first_member_ignored = record {
   counted = refl;
 }
 
--- a ramp split with k = 1, where k = 0 is as short
+-- a ramp split with k = 1, although k = 0 is as short
 abbrev ramp : List ℤ
 ramp = map pos (0 ∷ 1 ∷ 2 ∷ 3 ∷ 4 ∷ 5 ∷ 6 ∷ 7 ∷ [])
 
@@ -105,7 +105,7 @@ ramp_by_the_greater_split = record {
   counted = refl;
 }
 
--- ---- no bits where a block is needed
+-- ---- no bits, although a block is needed
 
 identified : (body : Body) → (rest : List Bool) → ([] ≡ identifier usual body ++ rest) → ⊥
 identified (uncompressed_values values) rest e = absurd (cc)

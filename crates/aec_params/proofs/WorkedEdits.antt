@@ -1,5 +1,5 @@
--- Edits on small lists, computed from the definitions: what they leave, and the intervals that they
--- code.
+-- Edits of small lists, computed from the definitions: the samples after them, and how many
+-- intervals they code and open.
 use Rattle.std.proofs.Common.{◌≡◌, ℕ, ◌*◌, ℤ, pos, List, [], ◌∷◌, map, replicate, take, length, refl}
 use Rattle.aec_params.specs.declared.edit.Edit.{Edit}
 use Rattle.aec_params.specs.declared.edit.Edit.TheVariants.{Overwrite, Append, Truncate, Insert, Remove}
@@ -11,7 +11,7 @@ use Rattle.aec_params.proofs.WorkedSettings.{usual}
 abbrev coded : List ℤ → List ℕ
 coded samples = bytes_of (stream_of usual samples)
 
--- ---- forty-eight zeros, in three intervals of 16, of which one is then changed
+-- ---- forty-eight zeros in three intervals of 16, then one interval changed
 
 abbrev zeros : List ℤ
 zeros = samples_after [] (Append (map pos (replicate 48 0)))
@@ -46,11 +46,11 @@ one_changed = refl
 pub one_changed_bits : length (stream_of usual changed) ≡ 53
 one_changed_bits = refl
 
--- where the intervals begin: behind the code of the samples before them
+-- each interval begins after the code of all samples before it
 pub one_changed_offsets : map (λ i. length (stream_of usual (take (i * 16) changed))) (0 ∷ 1 ∷ 2 ∷ []) ≡ 0 ∷ 14 ∷ 39 ∷ []
 one_changed_offsets = refl
 
--- ---- five sevens, four samples more, and back
+-- ---- five sevens, then four samples appended and truncated again
 
 abbrev sevens : List ℤ
 sevens = samples_after [] (Append (map pos (replicate 5 7)))
@@ -70,16 +70,16 @@ five_again = refl
 pub calls_for_sevens : needed_calls 16 0 (Append sevens) ∷ needed_calls 16 5 four_more ∷ needed_calls 16 9 (Truncate 5) ∷ [] ≡ 1 ∷ 1 ∷ 1 ∷ []
 calls_for_sevens = refl
 
--- ---- insertions and removals in forty-eight zeros, and back
+-- ---- insertions and removals, beginning with forty-eight zeros
 
--- the intervals of 16 that an edit codes, and those that it opens, on so many samples
+-- how many intervals of 16 an edit of a list of `old` samples codes, and how many it opens
 abbrev work : ℕ → Edit → List ℕ
 work old edit = needed_calls 16 old edit ∷ opened_intervals 16 old edit ∷ []
 
 abbrev sixteen_zeros : List ℤ
 sixteen_zeros = map pos (replicate 16 0)
 
--- a whole interval comes where another begins: it is coded, and none is opened
+-- a whole interval inserted at the start of another: it is coded, and none is opened
 abbrev four_intervals : List ℤ
 four_intervals = samples_after zeros (Insert 16 sixteen_zeros)
 
@@ -89,7 +89,7 @@ whole_comes = refl
 pub four_intervals_coded : coded four_intervals ≡ 0x00 ∷ 0x04 ∷ 0x00 ∷ 0x10 ∷ 0x00 ∷ 0x40 ∷ 0x01 ∷ []
 four_intervals_coded = refl
 
--- one sample comes inside the second interval: all from there on are coded
+-- one sample inserted inside the second interval: all intervals from there on are coded
 abbrev one_more : List ℤ
 one_more = samples_after four_intervals (Insert 20 (pos 0 ∷ []))
 
@@ -99,7 +99,7 @@ one_comes = refl
 pub one_more_coded : coded one_more ≡ 0x00 ∷ 0x04 ∷ 0x00 ∷ 0x10 ∷ 0x00 ∷ 0x40 ∷ 0x01 ∷ 0x00 ∷ 0x08 ∷ []
 one_more_coded = refl
 
--- a whole interval goes, and then the last sample, which stands alone in its own: nothing is coded
+-- a whole interval removed, then the last sample, alone in its interval: nothing is coded
 abbrev forty_nine : List ℤ
 forty_nine = samples_after one_more (Remove 16 16)
 
@@ -115,7 +115,7 @@ forty_nine_offsets = refl
 pub zeros_again : samples_after forty_nine (Remove 48 1) ≡ zeros
 zeros_again = refl
 
--- the first sample goes: all three are coded
+-- the first sample removed: all three intervals are coded
 abbrev forty_seven : List ℤ
 forty_seven = samples_after zeros (Remove 0 1)
 
@@ -125,7 +125,7 @@ first_goes = refl
 pub forty_seven_coded : (coded forty_seven ≡ coded zeros) × (length forty_seven ≡ 47)
 forty_seven_coded = (refl, refl)
 
--- no values at the end, then a whole interval inside the first, in and out
+-- no values inserted at the end; 16 samples inserted inside the first interval, and removed again
 pub inside_comes_and_goes : work 47 (Insert 47 []) ∷ work 47 (Insert 8 sixteen_zeros) ∷ work 63 (Remove 8 16) ∷ []
     ≡ (0 ∷ 0 ∷ []) ∷ (2 ∷ 1 ∷ []) ∷ (1 ∷ 2 ∷ []) ∷ []
 inside_comes_and_goes = refl
@@ -133,6 +133,6 @@ inside_comes_and_goes = refl
 pub forty_seven_again : samples_after (samples_after forty_seven (Insert 8 sixteen_zeros)) (Remove 8 16) ≡ forty_seven
 forty_seven_again = refl
 
--- a removal that opens two more than it codes: three samples are left of three intervals
+-- a removal that opens two intervals more than it codes: of 33 samples three remain
 pub one_of_three : work 33 (Remove 1 30) ≡ 1 ∷ 3 ∷ []
 one_of_three = refl

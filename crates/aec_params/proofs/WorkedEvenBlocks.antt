@@ -1,5 +1,5 @@
--- Even block sizes: which settings may have them, and what blocks of 10 are and how they are coded,
--- computed from the definitions. Each value is worked out by hand from the format's rules.
+-- Even block sizes: which settings allow them, and how blocks of 10 are built and coded, computed
+-- from the definitions. Each value is worked out by hand from the format's rules.
 use Rattle.std.proofs.Common.{◌≡◌, ℕ, ◌+◌, true, false, pos, Some, None, List, [], ◌∷◌, ◌++◌, map, replicate, length, refl}
 use Rattle.aec_params.specs.declared.settings.Settings.{Settings}
 use Rattle.aec_params.specs.declared.fault.Fault.TheVariants.{BitsPerSample, BlockSize, EvenBlockSize, Interval}
@@ -64,8 +64,7 @@ ramp_block = record { reference = Some 0; values = 0 ∷ 1 ∷ replicate 8 2 }
 pub ramp_blocks : of_samples (tens 1) ten_numbers ≡ ramp_block ∷ []
 ramp_blocks = refl
 
--- no compression 83, second extension 67, k = 0 and k = 1 tie at 37, then 38, and the later ones
--- longer
+-- no compression 83 bits, second extension 67, k = 0 and k = 1 both 37, k = 2 38, greater k more
 pub ramp_lengths : lengths (tens 1) ramp_block ≡ 83 ∷ 67 ∷ 37 ∷ 37 ∷ 38 ∷ 47 ∷ 56 ∷ 65 ∷ []
 ramp_lengths = refl
 
@@ -82,7 +81,7 @@ pub ramp_of_two_blocks : coded (tens 2) (ten_numbers ++ map (λ x. x + 10) ten_n
     ≡ 0x20 ∷ 0x09 ∷ 0x24 ∷ 0x92 ∷ 0x49 ∷ 0x24 ∷ 0x92 ∷ 0x49 ∷ 0x24 ∷ []
 ramp_of_two_blocks = refl
 
--- eight samples are filled up with two copies of the last
+-- a block of eight samples gets two copies of the last sample as filler
 abbrev filled_block : Block
 filled_block = record { reference = Some 0; values = 0 ∷ 1 ∷ replicate 6 2 ++ (0 ∷ 0 ∷ []) }
 

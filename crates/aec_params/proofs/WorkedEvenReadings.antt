@@ -1,5 +1,4 @@
--- Blocks of 10 read back, and two faults, worked out against the definitions of a reading and a
--- fault.
+-- Blocks of 10 read back, and two faults, checked against the definitions of a reading and a fault.
 use Rattle.std.proofs.Common.{rules, lit<, ℕ, ℤ, pos, Some, None, List, [], ◌∷◌, map, replicate, refl}
 use Rattle.aec_params.specs.declared.fault.Fault.TheVariants.{RunTooLong, TooManySamples}
 use Rattle.aec_params.specs.Codewords.{bits_of_bytes}
@@ -54,7 +53,7 @@ ramp_without_count = record {
   counted = refl;
 }
 
--- a choice of another coder: k = 1, where k = 0 is as short
+-- a choice of another coder: k = 1, although k = 0 is as short
 pub ramp_by_the_greater_split : IsReading (tens 1) (Some 10) 4096 (bits_of_bytes (0x40 ∷ 0x15 ∷ 0x55 ∷ 0x58 ∷ 0x00 ∷ [])) ramp
 ramp_by_the_greater_split = record {
   blocks = ramp_block ∷ [];
@@ -93,7 +92,7 @@ five_sevens = record {
   counted = refl;
 }
 
--- without a count it is the whole block
+-- without a count, the whole block is read
 pub ten_sevens : IsReading (tens 2) None 4096 (bits_of_bytes (0x00 ∷ 0x78 ∷ [])) (sevens 10)
 ten_sevens = record {
   blocks = zero_block (tens 2) (Some 7) ∷ [];
@@ -124,7 +123,7 @@ three_blocks_in_two = record {
       (record { shape = record { reference = lit< tt; body = tt }; stands = refl }) refl refl;
 }
 
--- 640 samples where 639 are the limit
+-- 640 samples with a limit of 639
 pub past_the_limit : IsFault (tens 64) None 639 (bits_of_bytes (0x00 ∷ 0x00 ∷ 0x80 ∷ [])) 0 0 (TooManySamples 639)
 past_the_limit = record {
   sets = [];

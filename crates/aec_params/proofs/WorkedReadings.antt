@@ -1,5 +1,4 @@
--- Small streams read back, and the faults of others, worked out against the definitions of a
--- reading and a fault.
+-- Small streams read back, checked against the definition of a reading.
 use Rattle.std.proofs.Common.{rules, lit<, ℕ, ℤ, pos, Some, None, List, [], ◌∷◌, map, replicate, refl}
 use Rattle.aec_params.specs.Codewords.{bits_of_bytes}
 use Rattle.aec_params.specs.CodedDataSets.{CodedDataSet, split_values, zero_blocks}
@@ -54,7 +53,7 @@ ramp_without_count = record {
   counted = refl;
 }
 
--- ---- five sevens: with the count of five, and the whole block without one
+-- ---- five sevens: five samples with a count of five, the whole block without a count
 
 abbrev sevens : ℕ → List ℤ
 sevens n = map pos (replicate n 7)
@@ -124,7 +123,7 @@ seventeen_zeros = record {
   counted = refl;
 }
 
--- the second interval begins behind the padding, and a rest of zero bits ends the stream
+-- the second interval begins after the padding; the zero bits that remain end the stream
 pub padded_zeros : IsReading padded None 4096 (bits_of_bytes (0x00 ∷ 0x04 ∷ 0x00 ∷ 0x08 ∷ [])) (zeros 24)
 padded_zeros = record {
   blocks = zero_block usual (Some 0) ∷ zero_block usual None ∷ zero_block usual (Some 0) ∷ [];

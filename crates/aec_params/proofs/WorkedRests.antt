@@ -1,4 +1,4 @@
--- The remainder code read back, with a count and without, an uncompressed block, and small faults.
+-- The remainder code read back, with a count and without, an uncompressed block, and three faults.
 use Rattle.std.proofs.Common.{rules, lit<, ℕ, zero, suc, ℤ, pos, Some, None, List, [], ◌∷◌, map, replicate, refl}
 use Rattle.aec_params.specs.declared.settings.Settings.{Settings}
 use Rattle.aec_params.specs.declared.fault.Fault.TheVariants.{ValueTooLarge, RunTooLong, TooManySamples}
@@ -12,8 +12,7 @@ use Rattle.aec_params.specs.Reading.{IsReading}
 use Rattle.aec_params.specs.Faults.{IsFault, not_read, too_large, too_long, too_many}
 use Rattle.aec_params.proofs.WorkedSettings.{usual, with_interval, unprocessed}
 
--- ---- the remainder code: all blocks that the segment has left, of which a count takes what it
--- needs
+-- ---- the remainder code: all blocks that the segment has left, or those that a count needs
 
 abbrev zeros : ℕ → List ℤ
 zeros n = map pos (replicate n 0)
@@ -87,7 +86,7 @@ uncompressed_block = record {
 abbrev one_bit : Settings
 one_bit = record unprocessed { bits = 1 }
 
--- a value of 2 in one bit
+-- a value of 2 with n 1
 pub two_in_one_bit : IsFault one_bit (Some 8) 4096 (bits_of_bytes (0x27 ∷ 0xF8 ∷ [])) 0 0 (ValueTooLarge 0)
 two_in_one_bit = record {
   sets = [];
@@ -111,7 +110,7 @@ three_blocks_in_two = record {
       (record { shape = record { reference = lit< tt; body = tt }; stands = refl }) refl refl;
 }
 
--- 512 samples where 100 are the limit
+-- 512 samples with a limit of 100
 pub past_the_limit : IsFault (with_interval 64) None 100 (bits_of_bytes (0x00 ∷ 0x00 ∷ 0x80 ∷ [])) 0 0 (TooManySamples 100)
 past_the_limit = record {
   sets = [];

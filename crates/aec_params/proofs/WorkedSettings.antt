@@ -10,7 +10,7 @@ usual = usual_settings
 abbrev pub with_interval : ℕ → Settings
 with_interval r = record usual { interval = r }
 
--- blocks of 10 in intervals of r
+-- blocks of 10, intervals of r blocks
 abbrev pub tens : ℕ → Settings
 tens r = record usual { block_size = 10; interval = r; even_blocks = true }
 

@@ -1,5 +1,5 @@
--- The coded bytes of small inputs, computed from the definitions. Each is worked out by hand from
--- the format's rules, so that a wrong definition does not check.
+-- The coded bytes of small inputs, computed from the definitions. Each result is worked out by hand
+-- from the format's rules, so the checker refuses a wrong definition.
 use Rattle.std.proofs.Common.{◌≡◌, ℕ, pos, List, [], ◌∷◌, ◌++◌, map, replicate, length, refl}
 use Rattle.aec_params.specs.declared.settings.Settings.{Settings}
 use Rattle.aec_params.specs.Codewords.{bytes_of}

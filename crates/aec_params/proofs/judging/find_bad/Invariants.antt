@@ -5,7 +5,7 @@ use Rattle.aec_params.specs.Params.{storage_len}
 use Rattle.aec_params.specs.Stored.{byte_groups, samples_of_bytes, samples_of_groups}
 use Rattle.aec_params.proofs.judging.find_bad.Given as goal
 
--- every group so far is a sample, so the first bad one is among those that are left
+-- every group so far is a sample, so the first bad one is among the other groups
 abbrev pub invariant-loop-index : goal.invariant-loop-index
 invariant-loop-index l =
     (chunks_exact_size l.index-iterator.iter ≡ storage_len l.params)

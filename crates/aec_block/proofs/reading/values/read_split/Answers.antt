@@ -6,7 +6,7 @@ use Rattle.aec_block.specs.Gathering.{bits_at}
 use Rattle.aec_block.proofs.ReadCdsLemmas.{split_large, split_fits, small_highs}
 use Rattle.aec_block.proofs.reading.values.read_split.Goals as goal
 
--- as many low parts are read as there are values
+-- one low part is read for each value
 count_lows : (m n : ℕ) → n ≤ m → n ≡ length {A = ℕ} (take n (replicate m 0))
 count_lows m n most = let zeros : List ℕ = replicate m 0 in sym (length-take-le n zeros (omega (arith, length-replicate {A = ℕ} m 0)))
 

@@ -1,4 +1,4 @@
--- `into_loose` reads the flag, and has the pointer with what is owned there, or nothing.
+-- `into_loose` reads the flag, and returns the pointer with the ownership of the value, or `None`.
 use Rattle.std.proofs.Common.{Bool, true, false, ℕ, [], ◌∷◌, refl}
 use Rattle.std.specs.Prelude.{Option, None, Some}
 use mir.Syntax.{Sym}

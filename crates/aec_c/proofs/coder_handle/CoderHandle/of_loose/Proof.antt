@@ -1,4 +1,4 @@
--- `of_loose` moves the pointer, and what is owned there goes with it.
+-- `of_loose` moves the pointer, and with it the ownership of the value there.
 use Rattle.std.proofs.Common.{true, List, [], ◌∷◌, ◌++◌, refl, sym, subst}
 use Rattle.std.specs.Prelude.{Some}
 use mir.Val.{Val}

@@ -1,4 +1,4 @@
--- `empty` owns nothing.
+-- The handle that `empty` returns owns nothing.
 use Rattle.std.proofs.Common.{false, [], ◌∷◌, refl}
 use Rattle.std.specs.Prelude.{None}
 use base.Fml.{ftrue}

@@ -4,7 +4,7 @@ use Rattle.aec_params.specs.Params.{IsHeld}
 use Rattle.aec_engine.specs.Output.{all_stored}
 use Rattle.aec_engine.proofs.engine.two_readings.append_stored.Given as goal
 
--- the bytes that are there, and those of the samples that are left, are all
+-- the bytes so far and those of the samples that are left are all bytes
 abbrev pub invariant-loop-left : goal.invariant-loop-left
 invariant-loop-left l = record {
   held : AllByRecursion (IsHeld l.params) l.left;
