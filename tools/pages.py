@@ -12,7 +12,7 @@ some of these lines, indented by four; a text may continue on the next line, bel
            of the trait; `Fault: from_gives` is a ghost item of a type
     wrong  must-fail edits of the crate
     test   tests of the crates of tests, as `builds_and_edits` or `skipping::*`, or scripts of tests/
-    bare   instead of all these: public functions without a wrong body in the gate; the sentences say why
+    bare   instead of all these: public functions without a wrong body; the sentences say why
 
 docs/claims.txt is the rest of the page. Its line `@crates` is replaced by the claims, its words `@gate` and `@others` by the
 numbers of must-fail edits that the gate tries and leaves out.
@@ -21,8 +21,9 @@ Fails in these cases:
 - A name doesn't exist, or isn't unique.
 - An ensures clause or the premise of a public function (crates of tests aside), a must-fail edit, a test, or a script of tests/
   that make runs is in no claim.
-- A public function (laws, functions that a trait declares and crates of tests aside) is neither in a claim with an edit of the
-  gate nor on a line `bare`; or a function is in both.
+- A public function (laws, functions that a trait declares and crates of tests aside) is neither in a claim with a must-fail edit
+  nor on a line `bare`; or a function is in both.
+- The gate tries fewer edits of a crate than half its functions `pub fn` (crates of tests aside).
 - The page differs from what the script would write. Only --check tests this, and then nothing is written.
 """
 
@@ -90,7 +91,7 @@ class Names:
         self.scripts = set(re.findall(r"tests/\w+\.py", runs)) - NO_TESTS
         self.edits = {name: edits_of(name) for name in self.crates}
         self.gate = {name: set(edits_of(name, ["must-fail"])) for name in self.crates}
-        # Paths of functions in claims with an edit of the gate, and of functions on lines `bare`.
+        # Paths of functions in claims with a must-fail edit, and of functions on lines `bare`.
         self.guarded, self.bare = set(), set()
         self.words = set(re.findall(r"\w+", self.all_text()))
         self.named, self.wrongs = set(), []
@@ -113,15 +114,23 @@ class Names:
             self.wrongs.append(f"{crate.name}: {many(ones)} function {name}")
         self.bare.update(one.path() for one in ones)
 
+    def judge_gate(self):
+        """Checks that the gate tries at least half as many wrong bodies of a crate as the crate has functions `pub fn`."""
+        for name, crate in self.crates.items():
+            texts = [text_of(path) for path in files_below(f"crates/{name}/src", ".rt")]
+            public = sum(len(re.findall(r"^\s*pub (?:const )?fn ", text, re.M)) for text in texts)
+            if not name.endswith("_tests") and len(self.gate[name]) < public // 2:
+                self.wrongs.append(f"{name}: the gate tries {len(self.gate[name])} edits, for {public} public functions")
+
     def judge_guards(self):
-        """Checks that each public function has a wrong body in the gate, or is on a line `bare`, but not both."""
+        """Checks that each public function has a wrong body, or is on a line `bare`, but not both."""
         for one in self.functions:
             path = one.path()
             is_left_out = one.is_declared or one.module == "laws" or one.crate.endswith("_tests")
             if one.is_public and not is_left_out and path not in self.guarded | self.bare:
-                self.wrongs.append(f"neither with an edit of the gate nor bare: {path}")
+                self.wrongs.append(f"neither with a must-fail edit nor bare: {path}")
         for path in sorted(self.guarded & self.bare):
-            self.wrongs.append(f"bare, though the gate tries an edit beside it: {path}")
+            self.wrongs.append(f"bare, though its claim has a must-fail edit: {path}")
 
     def judge_carrier(self, crate, name, clauses, is_given, is_guarded):
         meets = re.fullmatch(r"(\w+) meets (\w+)", name)
@@ -266,9 +275,8 @@ def judge_claim(lines, crate, names):
     if crate:
         edits = lines.get("wrong", "").split()
         names.judge_edits(crate, edits)
-        is_guarded = bool(names.gate[crate.name] & set(edits))
         for name, clauses in carriers_of(lines.get("by", "")):
-            names.judge_carrier(crate, name, clauses, "given" in lines, is_guarded)
+            names.judge_carrier(crate, name, clauses, "given" in lines, bool(edits))
         for name, _ in carriers_of(lines.get("bare", "")):
             names.judge_bare(crate, name)
 
@@ -305,6 +313,7 @@ def main():
     page = written_page(names)
     names.judge_rest()
     names.judge_guards()
+    names.judge_gate()
     if sys.argv[1:] == ["--check"]:
         if not os.path.exists(os.path.join(TOP, PAGE)) or text_of(PAGE) != page:
             names.wrongs.append(f"{PAGE} isn't what `make pages` writes")
