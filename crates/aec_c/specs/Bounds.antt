@@ -5,7 +5,7 @@ use Rattle.aec_params.specs.declared.settings.Settings.{Settings}
 use Rattle.aec_params.specs.Params.{settings_fault, storage_len}
 use Rattle.aec_c.specs.Calls.{IsCoding}
 
--- the blocks of so many samples
+-- how many blocks a number of samples takes
 abbrev pub blocks_of : Settings → ℕ → ℕ
 blocks_of s samples = div_ceil samples s.block_size
 
@@ -19,8 +19,7 @@ most_bytes s samples = div_ceil (blocks_of s samples * (5 + s.block_size * s.bit
 abbrev pub bound_of : Settings → ℕ → ℕ
 bound_of s samples = if is_none (settings_fault s) && nat_le samples (2 ^ 32) then most_bytes s samples else 0
 
--- so many bytes are enough for the answer to any stored bytes that contain so many whole samples,
--- if the answer is their code
+-- `bytes` bytes are enough for the code of any stored bytes that contain `samples` whole samples
 abbrev pub Suffices : Settings → ℕ → ℕ → Type 0
 Suffices s samples bytes = (stored code : List ℕ) → length stored / storage_len s ≡ samples
     → IsCoding s stored (Ok code) → length code ≤ bytes

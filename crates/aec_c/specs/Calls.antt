@@ -10,7 +10,7 @@ use Rattle.aec_engine.specs.Output.{IsRanged}
 use Rattle.aec_engine.specs.InMemory.{IsCodeOf, bytes_refusal, IsStoredReadingOf, RefusesCoded}
 use Rattle.aec_c.specs.declared.options.Options.{Options}
 
--- the greatest limits: so many samples, so many coded bytes
+-- the greatest limits: the number of samples, and of coded bytes
 abbrev pub most : Caps
 most = record { samples = 2 ^ 32; bytes = 2 ^ 40 }
 

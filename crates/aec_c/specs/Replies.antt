@@ -45,11 +45,11 @@ place_of (Script line) = line
 place_of (StreamTooLong limit) = limit
 place_of EvenBlockSize = 0
 
--- the reply for an answer of so many bytes
+-- the reply for a result of `len` bytes
 abbrev pub done : ℕ → Reply
 done len = record { fault = 0; place = 0; len = len }
 
--- the reply if an answer takes so many bytes and the buffer has fewer
+-- the reply if a result takes `len` bytes and the buffer has fewer
 abbrev pub wants_room : ℕ → Reply
 wants_room len = record { fault = 18; place = 0; len = len }
 
@@ -57,12 +57,12 @@ wants_room len = record { fault = 18; place = 0; len = len }
 abbrev pub refused_for : Fault → Reply
 refused_for fault = record { fault = number_of fault; place = place_of fault; len = 0 }
 
--- the reply for an answer of so many bytes, or for a refusal, by the room there is
+-- the reply for a result of `len` bytes, or for a refusal, in a buffer of `room` bytes
 abbrev pub reply_of : Result ℕ Fault → ℕ → Reply
 reply_of (Ok len) room = if nat_le len room then done len else wants_room len
 reply_of (Err fault) room = refused_for fault
 
--- the reply for an answer
+-- the reply for a result or a refusal
 abbrev pub reply_to : {X : Type 0} → Result (List X) Fault → ℕ → Reply
 reply_to (Ok answer) room = if nat_le (length answer) room then done (length answer) else wants_room (length answer)
 reply_to (Err fault) room = refused_for fault

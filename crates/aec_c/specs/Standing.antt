@@ -11,7 +11,7 @@ pub record Standing : Type 0 where
   pub place : Place
   pub before : ℕ
 
--- a place in these bits, under the greatest limit, with so many samples before it
+-- a place in these bits, under the greatest limit, with `before` samples before it
 abbrev pub standing_at : Settings → Option ℕ → List Bool → ℕ → ℕ → ℕ → Standing
 standing_at s count bits block bit before = record { place = place_at s count (2 ^ 32) bits block bit; before = before }
 
@@ -19,13 +19,13 @@ standing_at s count bits block bit before = record { place = place_at s count (2
 abbrev pub place_in : Place → ℕ → ℕ → Place
 place_in p block bit = place_at p.settings p.count p.limit p.bits block bit
 
--- so many samples were read up to a place
+-- `before` samples were read up to a place
 pub record HasCounted (p : Place) (before : ℕ) : Type 0 where
   pub samples : List ℤ
   pub read : HasRead p samples
   pub counted : length samples ≡ before
 
--- steps lead to the place from the first bit, and so many samples were read up to it
+-- steps lead to the place from the first bit, and its number of samples was read up to it
 pub record IsStanding (r : Standing) : Type 0 where
   pub reached : IsPlace r.place
   pub has : HasCounted r.place r.before
@@ -39,7 +39,7 @@ pub record BeginsInterval (k : ℕ) (p : Place) : Type 0 where
   pub begins : is_wanted_at p ≡ true → p.block ≡ k * p.settings.interval
   pub within : p.block ≤ k * p.settings.interval
 
--- interval k begins so many intervals after a place, or all was read before it
+-- interval k begins `left` intervals after a place, or all was read before it
 pub record IsOnWay (k left : ℕ) (p : Place) : Type 0 where
   pub begins : is_wanted_at p ≡ true → p.block + left * p.settings.interval ≡ k * p.settings.interval
   pub within : p.block + left * p.settings.interval ≤ k * p.settings.interval

@@ -38,7 +38,7 @@ pub data IsEditing (s : Settings) (count : Option ℕ) (script coded : List ℕ)
       LacksMemoryOn f most.samples (first_calls f samples) samples read.edits read.lines line)
       → IsEditing s count script coded (Err (Line line Memory))
 
--- bytes are the code of so many samples
+-- bytes are the code of `count` samples
 pub record CodesSoMany (s : Settings) (bytes : List ℕ) (count : ℕ) : Type 0 where
   pub samples : List ℤ
   pub held : AreHeld (interval_format s) samples
@@ -65,13 +65,13 @@ abbrev pub line_of : Result (List ℕ) EditFault → ℕ
 line_of (Ok bytes) = 0
 line_of (Err fault) = line_in fault
 
--- the number of samples in the reply to an answer: the bytes are the code of so many samples; 0
--- after a refusal
+-- the number of samples in the reply to a result: its bytes are the code of `count` samples; after
+-- a refusal 0
 abbrev pub IsCounted : Settings → Result (List ℕ) EditFault → ℕ → Type 0
 IsCounted s (Ok bytes) count = CodesSoMany s bytes count
 IsCounted s (Err fault) count = count ≡ 0
 
--- a call had one of these answers
+-- a call had one of these results
 pub record RepliesEdit (s : Settings) (answers : Result (List ℕ) EditFault → Type 0) (before after : List ℕ)
     (reply : EditReply) : Type 0 where
   pub answer : Result (List ℕ) EditFault

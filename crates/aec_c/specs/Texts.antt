@@ -8,7 +8,7 @@ abbrev pub text_in : List ℕ → List ℕ → List ℕ
 text_in text before = if nat_lt 0 (length before) then over_front (take (length before - 1) text ++ (0 ∷ [])) before
     else before
 
--- a text of so many bytes was put into a buffer (not which text)
+-- a text of `len` bytes was put into a buffer (not which text)
 pub record PutsText (before after : List ℕ) (len : ℕ) : Type 0 where
   pub text : List ℕ
   pub put : after ≡ text_in text before

@@ -20,7 +20,7 @@ pub record IsSameCode (old new : Coded) : Type 0 where
   pub starts : new.starts.items ≡ old.starts.items
   pub count : new.count ≡ old.count
 
--- room for so many more bits, and for so many more starts
+-- room for `bits` more bits, and for `intervals` more starts
 pub record HasRoomOf (bits intervals : ℕ) (coded : Coded) : Type 0 where
   pub bits_fit : bits ≤ coded.bits.room
   pub starts_fit : vec_len coded.starts + intervals ≤ vec_capacity coded.starts
@@ -30,7 +30,7 @@ pub record KeepsRoom (old new : Coded) : Type 0 where
   pub bits : old.bits.room ≤ new.bits.room
   pub starts : vec_capacity old.starts ≤ vec_capacity new.starts
 
--- no more room than for so many bits and starts
+-- room for at most `bits` bits and `starts` starts
 pub record HasRoomAtMost (bits starts : ℕ) (coded : Coded) : Type 0 where
   pub bits_few : coded.bits.room ≤ bits
   pub starts_few : vec_capacity coded.starts ≤ starts

@@ -33,7 +33,7 @@ pub record Left : Type 0 where
   pub samples : List ℤ
   pub calls : ℕ
 
--- these samples, and so many calls of the coder
+-- these samples, after this number of calls of the coder
 abbrev pub left_with : List ℤ → ℕ → Left
 left_with samples calls = record { samples = samples; calls = calls }
 

@@ -12,7 +12,7 @@ use Rattle.aec_params.proofs.WorkedReadings.{ramp_without_count, five_sevens}
 use Rattle.aec_engine.specs.Output.{IsEncoded, are_refused, encoded, not_coded}
 use Rattle.aec_engine.specs.Output.{IsRanged, not_taken, not_decoded, outside, cut_out}
 
--- so many samples; coding has no limit of bytes
+-- at most `samples` samples; coding has no limit of bytes
 abbrev at_most : ℕ → Caps
 at_most samples = record { samples = samples; bytes = 0 }
 

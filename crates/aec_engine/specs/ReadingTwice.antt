@@ -50,7 +50,7 @@ pub record ReadsOn (p : Place) (samples : List ℤ) (q : Place) : Type 0 where
 abbrev pub LacksMemoryAlone : Place → Fault → Type 0
 LacksMemoryAlone p fault = (front samples : List ℤ) → HasRead p front → AreSamplesOf p samples → fault ≡ Memory
 
--- so many samples, at most `first`, were read up to a place where an interval begins or all is
+-- `before` samples, at most `first`, were read up to a place where an interval begins or all is
 -- read, in fewer than `2^34` blocks
 pub record IsBegun (p : Place) (before first : ℕ) : Type 0 where
   pub samples : List ℤ
@@ -103,7 +103,7 @@ pub record EndsAt (p : Place) (bit : ℕ) : Type 0 where
   pub read : HasRead (place_at p.settings p.count p.limit p.bits block bit) samples
   pub done : is_wanted_at (place_at p.settings p.count p.limit p.bits block bit) ≡ false
 
--- bits are read as so many samples
+-- bits are read as `total` samples
 pub record HaveSamples (p : Place) (total : ℕ) : Type 0 where
   pub samples : List ℤ
   pub reading : IsReading p.settings p.count p.limit p.bits samples
