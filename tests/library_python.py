@@ -11,7 +11,7 @@ FOLDER contains libaecp.so. Tests in turn
   - a missing or other library: an ImportError of one line;
   - mypy --strict, if it is installed: it must find nothing.
 
-Continues in the first interpreter that has numpy, if there is one. Prints the checks that fail and, last, how many passed. Ends with
+Continues in the interpreter that library_arrays.py takes, if one has numpy. Prints the checks that fail and, last, how many passed. Ends with
 status 1 if one failed.
 """
 

@@ -23,7 +23,8 @@ Fails in these cases:
   that make runs is in no claim.
 - A public function (laws, functions that a trait declares and crates of tests aside) is neither in a claim with a must-fail edit
   nor on a line `bare`; or a function is in both.
-- The gate tries fewer edits of a crate than half its functions `pub fn` (crates of tests aside).
+- The gate tries fewer edits of a crate than half its functions `pub fn`, rounded down (crates of tests aside; a function
+  `pub extern "C" fn` isn't counted).
 - The page differs from what the script would write. Only --check tests this, and then nothing is written.
 """
 
@@ -115,12 +116,12 @@ class Names:
         self.bare.update(one.path() for one in ones)
 
     def judge_gate(self):
-        """Checks that the gate tries at least half as many wrong bodies of a crate as the crate has functions `pub fn`."""
+        """Checks that the gate tries at least half as many wrong bodies of a crate as it has functions `pub fn`, rounded down."""
         for name, crate in self.crates.items():
             texts = [text_of(path) for path in files_below(f"crates/{name}/src", ".rt")]
             public = sum(len(re.findall(r"^\s*pub (?:const )?fn ", text, re.M)) for text in texts)
             if not name.endswith("_tests") and len(self.gate[name]) < public // 2:
-                self.wrongs.append(f"{name}: the gate tries {len(self.gate[name])} edits, for {public} public functions")
+                self.wrongs.append(f"{name}: the gate tries {len(self.gate[name])} edits, for {public} functions `pub fn`")
 
     def judge_guards(self):
         """Checks that each public function has a wrong body, or is on a line `bare`, but not both."""

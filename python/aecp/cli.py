@@ -40,7 +40,7 @@ STOPS = (signal.SIGINT, signal.SIGTERM, signal.SIGHUP)
 def add_options(parser: argparse.ArgumentParser, needs_bits: bool) -> None:
     """Adds the options of coding, which are those of `aec`."""
     group = parser.add_argument_group("options of coding")
-    bits = "bits of a sample, 1 to 32; no file says how many"
+    bits = "bits of a sample, 1 to 32; a file of samples doesn't say how many"
     group.add_argument("-n", dest="bits", type=int, required=needs_bits, metavar="N", help=bits)
     group.add_argument("-j", dest="block_size", type=int, metavar="J", help="samples in a block: 8, 16, 32 or 64 (16)")
     group.add_argument("-r", dest="interval", type=int, metavar="R", help="blocks in an interval, 1 to 4096 (128)")

@@ -79,7 +79,7 @@ def facts(data: bytes, options: Options) -> list[str]:
 
 
 def better_storage(data: bytes, options: Options) -> list[str]:
-    """Returns a line for each other byte order, sign or prediction that takes fewer bytes."""
+    """Returns a line for each other byte order, sign or prediction that takes over 1 % fewer bytes."""
     usual = len(encode(data, options))
     said = []
     for words, change in (("-m", "msb_first"), ("-s", "signed"), ("-N", "preprocess")):

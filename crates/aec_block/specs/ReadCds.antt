@@ -95,8 +95,8 @@ is_plain_taken (taken kind rest) = is_plain kind
 abbrev pub begins_plain : Settings → List Bool → Bool
 begins_plain s bits = is_plain_taken (kind_at (id_len s) bits)
 
--- no plain coded data set, with a reference sample or without, whose values are at most 2^n - 1,
--- begins the bits
+-- no plain coded data set, of a reference block if `is_reference`, else of another, whose values
+-- are at most 2^n - 1, begins the bits
 abbrev pub HasNoPlain : Settings → Bool → List Bool → Type 0
 HasNoPlain s is_reference bits = (c : CodedDataSet) (rest : List Bool) → cds_at s is_reference bits ≡ taken c rest
     → is_plain_body c.body ≡ true → has_small_values s c ≡ false
