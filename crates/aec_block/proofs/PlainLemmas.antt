@@ -14,7 +14,7 @@ use Rattle.aec_block.specs.declared.cds.Cds.{Cds}
 use Rattle.aec_block.specs.declared.cds.Cds.TheVariants.{Single, Zeros}
 use Rattle.aec_block.specs.declared.reading.Kind.{Kind}
 use Rattle.aec_block.specs.declared.reading.Kind.TheVariants.{ZeroBlocks, SecondExtension, Split, NoCompression}
-use Rattle.aec_block.specs.ReadAt.{Taken, nothing, taken, then_at, map_taken, binary_at, values_at, split_at, kind_at, body_at, cds_at, set_of, set_after_reference, set_after_kind}
+use Rattle.aec_block.specs.ReadAt.{Taken, nothing, taken, then_at, map_taken, binary_at, values_at, split_at, kind_at, body_at, cds_at, set_of, reference_at, set_after_reference, set_after_kind}
 use Rattle.aec_block.specs.Gathering.{bits_at, when, all_below, small_values, as_taken_by}
 use Rattle.aec_block.specs.ReadCds.{cds_of, checked, checked_body, is_plain, is_plain_body, is_plain_taken, begins_plain, IsReadAs, IsReadPlain, IsReadFirst}
 use Rattle.aec_block.proofs.CodewordLemmas.{map_taken-mapped}
@@ -105,36 +105,46 @@ first_numbers s kind width n pattern start behind after rest values is_kind widt
 -- ---- what was read is plain
 
 -- a body read after the identifier of a plain body is plain
-plain_body_at : (s : Settings) (kind : Kind) (behind rest : List Bool) (body : Body) → is_plain kind ≡ true → body_at s false kind behind ≡ taken body rest
-    → is_plain_body body ≡ true
-plain_body_at s ZeroBlocks behind rest body plain read = absurd (cc)
-plain_body_at s SecondExtension behind rest body plain read = absurd (cc)
-plain_body_at s NoCompression behind rest body plain read =
-    ap is_plain_body (sym (map_taken-mapped uncompressed_values (values_at (binary_at s.bits) (written_count s false) behind) body rest read).after)
-plain_body_at s (Split k) behind rest body plain read =
-    ap is_plain_body (sym (map_taken-mapped (split_values k) (split_at k (written_count s false) behind) body rest read).after)
+plain_body_at : (s : Settings) (is_reference : Bool) (kind : Kind) (behind rest : List Bool) (body : Body) → is_plain kind ≡ true
+    → body_at s is_reference kind behind ≡ taken body rest → is_plain_body body ≡ true
+plain_body_at s is_reference ZeroBlocks behind rest body plain read = absurd (cc)
+plain_body_at s is_reference SecondExtension behind rest body plain read = absurd (cc)
+plain_body_at s is_reference NoCompression behind rest body plain read =
+    ap is_plain_body
+    (sym (map_taken-mapped uncompressed_values (values_at (binary_at s.bits) (written_count s is_reference) behind) body rest read).after)
+plain_body_at s is_reference (Split k) behind rest body plain read =
+    ap is_plain_body (sym (map_taken-mapped (split_values k) (split_at k (written_count s is_reference) behind) body rest read).after)
 
-plain-begun : (s : Settings) (bits : List Bool) (c : CodedDataSet) (rest : List Bool) → begins_plain s bits ≡ true → cds_at s false bits ≡ taken c rest
-    → is_plain_body c.body ≡ true
-plain-begun s bits c rest begins read = by_kind (kind_at (id_len s) bits) begins read
+plain-begun : (s : Settings) (is_reference : Bool) (bits : List Bool) (c : CodedDataSet) (rest : List Bool) → begins_plain s bits ≡ true
+    → cds_at s is_reference bits ≡ taken c rest → is_plain_body c.body ≡ true
+plain-begun s is_reference bits c rest begins read = by_kind (kind_at (id_len s) bits) begins read
   where
-    by_kind : (t : Taken Kind) → is_plain_taken t ≡ true → then_at t (set_after_kind s false) ≡ taken c rest → is_plain_body c.body ≡ true
+    by_reference : (kind : Kind) (t : Taken (Option ℕ)) → is_plain kind ≡ true → then_at t (set_after_reference s is_reference kind) ≡ taken c rest
+        → is_plain_body c.body ≡ true
+    by_reference kind nothing plain there = absurd (cc)
+    by_reference kind (taken reference after) plain there =
+        let m = map_taken-mapped (set_of reference) (body_at s is_reference kind after) c rest there in
+        ap (λ (c : CodedDataSet). is_plain_body c.body) (sym m.after) ∙ plain_body_at s is_reference kind after rest m.value plain m.before
+
+    by_kind : (t : Taken Kind) → is_plain_taken t ≡ true → then_at t (set_after_kind s is_reference) ≡ taken c rest → is_plain_body c.body ≡ true
     by_kind nothing plain there = absurd (cc)
-    by_kind (taken kind behind) plain there =
-        let m = map_taken-mapped (set_of None) (body_at s false kind behind) c rest there in
-        ap (λ (c : CodedDataSet). is_plain_body c.body) (sym m.after) ∙ plain_body_at s kind behind rest m.value plain m.before
+    by_kind (taken kind behind) plain there = by_reference kind (reference_at s is_reference behind) plain there
+
+-- where a plain identifier begins the bits, the coded data set that is read there is plain
+read_there-plain : (s : Settings) (is_reference : Bool) (old new : Cursor) (cds : Cds) (c : CodedDataSet) → IsAllowed s
+    → begins_plain s (bits_at old) ≡ true → IsReadAs s is_reference old new c cds → is_plain_body c.body ≡ true
+read_there-plain s is_reference old new cds c allowed begins read =
+    let rest = drop (old.pos + length (cds_bits s c)) old.list in
+    plain-begun s is_reference (bits_at old) c rest begins
+    (ap (cds_at s is_reference) read.set.stands ∙ what_is_spelled_is_read s allowed is_reference c rest read.set.shape)
 
 pub plain-read : (s : Settings) (old new : Cursor) (values : List ℕ) → IsAllowed s → begins_plain s (bits_at old) ≡ true
     → (c : CodedDataSet) × IsReadAs s false old new c (Single (block_of_values None values)) → IsReadPlain s old new values
-plain-read s old new values allowed begins read_there =
-    let c = read_there.0 in
-    let rest = drop (old.pos + length (cds_bits s c)) old.list in
-    record {
-      set = c;
-      plain = plain-begun s (bits_at old) c rest begins
-          (ap (cds_at s false) read_there.1.set.stands ∙ what_is_spelled_is_read s allowed false c rest read_there.1.set.shape);
-      read = read_there.1;
-    }
+plain-read s old new values allowed begins read_there = record {
+  set = read_there.0;
+  plain = read_there-plain s false old new (Single (block_of_values None values)) read_there.0 allowed begins read_there.1;
+  read = read_there.1;
+}
 
 abbrev values_in : Cds → List ℕ
 values_in (Single b) = b.values
@@ -179,9 +189,11 @@ placed_first (v ∷ items) part some =
 pub of_some : {X : Type 0} (P : X → Type 0) (o : Option X) (x : X) → o ≡ Some x → IfSome o P → P x
 of_some P o x is said = subst (λ o. IfSome o P) is said
 
-pub first-read : (s : Settings) (old new : Cursor) (pattern : ℕ) (written values : List ℕ) → values ≡ 0 ∷ written
-    → (c : CodedDataSet) × IsReadAs s true old new c (Single (block_of_values (Some pattern) written)) → IsReadFirst s old new pattern values
-first-read s old new pattern written values is read = record {
+pub first-read : (s : Settings) (old new : Cursor) (pattern : ℕ) (written values : List ℕ) → IsAllowed s → begins_plain s (bits_at old) ≡ true
+    → values ≡ 0 ∷ written → (c : CodedDataSet) × IsReadAs s true old new c (Single (block_of_values (Some pattern) written))
+    → IsReadFirst s old new pattern values
+first-read s old new pattern written values allowed begins is read = record {
   set = read.0;
+  plain = read_there-plain s true old new (Single (block_of_values (Some pattern) written)) read.0 allowed begins read.1;
   read = subst (λ values. IsReadAs s true old new read.0 (Single (record { reference = Some pattern; values = values }))) (sym is) read.1;
 }

@@ -123,9 +123,9 @@ pub record IsReadPlain (s : Settings) (old new : Cursor) (values : List ℕ) : T
   pub plain : is_plain_body set.body ≡ true
   pub read : IsReadAs s false old new set (Single (block_of_values None values))
 
--- a coded data set of one block with a reference sample of this pattern is read, and the cursor
--- moves past it. These are the values of the block, with 0 in the reference place, none of them
--- above 2^n - 1
+-- a plain coded data set with a reference sample of this pattern is read, and the cursor moves past
+-- it. These are the values of its block, with 0 in the reference place, none of them above 2^n - 1
 pub record IsReadFirst (s : Settings) (old new : Cursor) (pattern : ℕ) (values : List ℕ) : Type 0 where
   pub set : CodedDataSet
+  pub plain : is_plain_body set.body ≡ true
   pub read : IsReadAs s true old new set (Single (record { reference = Some pattern; values = values }))

@@ -94,6 +94,8 @@ fn fill_first<const M: usize>(
     ensures cut { OnErr result (HasNoPlain params.now true (bits_at reader.old)) }
     ensures one { IfOk result
         (λ found. is_some found ≡ true → has_one (bits_at reader.old) ≡ true) }
+    ensures seen { IfOk result (λ found. is_some found ≡ true
+        → begins_plain params.now (bits_at reader.old) ≡ true) }
     ensures below { IfOk result (λ found. IfSome found (λ pattern. pattern < 2 ^ params.now.bits)) }
     ensures allowed { IsAllowed params.now }
     ensures len { length values.new ≡ length values.old }

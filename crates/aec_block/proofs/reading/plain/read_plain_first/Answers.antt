@@ -18,7 +18,8 @@ returns-in-Ok-Some-clause-read g c =
     let read =
     of_some (λ pattern. map_taken (checked c.args.params.now) (cds_at c.args.params.now true (bits_at c.args.reader.now))
     ≡ taken (Some (Single (block_of_values (Some pattern) written))) (bits_at c.fill_first.new.reader)) _ _ c.in-Ok-Some.field-0-is filled.taken in
-    first-read c.args.params.now c.args.reader.now c.fill_first.new.reader c.in-Ok-Some.pattern written _
+    first-read c.args.params.now c.args.reader.now c.fill_first.new.reader c.in-Ok-Some.pattern written _ filled.allowed
+    (filled.seen (ap is_some c.in-Ok-Some.field-0-is))
     (placed_first c.args.values.now written (omega (arith, c.requires, block_size-positive c.args.params.now filled.allowed)))
     (read_as c.args.params.now true c.args.reader.now c.fill_first.new.reader (Single (block_of_values (Some c.in-Ok-Some.pattern) written))
     filled.allowed c.pos-start.ensures.within filled.within filled.list read)
