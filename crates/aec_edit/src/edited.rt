@@ -61,7 +61,7 @@ pub fn write_edited<C: Codec + Drop, W: Sink>(
         (λ edited. let left = all_left [] edits.now edited.outcomes.items in
         HasOneReading (C.format codec) (bytes_of (code_of (C.format codec) left))
         edited.samples.items) }
-    ensures refuses { IfErr result (λ fault. (fault ≡ Memory) ⊎ (fault ≡ WriteFault)) }
+    ensures fault { IfErr result (λ fault. (fault ≡ Memory) ⊎ (fault ≡ WriteFault)) }
     ensures memory { result ≡ Err Memory
         → (0 < length edits.now) × Keeps (W.taken sink.old) (W.taken sink.new) }
     ensures front { result ≡ Err WriteFault

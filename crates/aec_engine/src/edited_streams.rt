@@ -56,7 +56,7 @@ fn write_stream(
     ensures stream { IfOk result
         (λ w. w.stream.items ≡ bytes_of
         (stream_of params.now (all_left [] edits.now w.outcomes.items))) }
-    ensures refuses { IfErr result (λ fault. fault ≡ Memory) }
+    ensures fault { IfErr result (λ fault. fault ≡ Memory) }
 {
     params.known_allowed();
     let codec = AecCodec::new(alloc, *params);
@@ -99,7 +99,7 @@ pub fn decode_edited(
     ensures reading { IfOk result
         (λ decoded. IsReading params.now (Some (length decoded.samples.items)) limit
         (bits_of_bytes decoded.stream.items) decoded.samples.items) }
-    ensures refuses { IfErr result (λ fault. fault ≡ Memory) }
+    ensures fault { IfErr result (λ fault. fault ≡ Memory) }
 {
     streams_are_read_back();
     bits_are_read_in_one_way();

@@ -2,7 +2,7 @@
 //! leading overwrites of a script on samples already loaded, while little of the stream follows
 //! them.
 
-ghost use Rattle.std.specs.Prelude.{◌≡◌, ◌+◌, ◌<◌, ◌≤◌, ◌/◌, ◌%◌, ◌-◌, ◌^◌, ◌⊎◌, ◌++◌, min, max, length, true, false, [], IfOk, IfErr, OnOk};
+ghost use Rattle.std.specs.Prelude.{◌≡◌, ◌≢◌, ◌+◌, ◌<◌, ◌≤◌, ◌/◌, ◌%◌, ◌-◌, ◌^◌, ◌⊎◌, ◌++◌, min, max, length, true, false, [], IfOk, IfErr, OnOk};
 ghost use Rattle.std.specs.Int.{div_ceil};
 ghost use Rattle.aec_params.specs.declared.fault.Fault.TheVariants.{Memory};
 ghost use Rattle.aec_params.specs.Params.{IsAllowed, interval_len};
@@ -159,8 +159,7 @@ pub(crate) fn append_all<C: Codec>(
 }
 
 /// Judges all bits, and returns a reader at the first bit, whose samples can be read, with the
-/// result of judging. Allocates nothing. Fails as `decode_all` does; no clause says that it never
-/// fails with `Memory`.
+/// result of judging. Allocates nothing. Fails as `decode_all` does, but never with `Memory`.
 pub(crate) fn judged_reader<'a>(
     alloc: Global,
     params: &Params,
@@ -172,6 +171,7 @@ pub(crate) fn judged_reader<'a>(
         read.1.bits read.1.total) }
     ensures refuses { IfErr result
         (λ fault. RefusesDecoding params.now count limits.samples bits.now.list fault) }
+    ensures lasting { IfErr result (λ fault. fault ≢ Memory) }
 {
     let mut reader = StreamReader::new(alloc, *params, bits, count, limits.samples())?;
     let judged = judge_all(params, &mut reader)?;

@@ -6,7 +6,7 @@ ghost use Rattle.std.specs.Io.KnownBytes.{Appends, Keeps};
 ghost use Rattle.aec_params.specs.declared.fault.Fault.TheVariants.{Memory, Write as WriteFault};
 ghost use Rattle.aec_params.specs.Params.{IsAllowed, IsHeld, interval_len};
 ghost use Rattle.aec_bits.specs.Devices.{counted, AppendsFront};
-ghost use Rattle.aec_interval.specs.Reached.{RefusesReading};
+ghost use Rattle.aec_params.specs.Faults.{IsFault};
 ghost use Rattle.aec_interval.specs.Pieces.{IsPlace, place_at};
 ghost use Rattle.aec_engine.specs.Output.{all_stored, samples_from};
 ghost use Rattle.aec_engine.specs.Transfers.{Putting, putting_of};
@@ -57,8 +57,8 @@ pub(crate) struct Judged {
 }
 
 /// Judges all samples from where the reader is, after `before` samples, and goes back to the last
-/// interval that it passed and that begins at or before sample `first`. It never fails with
-/// `Memory`, which no clause says.
+/// interval that it passed and that begins at or before sample `first`. It fails only with the
+/// fault of the bits.
 pub(crate) fn judge_from(
     params: &Params,
     reader: &mut StreamReader,
@@ -74,7 +74,7 @@ pub(crate) fn judge_from(
         reader.new ≡ place_at old.settings old.count old.limit old.bits reader.new.block
         reader.new.bit) }
     ensures refuses { IfErr result (λ fault. let old = reader.old in
-        RefusesReading old.settings old.count old.limit old.bits 0 0 fault) }
+        IsFault old.settings old.count old.limit old.bits 0 0 fault) }
 {
     params.known_allowed();
     let mut total = before;
@@ -112,7 +112,7 @@ pub(crate) fn judge_samples(
         reader.new ≡ place_at old.settings old.count old.limit old.bits reader.new.block
         reader.new.bit) }
     ensures refuses { IfErr result (λ fault. let old = reader.old in
-        RefusesReading old.settings old.count old.limit old.bits 0 0 fault) }
+        IsFault old.settings old.count old.limit old.bits 0 0 fault) }
 {
     judge_from(params, reader, 0, first)
 }
@@ -122,7 +122,7 @@ pub(crate) fn judge_all(params: &Params, reader: &mut StreamReader) -> Result<Ju
     requires start { IsAtStart reader.old params.now }
     ensures ok { IfOk result (λ judged. Judges reader.old reader.new judged.bits judged.total) }
     ensures refuses { IfErr result
-        (λ fault. RefusesReading reader.old.settings reader.old.count reader.old.limit
+        (λ fault. IsFault reader.old.settings reader.old.count reader.old.limit
         reader.old.bits 0 0 fault) }
 {
     let judged = judge_samples(params, reader, 0)?;

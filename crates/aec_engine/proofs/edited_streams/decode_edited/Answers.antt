@@ -2,8 +2,8 @@ use Rattle.std.proofs.lemmas.Result.{err_from_is_err_and}
 use Rattle.aec_engine.proofs.EditedStreamLemmas.{decoded_left, read_as_counted, refused_for_memory}
 use Rattle.aec_engine.proofs.edited_streams.decode_edited.Goals as goal
 
-pub returns-in_err-samples-clause-refuses : goal.returns-in_err-samples-clause-refuses
-returns-in_err-samples-clause-refuses c =
+pub returns-in_err-samples-clause-fault : goal.returns-in_err-samples-clause-fault
+returns-in_err-samples-clause-fault c =
     let exit = err_from_is_err_and c.from_residual-in_err-samples.result c.from_residual-in_err-samples.ensures.1 in
     refused_for_memory c.streams_are_read_back.ensures c.bits_are_read_in_one_way.ensures c.runs_leave_samples.ensures c.args.params.now _ _ _ _ _ _ _ _ _
     c.in_ok-w.ensures.written exit.1 exit.2 c.in_err-samples.ensures.refuses

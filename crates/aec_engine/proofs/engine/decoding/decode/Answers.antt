@@ -2,6 +2,7 @@ use Rattle.std.proofs.Common.{Some, Err, arith, ◌∙◌, ap, refl}
 use Rattle.std.proofs.lemmas.List.{nil_from_length}
 use Rattle.std.proofs.lemmas.Result.{err_from_is_err_and}
 use Rattle.aec_params.specs.declared.fault.Fault.TheVariants.{Memory}
+use Rattle.aec_interval.specs.Reached.{faulty}
 use Rattle.aec_engine.specs.ReadingTwice.{unread, no_memory}
 use Rattle.aec_engine.proofs.KeepingLemmas.{few_none, keeps_none, refuses_behind, settles_kept}
 use Rattle.aec_engine.proofs.SettlingLemmas.{leaves_refusal, intake_decoded, leaves_decoded, settles_refusal, refuses_count, refuses_reading}
@@ -32,7 +33,7 @@ returns-in_err-judge_all-in-Err g c =
     (settles_refusal _ _ exit.0 judged.field-0.0 (g.W.Sink.taken c.args.sink.now) (g.W.Sink.mark c.args.sink.now)
     (g.W.Sink.begun c.args.sink.now) (g.W.Sink.failed c.args.sink.now) exit.1 exit.2
     (unread judged.field-0.0 (refuses_reading _ _ _ _ c.in_ok-reader.reader judged.field-0.0 c.in_ok-reader.ensures.ok
-    c.in_ok-reader.ensures.refuses judged.ensures.refuses)))
+    c.in_ok-reader.ensures.refuses (faulty judged.field-0.0 judged.ensures.refuses))))
 
 pub returns-in-Err : goal.returns-in-Err
 returns-in-Err g c =
@@ -69,7 +70,7 @@ returns-in_err-judged g c =
     (settles_refusal _ _ exit.0 judged.field-0.0 (g.W.Sink.taken c.args.sink.now) (g.W.Sink.mark c.args.sink.now)
     (g.W.Sink.begun c.args.sink.now) (g.W.Sink.failed c.args.sink.now) exit.1 exit.2
     (unread judged.field-0.0 (refuses_behind _ _ _ _ c.in_ok-reader.reader c.keep_more.new.reader judged.field-0.0 c.in_ok-reader.ensures.ok
-    c.in_ok-kept.ensures.same c.in_ok-reader.ensures.refuses judged.ensures.refuses)))
+    c.in_ok-kept.ensures.same c.in_ok-reader.ensures.refuses (faulty judged.field-0.0 judged.ensures.refuses))))
 
 pub returns : goal.returns
 returns g c =

@@ -3,6 +3,7 @@ use Rattle.std.proofs.lemmas.Result.{err_from_is_err_and}
 use Rattle.aec_params.specs.declared.settings.Settings.{Settings}
 use Rattle.aec_params.specs.declared.fault.Fault.TheVariants.{Memory}
 use Rattle.aec_interval.specs.Pieces.{place_at}
+use Rattle.aec_interval.specs.Reached.{faulty}
 use Rattle.aec_engine.specs.Output.{all_stored, samples_from}
 use Rattle.aec_engine.specs.ReadingTwice.{AreSamplesOf, KeepsFront, no_memory}
 use Rattle.aec_engine.specs.Buffers.{FillsOne}
@@ -39,7 +40,7 @@ returns-in_err-judged c =
     let fault = c.in_err-judged.field-0.0 in
     fills_refusal _ c.args.out.now _ exit.0 fault exit.1 exit.2
     (refused_under c.args.params.now c.args.reader.now fault c.requires.settings (sym c.requires.counted)
-    (refused_there c.args.reader.now c.keep_more.new.reader fault c.in_ok-kept.ensures.same c.in_err-judged.ensures.refuses))
+    (refused_there c.args.reader.now c.keep_more.new.reader fault c.in_ok-kept.ensures.same (faulty fault c.in_err-judged.ensures.refuses)))
 
 pub returns-in_err-room_for_rest : goal.returns-in_err-room_for_rest
 returns-in_err-room_for_rest c =

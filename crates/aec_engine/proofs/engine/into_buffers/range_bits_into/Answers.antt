@@ -1,5 +1,6 @@
 use Rattle.std.proofs.Common.{Some, Err, ◌∙◌, ap, arith, refl, subst}
 use Rattle.std.proofs.lemmas.Result.{err_from_is_err_and}
+use Rattle.aec_interval.specs.Reached.{faulty}
 use Rattle.aec_engine.specs.ReadingTwice.{CutsBits, not_read}
 use Rattle.aec_engine.proofs.SettlingLemmas.{refuses_count, refuses_reading, cuts_past}
 use Rattle.aec_engine.proofs.BufferLemmas.{fills_refusal}
@@ -20,7 +21,7 @@ returns-in_err-judged c =
     fills_refusal _ c.args.out.now _ exit.0 fault exit.1 exit.2
     (subst (λ limit. CutsBits c.args.params.now c.args.count limit c.args.first c.args.len c.args.bits.now.list (Err fault)) c.samples.ensures.value
     (not_read fault (refuses_reading _ _ _ _ c.in_ok-reader.reader fault c.in_ok-reader.ensures.ok c.in_ok-reader.ensures.refuses
-    c.in_err-judged.ensures.refuses)))
+    (faulty fault c.in_err-judged.ensures.refuses))))
 
 pub returns-in_err-judge_range : goal.returns-in_err-judge_range
 returns-in_err-judge_range c =

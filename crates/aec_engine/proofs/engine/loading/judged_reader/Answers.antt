@@ -1,7 +1,9 @@
-use Rattle.std.proofs.Common.{Some, ◌∙◌, ap, sym, subst}
+use Rattle.std.proofs.Common.{◌≢◌, Some, ◌∙◌, ap, sym, subst}
 use Rattle.std.proofs.lemmas.Result.{err_from_is_err_and}
-use Rattle.aec_interval.specs.Reached.{RefusesDecoding}
+use Rattle.aec_params.specs.declared.fault.Fault.TheVariants.{Memory}
+use Rattle.aec_interval.specs.Reached.{faulty, RefusesDecoding}
 use Rattle.aec_engine.proofs.LoadingLemmas.{refuses_err}
+use Rattle.aec_engine.proofs.ReadTwiceLemmas.{faults_last}
 use Rattle.aec_engine.proofs.SettlingLemmas.{refuses_count, refuses_reading}
 use Rattle.aec_engine.proofs.engine.loading.judged_reader.Goals as goal
 
@@ -18,4 +20,10 @@ returns-in_err-judged-clause-refuses c =
     refuses_err _ exit.0 (RefusesDecoding c.args.params.now c.args.count c.args.limits.samples c.args.bits.now.list) exit.1
     (subst (λ limit. RefusesDecoding c.args.params.now c.args.count limit c.args.bits.now.list exit.0) c.samples.ensures.value
     (subst (RefusesDecoding _ _ _ _) (sym exit.2) (refuses_reading _ _ _ _ c.in_ok-reader.reader c.in_err-judged.field-0.0 c.in_ok-reader.ensures.ok
-    c.in_ok-reader.ensures.refuses c.in_err-judged.ensures.refuses)))
+    c.in_ok-reader.ensures.refuses (faulty _ c.in_err-judged.ensures.refuses))))
+
+pub returns-in_err-judged-clause-lasting : goal.returns-in_err-judged-clause-lasting
+returns-in_err-judged-clause-lasting c =
+    let exit = err_from_is_err_and c.from_residual-in_err-judged.result c.from_residual-in_err-judged.ensures.1 in
+    let lasting = faults_last _ _ _ _ _ _ _ c.in_err-judged.ensures.refuses in
+    refuses_err _ exit.0 (λ fault. fault ≢ Memory) exit.1 (subst (λ fault. fault ≢ Memory) (sym exit.2) lasting)

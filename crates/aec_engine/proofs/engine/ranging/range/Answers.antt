@@ -1,6 +1,7 @@
 use Rattle.std.proofs.Common.{Some, ◌∙◌, ap, refl}
 use Rattle.std.proofs.lemmas.Result.{err_from_is_err_and}
 use Rattle.aec_interval.specs.Pieces.{Place}
+use Rattle.aec_interval.specs.Reached.{faulty}
 use Rattle.aec_engine.specs.ReadingTwice.{not_read}
 use Rattle.aec_engine.proofs.ReadTwiceLemmas.{place_from}
 use Rattle.aec_engine.proofs.SettlingLemmas.{leaves_refusal, intake_ranged, leaves_ranged, settles_refusal, refuses_count, refuses_reading, samples_told, samples_there, cuts_part, cuts_past}
@@ -32,7 +33,7 @@ returns-in_err-judged g c =
     (settles_refusal _ _ exit.0 judged.field-0.0 (g.W.Sink.taken c.args.sink.now) (g.W.Sink.mark c.args.sink.now)
     (g.W.Sink.begun c.args.sink.now) (g.W.Sink.failed c.args.sink.now) exit.1 exit.2
     (not_read judged.field-0.0 (refuses_reading _ _ _ _ c.in_ok-reader.reader judged.field-0.0 c.in_ok-reader.ensures.ok
-    c.in_ok-reader.ensures.refuses judged.ensures.refuses)))
+    c.in_ok-reader.ensures.refuses (faulty judged.field-0.0 judged.ensures.refuses))))
 
 pub returns-in_err-judge_range : goal.returns-in_err-judge_range
 returns-in_err-judge_range g c =
