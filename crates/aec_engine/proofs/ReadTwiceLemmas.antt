@@ -116,7 +116,7 @@ counts_wrong {X} r fault other start p total a is same so_far wrong =
     let P : Result X Fault → Type 0 = λ r. IfErr r (λ fault. IsFault start.settings start.count start.limit start.bits 0 0 fault) in
     let at = wrong.wrong in
     let whole = has_read_refused p so_far.samples other (subst IsAllowed (sym (settings-same start p so_far.same)) a) so_far.read
-            (wrong_before other at wrong.before) in
+    (wrong_before other at wrong.before) in
     let lasting = faults_last _ _ _ _ _ _ other at in
     subst P (sym (is ∙ ap Err same)) (subst (λ (p : Place). IsFault p.settings p.count p.limit p.bits 0 0 other) so_far.same
     (fault_of _ _ _ _ other whole lasting))
