@@ -8,6 +8,7 @@ use Rattle.std.proofs.lemmas.List.{length-append, length-take-le, take-append-dr
 use Rattle.std.proofs.Math.Seq.{take-append_seam, drop-append_seam}
 use Rattle.std.proofs.Math.Nat.{pow-suc, mod-eq_of_lt, div-eq_of_lt, mul-add-div_right, mul-add-mod_self_right}
 use Rattle.aec_params.specs.Codewords.{fs, binary, bits_number}
+use Rattle.aec_params.proofs.CodewordLaws.{length-binary}
 use Rattle.aec_block.specs.ReadAt.{Taken, nothing, taken, then_at, map_taken, fs_at, binary_at, values_at}
 
 -- ---- what was taken in steps
@@ -53,10 +54,6 @@ fs_at-spelled (false ∷ bits) v rest e =
     rw (← next) (ap (λ l. false ∷ l) spelled)
 
 -- ---- binary numbers of w bits
-
-pub length-binary : (w v : ℕ) → length (binary w v) ≡ w
-length-binary zero v = refl
-length-binary (suc w) v = let e = length-binary w v in omega arith
 
 -- the number that the lowest bit of v means at a place of weight p
 bit_number : (v p : ℕ) → cond (v % 2 == 1) p 0 ≡ v % 2 * p

@@ -2,10 +2,10 @@
 use Rattle.std.proofs.Common.{◌≡◌, ℕ, ◌+◌, ◌*◌, ◌%◌, ◌^◌, ◌<◌, ◌≤◌, ◌++◌, ap, ◌∙◌, sym, arith, Bool, List, [], length, append_assoc, append-nil, length-append}
 use Rattle.std.proofs.lemmas.Nat.{shl_whole, mul-add-lt, pow-add}
 use Rattle.std.proofs.Math.Pow.{pow_mono}
+use Rattle.aec_params.proofs.CodewordLaws.{length-fs, length-binary}
 use Rattle.aec_params.specs.Codewords.{binary}
 use Rattle.aec_bits.proofs.WordLemmas.{binary-join}
 use Rattle.aec_bits.proofs.BitBufLemmas.{binary-one}
-use Rattle.aec_block.proofs.LengthLemmas.{length-fs, length-binary}
 
 -- a word of `used` bits, shifted left by `width` bits, plus a number of `width` bits
 pub record IsJoined (used width word value : ℕ) : Type 0 where

@@ -7,9 +7,9 @@ use Rattle.std.proofs.Math.Seq.{take-add}
 use Rattle.std.proofs.lemmas.Grind.{flat_map-append}
 use Rattle.aec_params.specs.Codewords.{fs, binary}
 use Rattle.aec_bits.proofs.BitBufLemmas.{binary-one}
+use Rattle.aec_params.proofs.CodewordLaws.{length-fs}
 use Rattle.aec_block.specs.HighWords.{GoesOn}
 use Rattle.aec_block.specs.Written.{high_parts, Spells}
-use Rattle.aec_block.proofs.LengthLemmas.{length-fs}
 use Rattle.aec_block.proofs.GatheredLemmas.{IsJoined, is_joined_number, one_below}
 
 -- ---- codewords of values in parts

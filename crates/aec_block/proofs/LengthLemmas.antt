@@ -1,5 +1,5 @@
 -- The lengths of spellings are the sums that code computes.
-use Rattle.std.proofs.Common.{◌≡◌, ℕ, zero, suc, ◌+◌, ◌-◌, ◌*◌, ◌/◌, ◌%◌, ◌^◌, ◌<◌, ◌≤◌, refl, ap, ◌∙◌, arith, Option, Some, None, List, [], ◌∷◌, length, length-append, length-drop, drop-cons, drop, get_or}
+use Rattle.std.proofs.Common.{◌≡◌, ℕ, suc, ◌+◌, ◌-◌, ◌*◌, ◌/◌, ◌%◌, ◌^◌, ◌<◌, ◌≤◌, refl, ap, ◌∙◌, arith, Option, Some, None, List, [], ◌∷◌, length, length-append, length-drop, drop-cons, drop, get_or}
 use Rattle.std.specs.List.{flat_map}
 use Rattle.std.proofs.lemmas.List.{length-replicate}
 use Rattle.std.proofs.lemmas.List.Sums.{sum_by-cons}
@@ -10,14 +10,8 @@ use Rattle.aec_params.specs.Codewords.{fs, binary}
 use Rattle.aec_params.specs.Blocks.{Block}
 use Rattle.aec_params.specs.CodedDataSets.{pair_number, pair_bits, reference_bits, cds_bits}
 use Rattle.aec_params.specs.Spellings.{written_values, uncompressed, paired, split}
+use Rattle.aec_params.proofs.CodewordLaws.{length-binary}
 use Rattle.aec_block.specs.Lengths.{reference_len, head_length, sum_of_shifted, pairs_length, uncompressed_length, paired_length, split_length}
-
-pub length-binary : (w v : ℕ) → length (binary w v) ≡ w
-length-binary zero v = refl
-length-binary (suc w) v = omega (arith, length-binary w v)
-
-pub length-fs : (v : ℕ) → length (fs v) ≡ v + 1
-length-fs v = simp (length-append, length-replicate)
 
 pub length-reference_bits : (s : Settings) (reference : Option ℕ) → length (reference_bits s reference) ≡ reference_len s reference
 length-reference_bits s None = refl

@@ -14,6 +14,7 @@ use Rattle.aec_params.specs.Codewords.{fs, binary, bits_number}
 use Rattle.aec_params.specs.CodedDataSets.{written_count}
 use Rattle.aec_bits.specs.BitReader.{Cursor, AreBelow, behind_ones}
 use Rattle.aec_bits.proofs.OnesLemmas.{further-some, further-none}
+use Rattle.aec_params.proofs.CodewordLaws.{length-fs}
 use Rattle.aec_block.specs.declared.cds.RunLen.{RunLen}
 use Rattle.aec_block.specs.declared.cds.RunLen.TheVariants.{Blocks}
 use Rattle.aec_block.specs.declared.reading.Kind.{Kind}
@@ -24,7 +25,6 @@ use Rattle.aec_block.specs.SkipCds.{judged_body_len}
 use Rattle.aec_block.proofs.CodewordLemmas.{cases_taken, then_at-passed, map_taken-mapped, binary_reader, fs_reader, values_at-spelled}
 use Rattle.aec_block.proofs.CursorLemmas.{values_at-missing}
 use Rattle.aec_block.proofs.StandingLemmas.{unmapped}
-use Rattle.aec_block.proofs.LengthLemmas.{length-fs}
 use Rattle.aec_block.proofs.JoiningLemmas.{below-from_test, test-from_below, highs_below, joined_below, high_fails}
 
 -- ---- numbers that aren't checked

@@ -11,10 +11,11 @@ use Rattle.aec_params.specs.Params.{id_len}
 use Rattle.aec_params.specs.Blocks.{Block}
 use Rattle.aec_params.specs.Spellings.{after_reference, written_values, uncompressed, paired, split}
 use Rattle.std.proofs.Math.Nat.{mod-eq_of_lt}
+use Rattle.aec_params.proofs.CodewordLaws.{length-fs, length-binary}
 use Rattle.aec_block.specs.Choices.{IsFull}
 use Rattle.aec_bits.specs.BitBuf.{Bits}
 use Rattle.aec_block.specs.Written.{high_parts, low_parts, split_parts, Adds, GathersBits}
-use Rattle.aec_block.proofs.LengthLemmas.{length-fs, length-binary, length-reference_bits}
+use Rattle.aec_block.proofs.LengthLemmas.{length-reference_bits}
 
 -- the next codeword is gathered; bits held before it may now be in the list
 pub gathering-more : (old new next : Bits) (done held kept todo codeword rest : List Bool) → GathersBits done old (held ++ todo) new

@@ -2,22 +2,19 @@
 use Rattle.std.proofs.Common.{◌≡◌, ℕ, zero, suc, ◌+◌, ◌-◌, ◌*◌, ◌%◌, ◌<◌, ◌≤◌, Option, Some, None, ℤ, pos, List, [], ◌∷◌, ◌++◌, length, map, replicate, refl, sym, ap, ap₂, ◌∙◌, arith}
 use Rattle.std.specs.Prelude.{unwrap_or, if◌then◌else◌}
 use Rattle.std.specs.List.{last_or}
-use Rattle.std.proofs.Math.Nat.{add-mod_right, mod_self, mod-eq_of_lt}
+use Rattle.std.proofs.Math.Nat.{add-mod_right, mod_self, mod-eq_of_lt, mul-mod_left, one-mul, sub-zero}
 use Rattle.std.proofs.lemmas.List.{append_assoc, append-nil, length-append}
 use Rattle.aec_params.specs.declared.settings.Settings.{Settings}
 use Rattle.aec_params.specs.Params.{sample_pattern}
 use Rattle.aec_params.specs.Cutting.{pieces_of, up_to_multiple}
 use Rattle.aec_params.specs.Mapping.{mapped_value}
 use Rattle.aec_params.specs.Blocks.{filled_samples, with_reference}
+use Rattle.aec_block.proofs.ListMappingLemmas.{last_or-append}
 use Rattle.aec_interval.specs.Chunks.{values_after, reference_after, block_after, blocks_after}
 use Rattle.aec_interval.proofs.CuttingLemmas.{IsPieceBefore, pieces_of-nil, pieces_of-cons, div_ceil-one}
 use Rattle.aec_interval.proofs.BlockLemmas.{length-mapped_after, length-mapped_values, length-filled_samples}
 
 -- ---- the last sample
-
-pub last_or-append : {X : Type 0} (o : Option X) (xs ys : List X) → last_or o (xs ++ ys) ≡ last_or (last_or o xs) ys
-last_or-append o [] ys = refl
-last_or-append o (x ∷ xs) ys = last_or-append (Some x) xs ys
 
 pub last_or-some : {X : Type 0} (x : X) (xs : List X) → (y : X) × (last_or (Some x) xs ≡ Some y)
 last_or-some x [] = (x, refl)
@@ -30,11 +27,15 @@ filled_samples-nil s h =
     let z : s.block_size - 0 % s.block_size ≡ s.block_size = omega (arith, mod-eq_of_lt h) in
     ap (λ n. replicate n (pos 0)) (ap (λ n. n % s.block_size) z ∙ mod_self s.block_size)
 
-pub filled_samples-whole : (s : Settings) (v : List ℤ) → 0 < s.block_size → length v ≡ s.block_size → filled_samples s v ≡ v
-filled_samples-whole s v h e =
-    let z : s.block_size - length v % s.block_size ≡ s.block_size = omega (arith, ap (λ n. n % s.block_size) e, mod_self s.block_size) in
-    ap (λ n. v ++ replicate n (unwrap_or (last_or None v) (pos 0))) (ap (λ n. n % s.block_size) z ∙ mod_self s.block_size)
-    ∙ append-nil v
+-- whole blocks get no filler
+pub filled_samples-whole : (s : Settings) (v : List ℤ) → 0 < s.block_size → (k : ℕ) → length v ≡ k * s.block_size → filled_samples s v ≡ v
+filled_samples-whole s v positive k whole = ap (λ n. v ++ replicate n (unwrap_or (last_or None v) (pos 0))) none ∙ append-nil v
+  where
+    even : length v % s.block_size ≡ 0
+    even = ap (λ n. n % s.block_size) whole ∙ mul-mod_left k s.block_size
+
+    none : up_to_multiple s.block_size (length v) ≡ 0
+    none = ap (λ n. (s.block_size - n) % s.block_size) even ∙ (ap (λ n. n % s.block_size) (sub-zero s.block_size) ∙ mod_self s.block_size)
 
 up_to_multiple-add : (n m : ℕ) → up_to_multiple n (n + m) ≡ up_to_multiple n m
 up_to_multiple-add n m =
@@ -53,7 +54,7 @@ filled_samples-append s front (y ∷ rest) h piece =
     ∙ up_to_multiple-add s.block_size (length (y ∷ rest)) in
     ap₂ (λ n o. (front ++ y ∷ rest) ++ replicate n (unwrap_or o (pos 0))) missing last
     ∙ append_assoc front (y ∷ rest) (replicate (up_to_multiple s.block_size (length (y ∷ rest))) (unwrap_or (last_or (Some y) rest) (pos 0)))
-    ∙ ap (λ l. l ++ filled_samples s (y ∷ rest)) (sym (filled_samples-whole s front h whole))
+    ∙ ap (λ l. l ++ filled_samples s (y ∷ rest)) (sym (filled_samples-whole s front h 1 (whole ∙ sym (one-mul s.block_size))))
 
 last_or-replicate : (y : ℤ) (n : ℕ) → last_or (Some y) (replicate n y) ≡ Some y
 last_or-replicate y zero = refl

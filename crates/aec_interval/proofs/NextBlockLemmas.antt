@@ -1,17 +1,18 @@
 -- If samples gain one block, their blocks are the old ones and the new one.
-use Rattle.std.proofs.Common.{◌≡◌, ℕ, zero, suc, ◌+◌, ◌-◌, ◌*◌, ◌%◌, ◌<◌, ◌≤◌, ◌==◌, if◌then◌else◌, Option, None, ℤ, pos, List, [], ◌∷◌, ◌++◌, length, replicate, unwrap_or, refl, sym, ap, ap₂, append-nil, append_assoc, ◌∙◌, subst, arith, ⊎_elim}
+use Rattle.std.proofs.Common.{◌≡◌, ℕ, zero, suc, ◌+◌, ◌-◌, ◌*◌, ◌%◌, ◌<◌, ◌≤◌, ◌==◌, if◌then◌else◌, Option, None, ℤ, pos, List, [], ◌∷◌, ◌++◌, length, unwrap_or, refl, sym, ap, ap₂, append-nil, append_assoc, ◌∙◌, subst, arith, ⊎_elim}
 use Rattle.std.proofs.lemmas.List.{length-append}
 use Rattle.std.proofs.lemmas.Bool.{cases_lt, ne_eqb}
 use Rattle.std.specs.List.{flat_map}
 use Rattle.aec_params.specs.declared.settings.Settings.{Settings}
 use Rattle.aec_params.specs.Params.{interval_len, sample_pattern}
-use Rattle.aec_params.specs.Cutting.{pieces_of, up_to_multiple}
+use Rattle.aec_params.specs.Cutting.{pieces_of}
 use Rattle.aec_params.specs.Mapping.{mapped_after, mapped_values}
-use Rattle.aec_params.specs.Blocks.{Block, filled_samples, reference_of, with_reference, blocks_of, all_blocks_of}
+use Rattle.aec_params.specs.Blocks.{Block, reference_of, with_reference, blocks_of, all_blocks_of}
 use Rattle.aec_block.proofs.ListMappingLemmas.{last_or-append, mapped_after-append}
 use Rattle.aec_interval.specs.NextBlock.{last_sample, next_block_at, next_block_of}
 use Rattle.std.proofs.lemmas.List.{map-append}
-use Rattle.std.proofs.Math.Nat.{mul-mod_left, mod_self, mod-eq_of_lt, add-mod_left, suc-mul, zero-mul, one-mul, sub-zero, mul-pos, mul-le-mul_right, le-mul_of_pos_right, mul_comm, mul-sub}
+use Rattle.std.proofs.Math.Nat.{mod_self, mod-eq_of_lt, add-mod_left, suc-mul, zero-mul, one-mul, mul-pos, mul-le-mul_right, le-mul_of_pos_right, mul_comm, mul-sub}
+use Rattle.aec_interval.proofs.ChunkLemmas.{filled_samples-whole}
 use Rattle.aec_interval.proofs.CuttingLemmas.{pieces_of-nil, pieces_of-cons, pieces_of-one, IsPieceBefore, by_pieces, length-pieces_of, div_ceil-positive}
 
 pub mapped_values-append : (s : Settings) (x : ℤ) (xs ys : List ℤ)
@@ -33,16 +34,6 @@ front_full n a b (suc k) positive fits some full whole = (is_full, (k, omega (ar
   where
     is_full : a ≡ n
     is_full = ⊎_elim full (λ l. omega (arith, suc-mul k n)) (cases_lt 0 b)
-
--- whole blocks get no filler
-pub filled_samples-whole : (s : Settings) (v : List ℤ) → 0 < s.block_size → (k : ℕ) → length v ≡ k * s.block_size → filled_samples s v ≡ v
-filled_samples-whole s v positive k whole = ap (λ n. v ++ replicate n (last_sample v)) none ∙ append-nil v
-  where
-    even : length v % s.block_size ≡ 0
-    even = ap (λ n. n % s.block_size) whole ∙ mul-mod_left k s.block_size
-
-    none : up_to_multiple s.block_size (length v) ≡ 0
-    none = ap (λ n. (s.block_size - n) % s.block_size) even ∙ (ap (λ n. n % s.block_size) (sub-zero s.block_size) ∙ mod_self s.block_size)
 
 pub with_reference-push : (reference : Option ℕ) (groups : List (List ℕ)) (values : List ℕ) → 0 < length groups
     → with_reference reference (groups ++ values ∷ []) ≡ with_reference reference groups ++ (record { reference = None; values = values }) ∷ []

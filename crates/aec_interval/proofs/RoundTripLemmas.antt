@@ -1,9 +1,9 @@
 -- Reading the code of samples with their count returns the samples.
-use Rattle.std.proofs.Common.{◌≡◌, ℕ, ◌+◌, ◌-◌, ◌*◌, ◌%◌, ◌<◌, ◌≤◌, Bool, false, Option, Some, None, List, [], ◌∷◌, ◌++◌, length, map, replicate, refl, sym, ap, ap₂, ◌∙◌, subst, arith}
+use Rattle.std.proofs.Common.{◌≡◌, ℕ, ◌+◌, ◌-◌, ◌*◌, ◌%◌, ◌<◌, ◌≤◌, Bool, false, Some, None, List, [], ◌∷◌, ◌++◌, length, map, replicate, refl, sym, ap, ap₂, ◌∙◌, subst, arith}
 use Rattle.std.specs.Prelude.{ℤ, pos, unwrap_or}
 use Rattle.std.specs.List.{AllByRecursion, flat_map, last_or}
 use Rattle.std.specs.Int.{div_ceil}
-use Rattle.std.proofs.Math.Nat.{add-mul-mod_self_left, mul-mod_left, mod_self, mul-le-mul_right}
+use Rattle.std.proofs.Math.Nat.{add-mul-mod_self_left, mul-le-mul_right}
 use Rattle.std.proofs.lemmas.List.{length-append, append_assoc, append-nil, take_at}
 use Rattle.std.proofs.lemmas.Bool.{le-ltb}
 use Rattle.aec_params.specs.declared.settings.Settings.{Settings}
@@ -15,6 +15,8 @@ use Rattle.aec_params.specs.Intervals.{unpadded_bits}
 use Rattle.aec_params.specs.Streams.{stream_of}
 use Rattle.aec_params.specs.Reading.{IsBlockReading, FillBlocks, IsReading}
 use Rattle.aec_interval.specs.Laws.{ReadsEach}
+use Rattle.aec_block.proofs.ListMappingLemmas.{last_or-append}
+use Rattle.aec_interval.proofs.ChunkLemmas.{filled_samples-whole}
 use Rattle.aec_interval.proofs.CuttingLemmas.{IsPieceBefore, by_pieces, div_ceil-zero}
 use Rattle.aec_params.proofs.SettingLaws.{block_size-positive}
 use Rattle.aec_interval.proofs.BlockLemmas.{all-filled_samples, length-filled_samples, length-blocks_of, blocks-few}
@@ -38,39 +40,26 @@ length-all_blocks_of s a = by_pieces Counted (interval_len s) (interval_len-posi
 
 -- ---- the filler
 
-last_or-append : {X : Type 0} (o : Option X) (front : List X) (x : X) (rest : List X) → last_or o (front ++ (x ∷ rest)) ≡ last_or (Some x) rest
-last_or-append o [] x rest = refl
-last_or-append o (y ∷ front) x rest = last_or-append (Some y) front x rest
-
 -- a full interval before other samples gets no filler
 filled_samples-append : (s : Settings) (front : List ℤ) (x : ℤ) (rest : List ℤ) → length front ≡ interval_len s
     → filled_samples s (front ++ (x ∷ rest)) ≡ front ++ filled_samples s (x ∷ rest)
 filled_samples-append s front x rest full =
     append_assoc front (x ∷ rest) (replicate (up_to_multiple s.block_size (length (front ++ (x ∷ rest))))
     (unwrap_or (last_or None (front ++ (x ∷ rest))) (pos 0)))
-    ∙ ap₂ (λ m o. front ++ ((x ∷ rest) ++ replicate m (unwrap_or o (pos 0)))) missing (last_or-append None front x rest)
+    ∙ ap₂ (λ m o. front ++ ((x ∷ rest) ++ replicate m (unwrap_or o (pos 0)))) missing (last_or-append None front (x ∷ rest))
   where
     missing : up_to_multiple s.block_size (length (front ++ (x ∷ rest))) ≡ up_to_multiple s.block_size (length (x ∷ rest))
     missing = ap (λ m. (s.block_size - m) % s.block_size)
         (ap (λ m. m % s.block_size) (length-append front (x ∷ rest) ∙ omega (arith, full))
         ∙ add-mul-mod_self_left (length (x ∷ rest)) s.block_size s.interval)
 
--- whole blocks get no filler
-filled_samples-whole : (s : Settings) (v : List ℤ) (k : ℕ) → IsAllowed s → length v ≡ k * s.block_size → filled_samples s v ≡ v
-filled_samples-whole s v k a e = ap (λ m. v ++ replicate m (unwrap_or (last_or None v) (pos 0))) none ∙ append-nil v
-  where
-    none : up_to_multiple s.block_size (length v) ≡ 0
-    none =
-        let z : s.block_size - length v % s.block_size ≡ s.block_size = omega (arith, ap (λ m. m % s.block_size) e ∙ mul-mod_left k s.block_size) in
-        ap (λ m. m % s.block_size) z ∙ mod_self s.block_size
-
 filled_samples-nil : (s : Settings) → IsAllowed s → filled_samples s [] ≡ []
-filled_samples-nil s a = filled_samples-whole s [] 0 a (omega arith)
+filled_samples-nil s a = filled_samples-whole s [] (block_size-positive s a) 0 (omega arith)
 
 blocks_of-filled : (s : Settings) (x : ℤ) (v : List ℤ) → IsAllowed s → blocks_of s (filled_samples s (x ∷ v)) ≡ blocks_of s (x ∷ v)
 blocks_of-filled s x v a =
     ap (λ w. with_reference (reference_of s (x ∷ v)) (pieces_of s.block_size (mapped_values s w)))
-    (filled_samples-whole s (filled_samples s (x ∷ v)) (div_ceil (length (x ∷ v)) s.block_size) a
+    (filled_samples-whole s (filled_samples s (x ∷ v)) (block_size-positive s a) (div_ceil (length (x ∷ v)) s.block_size)
     (length-filled_samples s (x ∷ v) (block_size-positive s a)))
 
 -- samples of one interval still fit it with their filler

@@ -1,8 +1,8 @@
 use Rattle.std.proofs.Common.{◌≡◌, ◌∙◌, ◌+◌, ◌%◌, ◌*◌, ◌^◌, ◌++◌, ap, subst, arith, refl, get_or, ℕ}
 use Rattle.std.proofs.lemmas.Nat.{one_shl}
 use Rattle.aec_params.specs.Codewords.{binary}
+use Rattle.aec_params.proofs.CodewordLaws.{length-binary}
 use Rattle.aec_block.specs.Written.{GathersBits}
-use Rattle.aec_block.proofs.LengthLemmas.{length-binary}
 use Rattle.aec_block.proofs.WritingLemmas.{gathering-more, room-for_next, low_parts-drop}
 use Rattle.aec_block.proofs.writing.put_each_low_part.Goals as goal
 

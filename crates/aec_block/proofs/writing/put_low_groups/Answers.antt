@@ -1,5 +1,5 @@
 use Rattle.std.proofs.Common.{◌*◌, arith}
-use Rattle.aec_block.proofs.LengthLemmas.{length-binary}
+use Rattle.aec_params.proofs.CodewordLaws.{length-binary}
 use Rattle.aec_block.proofs.LowWordLemmas.{low_parts-group}
 use Rattle.aec_block.proofs.WritingLemmas.{gathering-more, room-for_next}
 use Rattle.aec_block.proofs.writing.put_low_groups.Goals as goal

@@ -1,8 +1,8 @@
 use Rattle.std.proofs.Common.{◌≡◌, ◌<◌, ◌+◌, ◌-◌, ◌*◌, ◌++◌, subst, arith, rules, refl, get_or, length, ℕ}
 use Rattle.aec_params.specs.Codewords.{fs}
 use Rattle.aec_params.specs.CodedDataSets.{pair_number}
+use Rattle.aec_params.proofs.CodewordLaws.{length-fs}
 use Rattle.aec_block.specs.Written.{GathersBits}
-use Rattle.aec_block.proofs.LengthLemmas.{length-fs}
 use Rattle.aec_block.proofs.WritingLemmas.{gathering-more, gathered-all, length-parts, pair_bits-drop, pair_bits-drop_end}
 use Rattle.aec_block.proofs.writing.put_pairs.Goals as goal
 

@@ -1,7 +1,7 @@
 use Rattle.std.proofs.Common.{◌++◌, Bool, List, drop, subst, arith, length-append, append_assoc}
 use Rattle.aec_params.specs.Codewords.{binary}
+use Rattle.aec_params.proofs.CodewordLaws.{length-binary}
 use Rattle.aec_block.specs.Written.{high_parts, low_parts, GathersBits}
-use Rattle.aec_block.proofs.LengthLemmas.{length-binary}
 use Rattle.aec_block.proofs.SevenLemmas.{length-low_of_seven, spelled}
 use Rattle.aec_block.proofs.WritingLemmas.{gathers-then}
 use Rattle.aec_block.proofs.writing.after_reference.put_seven.Goals as goal
