@@ -33,6 +33,15 @@ on_program() {
     fi
 }
 
+# Prints how many checks the gate may run at a time: one a processor if each has 4.5 GB, else nothing. `rt ci` itself plans with more
+# memory than a check takes: with four processors and 24 GB it leaves one idle for a fifth of the time.
+jobs_of_gate() {
+    free=$(awk '/MemAvailable/ {print $2}' /proc/meminfo)
+    if [ "$free" -ge $((4500000 * $(nproc))) ]; then
+        nproc
+    fi
+}
+
 # Shows once more the lines of a part that say why it failed, then the free disk and memory.
 explain() {
     echo "== why $1 failed"
@@ -51,7 +60,8 @@ part limits python3 tests/limits.py
 part edits python3 tests/edits_apply.py
 part cited python3 tests/cited.py
 at=$(python3 packaging/proved.py commit)
-part gate rt ci
+jobs=$(jobs_of_gate)
+part gate env ${jobs:+RT_JOBS="$jobs"} rt ci
 # For `make dist`: the program that the gate has proved and built, and the gate's last line.
 if has_passed gate; then
     mkdir -p bin
