@@ -77,6 +77,7 @@ module _ {C : Type 0} (format_of : C → Format) (called read : C → ℕ) (seen
         reads = decodes_both needs (called seen.codec) ends_for _ fresh.next to fresh.end _ is.next is.end left_for got.reads kept.reads;
         limit = kept.limit ∙ got.limit;
         format = kept.format ∙ got.format;
+        refused = λ other. absurd (other fault_is);
       }
 
   -- the exchange was made
@@ -105,6 +106,7 @@ module _ {C : Type 0} (format_of : C → Format) (called read : C → ℕ) (seen
             (decodes_both needs (called seen.codec) ends_for _ fresh.next to fresh.end _ is.next is.end left_for got.reads kept.reads);
         limit = rest.limit ∙ kept.limit ∙ got.limit;
         format = ap format_of rest.codec ∙ kept.format ∙ got.format;
+        refused = tt;
       }
 
 -- an exchange for the same number of values, or up to the end, codes up to the last interval that
@@ -138,4 +140,5 @@ module _ {C : Type 0} (format_of : C → Format) (called read : C → ℕ) (seen
     reads = reads_at _ _ _ _ _ _ _ same_needs no_more made.reads;
     limit = made.limit;
     format = made.format;
+    refused = made.refused;
   }

@@ -1,10 +1,11 @@
 -- For proofs alone: no public contract cites this file.
 -- What private functions do: they exchange places for values, and intervals for fresh samples.
 -- The contract of `apply` cites `samples_after`, `needed_calls` and `opened_intervals` instead.
-use Rattle.std.specs.Prelude.{◌≡◌, ℕ, ◌+◌, ◌-◌, ◌*◌, ◌/◌, ◌%◌, ◌≤◌, ◌⊎◌, min, Bool, ◌==◌, if◌then◌else◌, None, MatchOption, Result, MatchResult, OnOk, OnErr, is_some, List, ◌++◌, length, take, drop, ℤ}
+use Rattle.std.specs.Prelude.{◌≡◌, ◌≢◌, ℕ, ◌+◌, ◌-◌, ◌*◌, ◌/◌, ◌%◌, ◌≤◌, ◌⊎◌, min, Bool, ◌==◌, if◌then◌else◌, None, MatchOption, Result, MatchResult, OnOk, OnErr, IfErr, is_some, List, ◌++◌, length, take, drop, ℤ}
 use Rattle.std.specs.Int.{div_ceil}
 use Rattle.aec_bits.specs.Codec.{Format, AreHeld, code_of}
 use Rattle.aec_params.specs.declared.fault.Fault.{Fault}
+use Rattle.aec_params.specs.declared.fault.Fault.TheVariants.{Memory}
 use Rattle.aec_params.specs.Edits.{Stretch}
 use Rattle.aec_edit.specs.Workspace.{Contents, interval_count}
 use Rattle.aec_edit.specs.Calls.{want_of_calls, RisesAtMost}
@@ -67,7 +68,8 @@ abbrev pub opened_by : ℕ → ℕ → ℕ → ℕ
 opened_by needed calls opened = if is_some (want_of_calls calls needed) then 0 else opened
 
 -- an exchange that codes some intervals and may decode some, and all that it does to a workspace:
--- its result, and the samples, which are `left` if the exchange is made
+-- its result, and the samples, which are `left` if the exchange is made; it changes nothing if it is
+-- refused for another reason than `Memory`
 pub record Exchanges {C : Type 0} (format_of : C → Format) (called read : C → ℕ) (coded opened : ℕ) (left : List ℤ)
     (r : Result ℕ Fault) (old new : Contents C)
     : Type 0 where
@@ -78,6 +80,7 @@ pub record Exchanges {C : Type 0} (format_of : C → Format) (called read : C �
   pub reads : RisesAtMost (opened_by coded (called old.codec) opened) (read old.codec) (read new.codec)
   pub limit : new.limit ≡ old.limit
   pub format : format_of new.codec ≡ format_of old.codec
+  pub refused : IfErr r (λ fault. fault ≢ Memory → new ≡ old)
 
 -- ---- any exchange, of which the intervals up to number to are coded again
 

@@ -1,8 +1,9 @@
 -- For proofs alone: no public contract cites this file.
 -- What the code knows of values that it has judged, and what an edit does to a workspace. The
 -- contract of `apply` cites `due_refusal` and what `Applies` names instead.
-use Rattle.std.specs.Prelude.{◌≡◌, ℕ, ◌+◌, ◌≤◌, None, Result, List, length, ℤ}
+use Rattle.std.specs.Prelude.{◌≡◌, ◌≢◌, ℕ, ◌+◌, ◌≤◌, None, Result, IfErr, List, length, ℤ}
 use Rattle.aec_params.specs.declared.fault.Fault.{Fault}
+use Rattle.aec_params.specs.declared.fault.Fault.TheVariants.{Memory}
 use Rattle.aec_params.specs.declared.edit.Edit.{Edit}
 use Rattle.aec_bits.specs.Codec.{Format, AreHeld}
 use Rattle.aec_bits.specs.Refusals.{growth_refusal, values_refusal}
@@ -21,9 +22,11 @@ pub record CanCome (f : Format) (limit : ℕ) (s values : List ℤ) : Type 0 whe
   pub few : length s + length values ≤ limit
   pub held : AreHeld f values
 
--- an edit and all that it does to a workspace
+-- an edit and all that it does to a workspace: nothing, if it is refused for another reason than
+-- `Memory`
 pub record MakesEdit {C : Type 0} (format_of : C → Format) (called read : C → ℕ) (e : Edit) (r : Result ℕ Fault)
     (old new : Contents C) : Type 0 where
   pub applies : Applies (format_of old.codec) old.limit old.samples (called old.codec) (read old.codec) e r new.samples
       (called new.codec) (read new.codec)
   pub rules : KeepsRules format_of old new
+  pub refused : IfErr r (λ fault. fault ≢ Memory → new ≡ old)

@@ -24,12 +24,13 @@ pub record KeepsSamples {C : Type 0} (format_of : C → Format) (called read : C
   pub calls : RisesAtMost coded (called old.codec) (called new.codec)
   pub reads : RisesAtMost decoded (read old.codec) (read new.codec)
 
--- samples, limit, format and the count of calls are unchanged, and the count of decoded intervals
--- has risen by at most `most`
+-- samples, limit, format, room and the count of calls are unchanged, and the count of decoded
+-- intervals has risen by at most `most`
 pub record IsOnlyRead {C : Type 0} (format_of : C → Format) (called read : C → ℕ) (most : ℕ)
     (old new : Contents C) : Type 0 where
   pub samples : new.samples ≡ old.samples
   pub limit : new.limit ≡ old.limit
   pub format : format_of new.codec ≡ format_of old.codec
+  pub room : new.room ≡ old.room
   pub calls : called new.codec ≡ called old.codec
   pub reads : RisesAtMost most (read old.codec) (read new.codec)

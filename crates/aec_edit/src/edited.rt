@@ -1,6 +1,6 @@
 //! Makes edits, beginning with no samples, writes the resulting stream, and reads its samples back.
 
-ghost use Rattle.std.specs.Prelude.{◌≡◌, ◌<◌, ◌≤◌, ◌^◌, ◌⊎◌, ℕ, List, [], length, vec_capacity, Err, IfOk, OnOk, IfErr, OnErr};
+ghost use Rattle.std.specs.Prelude.{◌≡◌, ◌≢◌, ◌<◌, ◌≤◌, ◌^◌, ◌⊎◌, ℕ, List, [], length, vec_capacity, Err, IfOk, OnOk, IfErr, OnErr, MatchResult};
 ghost use Rattle.std.specs.Io.KnownBytes.{Appends, Keeps};
 ghost use Rattle.aec_params.specs.declared.fault.Fault.TheVariants.{Memory, Write as WriteFault};
 ghost use Rattle.aec_params.specs.Codewords.{bytes_of};
@@ -70,6 +70,9 @@ pub fn write_edited<C: Codec + Drop, W: Sink>(
         × AppendsFront (W.taken sink.old) (W.taken sink.new)
         (bytes_of (code_of (C.format codec) (all_left [] edits.now done)))) }
     ensures begun { W.begun sink.new ≡ W.begun sink.old }
+    ensures order { W.mark sink.new ≡ W.mark sink.old }
+    ensures failures { MatchResult result (λ _. W.failed sink.new ≡ W.failed sink.old)
+        (λ fault. fault ≢ WriteFault → W.failed sink.new ≡ W.failed sink.old) }
 {
     let mut outcomes = Vec::new(alloc);
     let mut workspace = edit_from_nothing(alloc, codec, limit, edits, &mut outcomes)?;

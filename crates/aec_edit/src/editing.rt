@@ -6,7 +6,7 @@ use aec_bits::Codec;
 use aec_params::{Edit, Fault};
 
 impl<C: Codec> Workspace<C> {
-    ghost use Rattle.std.specs.Prelude.{◌≡◌, length, ◌+◌, ◌-◌, ◌^◌, ◌<◌, ◌≤◌, true, false, None, Some, OnOk, IfErr, List, ◌++◌, vec_len, vec_capacity, OnErr};
+    ghost use Rattle.std.specs.Prelude.{◌≡◌, ◌≢◌, length, ◌+◌, ◌-◌, ◌^◌, ◌<◌, ◌≤◌, true, false, None, Some, OnOk, IfErr, List, ◌++◌, vec_len, vec_capacity, OnErr};
     ghost use Rattle.aec_params.specs.declared.edit.Edit.TheVariants.{Overwrite, Append, Truncate, Insert, Remove};
     ghost use Rattle.aec_edit.specs.Calls.{RisesAtMost, opened_at_most, want_of_calls};
     ghost use Rattle.aec_edit.specs.Changes.{recoded_end};
@@ -24,9 +24,9 @@ impl<C: Codec> Workspace<C> {
     /// Makes an edit, and returns how many intervals it coded: `needed_calls`. Decodes at most as
     /// many intervals as contain a sample that is kept and coded again.
     ///
-    /// A refused edit changes no sample. An edit that doesn't fit is refused for that; else it may
-    /// fail with `Spent`, and else with `Memory` if an allocation fails. An edit that codes no
-    /// interval never fails with `Memory`.
+    /// A refused edit changes no sample, and nothing at all unless it is refused with `Memory`. An
+    /// edit that doesn't fit is refused for that; else it may fail with `Spent`, and else with
+    /// `Memory` if an allocation fails. An edit that codes no interval never fails with `Memory`.
     ///
     /// Fails with `Spent` exactly if the edit fits, and the codec's calls so far plus those that
     /// the edit needs exceed `u64::MAX`. The codec isn't called then.
@@ -41,6 +41,7 @@ impl<C: Codec> Workspace<C> {
             (C.called self.old.codec) edit.now)
             (C.read self.old.codec) (C.read self.new.codec) }
         ensures rules { KeepsRules C.format self.old self.new }
+        ensures refused { IfErr result (λ fault. fault ≢ Memory → self.new ≡ self.old) }
     {
         match edit {
             Edit::Overwrite { first, values } => self.overwrite(*first, values.as_slice()),
@@ -74,6 +75,7 @@ impl<C: Codec> Workspace<C> {
             (C.read self.old.codec) (Append values.now) result self.new.samples
             (C.called self.new.codec) (C.read self.new.codec) }
         ensures rules { KeepsRules C.format self.old self.new }
+        ensures refused { IfErr result (λ fault. fault ≢ Memory → self.new ≡ self.old) }
     {
         self.check_growth(values)?;
         if values.is_empty() {

@@ -16,7 +16,7 @@ impl<C: Codec> Workspace<C> {
     /// Returns the `len` samples from place `first` on. Fails with `OutOfRange` exactly if `first +
     /// len` exceeds the number of samples; else with `Memory` if an allocation fails, but never for
     /// a range of no samples. Decodes at most as many intervals as contain one of the samples, and
-    /// none if the range is out of range.
+    /// none if the range is out of range. The room stays the same.
     pub fn range(&mut self, alloc: Global, first: u64, len: u64) -> Result<Vec<i64>, Fault>
         ensures ok { IfOk result (λ v. v.items ≡ take len (drop first self.old.samples)) }
         ensures within { OnOk result (range_refusal (length self.old.samples) first len ≡ None) }

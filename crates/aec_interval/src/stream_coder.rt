@@ -37,7 +37,7 @@ impl Model for StreamCoder {
 }
 
 impl StreamCoder {
-    ghost use Rattle.std.specs.Prelude.{◌≡◌, ◌<◌, ◌++◌, Err, length, OnOk, OnErr, IfErr, MatchOption};
+    ghost use Rattle.std.specs.Prelude.{◌≡◌, ◌<◌, ◌++◌, Err, length, OnOk, OnErr, IfErr, IfSome, MatchOption};
     ghost use Rattle.std.specs.Result.{result_err};
     ghost use Rattle.aec_params.specs.declared.fault.Fault.TheVariants.{Memory};
     ghost use Rattle.aec_params.specs.Params.{interval_len};
@@ -60,8 +60,8 @@ impl StreamCoder {
         }
     }
 
-    /// Returns the number of whole samples that are not coded yet, fewer than an interval has.
-    /// Allocates nothing.
+    /// Returns the number of whole samples that are not coded yet, fewer than an interval has; after
+    /// a refusal any such number. Allocates nothing.
     pub fn held(&self) -> u64
         ensures value { result ≡ length self.now.held }
         ensures few { result < interval_len self.now.settings }
@@ -76,7 +76,7 @@ impl StreamCoder {
     /// and its index, counted from the first of all pieces; with `Memory` at a sample that is
     /// neither too many nor out of range. What was appended is then the code of the intervals
     /// complete before that sample; for `Memory`, of some of these intervals, from the first on, or
-    /// nothing. From then on each call returns the same refusal and appends nothing.
+    /// nothing. From then on each call returns the same refusal and changes nothing.
     pub fn feed(&mut self, piece: &[u8], out: &mut BitBuf) -> Result<(), Fault>
         ensures ok { OnOk result (Feeds self.old piece.now out.old.list out.new.list self.new) }
         ensures refuses { MatchOption self.old.refusal
@@ -87,6 +87,7 @@ impl StreamCoder {
         ensures settings { self.new.settings ≡ self.old.settings }
         ensures limit { self.new.limit ≡ self.old.limit }
         ensures few { length self.new.held < interval_len self.new.settings }
+        ensures stays { IfSome self.old.refusal (λ fault. self.new ≡ self.old) }
     {
         if let Some(fault) = self.refusal {
             return Err(fault);

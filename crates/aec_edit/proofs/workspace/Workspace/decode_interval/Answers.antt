@@ -49,6 +49,7 @@ returns-clause-read g c = record {
       (kept_again c.self.inside.written c.decode.ensures.same_format (ap (λ w. w.samples) c.self.view_is));
   limit = ap (λ w. w.limit) c.self.view_is;
   format = c.decode.ensures.same_format ∙ ap (λ w. g.C.Codec.format w.codec) c.self.view_is;
+  room = ap (λ w. w.room) c.self.view_is;
   calls = c.decode.ensures.same_calls ∙ ap (λ w. g.C.Codec.called w.codec) c.self.view_is;
   reads = one_more_read _ _ _ c.decode.ensures.counts (ap (λ w. g.C.Codec.read w.codec) c.self.view_is) c.self.invariant.2;
 }

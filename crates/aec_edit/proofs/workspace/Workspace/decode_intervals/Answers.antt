@@ -16,6 +16,7 @@ loop-i-preserved g c =
           (omega (arith, c.loop-i.auto)) (omega (arith, c.requires.within)) so_far.items grown;
       samples = done.read.samples ∙ so_far.samples;
       limit = done.read.limit ∙ so_far.limit;
+      room = done.read.room ∙ so_far.room;
       calls = done.read.calls ∙ so_far.calls;
       reads = record { stays = omega (arith, done.read.reads.stays, so_far.reads.stays); few = omega (arith, done.read.reads.few, so_far.reads.few) };
       format = done.read.format ∙ so_far.format;

@@ -27,4 +27,8 @@ returns g c =
     (g.C.Codec.read seen.codec) c.args.first seen.samples c.args.values.now c.exchange.result
     c.exchange.new.self.samples (g.C.Codec.called c.exchange.new.self.codec) (g.C.Codec.read c.exchange.new.self.codec) (g.C.Codec.lawful seen.codec).some
     (search rules) held (omega (arith, places.ok)) made.answer made.ok made.err made.reads in
-    record { applies = applies; rules = record { limit = c.exchange.ensures.limit; format = c.exchange.ensures.format } }
+    record {
+      applies = applies;
+      rules = record { limit = c.exchange.ensures.limit; format = c.exchange.ensures.format };
+      refused = c.exchange.ensures.refused;
+    }

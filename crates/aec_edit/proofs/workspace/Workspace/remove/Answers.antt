@@ -18,4 +18,8 @@ returns g c =
     (g.C.Codec.lawful seen.codec).some
     (search rules) (omega (arith, c.in_ok-check_places.ensures.ok)) refl
     c.recoded_end-to.ensures c.exchange.ensures.answer c.exchange.ensures.ok c.exchange.ensures.err c.exchange.ensures.reads in
-    record { applies = applies; rules = record { limit = c.exchange.ensures.limit; format = c.exchange.ensures.format } }
+    record {
+      applies = applies;
+      rules = record { limit = c.exchange.ensures.limit; format = c.exchange.ensures.format };
+      refused = c.exchange.ensures.refused;
+    }

@@ -9,6 +9,7 @@ returns-in_err-decode_intervals-clause-read g c =
     record {
       samples = read.samples;
       limit = read.limit;
+      room = read.room;
       format = read.format;
       calls = read.calls;
       reads = range_reads _ c.args.first c.args.len _ _ _ _ (g.C.Codec.lawful c.args.self.now.codec).some some c.interval_len-most.ensures.value
@@ -28,6 +29,7 @@ returns-clause-read g c =
     record {
       samples = read.samples;
       limit = read.limit;
+      room = read.room;
       format = read.format;
       calls = read.calls;
       reads = range_reads _ c.args.first c.args.len _ _ _ _ (g.C.Codec.lawful c.args.self.now.codec).some some c.interval_len-most.ensures.value

@@ -25,4 +25,8 @@ returns g c =
     c.exchange.result c.exchange.new.self.samples (g.C.Codec.called c.exchange.new.self.codec) (g.C.Codec.read c.exchange.new.self.codec)
     (g.C.Codec.lawful seen.codec).some count.value (omega (arith, c.if-stop-count.false, c.if-stop-count-2.false))
     made.answer made.ok made.err made.reads in
-    record { applies = applies; rules = record { limit = c.exchange.ensures.limit; format = c.exchange.ensures.format } }
+    record {
+      applies = applies;
+      rules = record { limit = c.exchange.ensures.limit; format = c.exchange.ensures.format };
+      refused = c.exchange.ensures.refused;
+    }
