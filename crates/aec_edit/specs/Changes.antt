@@ -67,9 +67,8 @@ IsNotExchanged needed calls fault after =
 abbrev pub opened_by : ℕ → ℕ → ℕ → ℕ
 opened_by needed calls opened = if is_some (want_of_calls calls needed) then 0 else opened
 
--- an exchange that codes some intervals and may decode some, and all that it does to a workspace:
--- its result, and the samples, which are `left` if the exchange is made; it changes nothing if it is
--- refused for another reason than `Memory`
+-- an exchange and all that it does to a workspace, whose samples are `left` if it is made; nothing
+-- has changed if it is refused with another fault than `Memory`
 pub record Exchanges {C : Type 0} (format_of : C → Format) (called read : C → ℕ) (coded opened : ℕ) (left : List ℤ)
     (r : Result ℕ Fault) (old new : Contents C)
     : Type 0 where
@@ -90,8 +89,7 @@ pub record Recoding : Type 0 where
   pub to : ℕ
   pub values : ℕ
 
--- how many samples it codes, of count: those before the places, the values, and those kept after
--- the places
+-- how many samples it codes, of count: those before the places, the values, those kept behind
 abbrev pub fresh_total : ℕ → ℕ → Recoding → ℕ
 fresh_total n count x = x.gone.first % n + (x.values + (min count (x.to * n) - x.gone.stop))
 
@@ -126,8 +124,7 @@ pub record IsExchangeUpTo (f : Format) (limit : ℕ) (s : List ℤ) (gone : Stre
       ≡ k * f.most))
   pub few : gone.first + length values + (length s - gone.stop) ≤ limit
 
--- bits, starts and a count that are the code of fresh samples for the intervals from number from up
--- to number to
+-- bits, starts and a count that are the code of fresh samples for the intervals from `from` to `to`
 pub record IsCodeFor (f : Format) (limit : ℕ) (s : List ℤ) (from to : ℕ) (bits : List Bool) (starts : List ℕ)
     (count : ℕ) (fresh : List ℤ) : Type 0 where
   pub recoding : IsRecoding f limit s from to fresh

@@ -60,8 +60,8 @@ impl StreamCoder {
         }
     }
 
-    /// Returns the number of whole samples that are not coded yet, fewer than an interval has; after
-    /// a refusal any such number. Allocates nothing.
+    /// Returns the number of whole samples that are not coded yet, fewer than an interval has.
+    /// After a refusal it may be any such number. Allocates nothing.
     pub fn held(&self) -> u64
         ensures value { result ≡ length self.now.held }
         ensures few { result < interval_len self.now.settings }
