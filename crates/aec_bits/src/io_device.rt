@@ -100,7 +100,10 @@ impl<W: Write> WriteSink<W> {
 }
 
 impl<W: Write> Sink for WriteSink<W> {
-    ghost use Rattle.std.specs.Prelude.{if◌then◌else◌};
+    ghost use Rattle.std.specs.Prelude.{if◌then◌else◌, ◌≡◌, IsOk};
+    ghost use Rattle.std.specs.Io.KnownBytes.{Keeps};
+    ghost use Rattle.aec_params.specs.declared.fault.Fault.TheVariants.{Write as WriteFault};
+    ghost use Rattle.aec_bits.specs.Devices.{FailsOnce, counted};
 
     ghost taken = { λ s. W.contents s.inner };
 
@@ -108,7 +111,21 @@ impl<W: Write> Sink for WriteSink<W> {
 
     ghost begun = { λ s. s.begins };
 
-    fn begin(&mut self) -> Result<(), Fault> {
+    // Beyond the clauses of `Sink`: it fails only if the sink has failed, and doesn't touch the
+    // writer.
+    fn begin(&mut self) -> Result<(), Fault>
+        ensures bytes { Keeps (⟦<WriteSink<W> as Sink>⟧.taken self.old)
+            (⟦<WriteSink<W> as Sink>⟧.taken self.new) }
+        ensures count { ⟦<WriteSink<W> as Sink>⟧.begun self.new
+            ≡ counted (⟦<WriteSink<W> as Sink>⟧.begun self.old) }
+        ensures order { Keeps (⟦<WriteSink<W> as Sink>⟧.mark self.new)
+            (⟦<WriteSink<W> as Sink>⟧.taken self.old) }
+        ensures failure { FailsOnce WriteFault (⟦<WriteSink<W> as Sink>⟧.failed self.old)
+            (⟦<WriteSink<W> as Sink>⟧.failed self.new) result }
+        ensures ready { ⟦<WriteSink<W> as Sink>⟧.failed self.old ≡ 0 → IsOk result }
+        ensures untouched { ⟦<WriteSink<W> as Sink>⟧.taken self.new
+            ≡ ⟦<WriteSink<W> as Sink>⟧.taken self.old }
+    {
         self.begins = self.begins.saturating_add(1);
         if self.failed {
             Err(Fault::Write)

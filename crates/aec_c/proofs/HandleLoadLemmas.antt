@@ -48,8 +48,8 @@ module _ (s : Settings) (first w w' : OpenWorkspace) (xs : List ℤ) (fault : Fa
       ∙ (ap (λ l. due (interval_format s) (2 ^ 32) l first.workspace.codec.calls) fresh.samples ∙ ap (due (interval_format s) (2 ^ 32) []) fresh.calls)))
 
   told : (fault ≡ Memory) ⊎ (due (format_of w) w.workspace.limit w.workspace.samples w.workspace.codec.calls ≡ Some fault) → CannotHold s xs fault
-  told (inl lacks) = inl lacks
-  told (inr is) = inr (inr (sym due_is ∙ is))
+  told (inl lacks) = inr (fresh.allowed, inl lacks)
+  told (inr is) = inr (fresh.allowed, inr (sym due_is ∙ is))
 
   -- why an append to a fresh workspace is refused
   pub filled_refuses : Applies (format_of w) w.workspace.limit w.workspace.samples w.workspace.codec.calls w.workspace.codec.reads (Append xs)

@@ -1,5 +1,5 @@
 -- The answers of the calls from C: bytes, or one refusal. `include/aecp.h` has the sentences.
-use Rattle.std.specs.Prelude.{◌≡◌, ℕ, ◌-◌, ◌^◌, ◌==◌, if◌then◌else◌, false, Option, Some, None, Result, Ok, Err, List}
+use Rattle.std.specs.Prelude.{◌≡◌, ℕ, ◌-◌, ◌^◌, ◌⊎◌, ◌==◌, if◌then◌else◌, false, Option, Some, None, Result, Ok, Err, List}
 use Rattle.aec_params.specs.declared.settings.Settings.{Settings}
 use Rattle.aec_params.specs.declared.fault.Fault.{Fault}
 use Rattle.aec_params.specs.declared.fault.Fault.TheVariants.{Memory}
@@ -28,6 +28,10 @@ settings_of o = record {
   restricted = o.restricted;
   even_blocks = o.even_blocks;
 }
+
+-- why nothing is opened: the options, or, if they are allowed, `Memory`
+abbrev pub CannotBegin : Settings → Fault → Type 0
+CannotBegin s fault = (settings_fault s ≡ Some fault) ⊎ (IsAllowed s × (fault ≡ Memory))
 
 -- a sample count, or none for 2^64 - 1
 abbrev pub count_of : ℕ → Option ℕ

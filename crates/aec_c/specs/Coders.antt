@@ -11,6 +11,7 @@ use Rattle.aec_engine.specs.Buffers.{left_of}
 use Rattle.aec_c.specs.declared.coder_handle.OpenCoder.{OpenCoder}
 use Rattle.aec_c.specs.declared.reply.Reply.{Reply}
 use Rattle.aec_c.specs.Replies.{done, refused_for, reply_to}
+use Rattle.aec_c.specs.Calls.{CannotBegin}
 use Rattle.aec_c.specs.HandleCalls.{not_open}
 
 -- the whole bytes that bits fill
@@ -26,7 +27,7 @@ pub data OpensCoder (s : Settings) (old new : Option OpenCoder) (reply : Reply) 
   opened : (made : OpenCoder) → IsAllowed s → new ≡ Some made → made.coder ≡ Some (fresh_coder s (2 ^ 32))
       → made.bits.list ≡ [] → reply ≡ done 0
       → OpensCoder s old new reply
-  not_opened : (fault : Fault) → (fault ≡ Memory) ⊎ (settings_fault s ≡ Some fault) → new ≡ old
+  not_opened : (fault : Fault) → CannotBegin s fault → new ≡ old
       → reply ≡ refused_for fault → OpensCoder s old new reply
 
 -- a piece was taken, and the reply is how many whole bytes can be taken now; or it was refused,

@@ -26,21 +26,22 @@ pub data CannotRead (s : Settings) (count : Option ℕ) (bytes : List ℕ) (faul
   not_read : IsAllowed s → RefusesDecoding s count (2 ^ 32) (bits_of_bytes bytes) fault → CannotRead s count bytes fault
   no_memory : IsAllowed s → fault ≡ Memory → CannotRead s count bytes fault
 
--- a workspace with these samples, whose coder has counted one call for each interval of them, and
--- no call to decode
+-- a workspace with these samples over allowed settings, whose coder has counted one call for each
+-- interval of them, and no call to decode
 pub record Holds (s : Settings) (samples : List ℤ) (w : OpenWorkspace) : Type 0 where
   pub samples_are : w.workspace.samples ≡ samples
   pub limit : w.workspace.limit ≡ 2 ^ 32
   pub calls : w.workspace.codec.calls ≡ interval_count (interval_format s) samples
   pub reads : w.workspace.codec.reads ≡ 0
   pub format : format_of w ≡ interval_format s
+  pub allowed : IsAllowed s
 
--- why samples aren't taken into an empty workspace: the options, a refusal of appending them, or
--- `Memory`
+-- why samples aren't taken into an empty workspace: the options; or, if they are allowed, a refusal
+-- of appending them or `Memory`
 abbrev pub CannotHold : Settings → List ℤ → Fault → Type 0
 CannotHold s samples fault =
-    (fault ≡ Memory) ⊎ ((settings_fault s ≡ Some fault)
-    ⊎ (due_refusal (interval_format s) (2 ^ 32) [] 0 (Append samples) ≡ Some fault))
+    (settings_fault s ≡ Some fault) ⊎ (IsAllowed s × ((fault ≡ Memory)
+    ⊎ (due_refusal (interval_format s) (2 ^ 32) [] 0 (Append samples) ≡ Some fault)))
 
 -- loading: a workspace with the samples that bytes are read as replaces what was held, or a refusal
 -- changes nothing

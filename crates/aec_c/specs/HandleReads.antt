@@ -3,29 +3,32 @@ use Rattle.std.specs.Prelude.{◌≡◌, ℕ, ◌^◌, ◌⊎◌, Option, Some, 
 use Rattle.aec_params.specs.declared.settings.Settings.{Settings}
 use Rattle.aec_params.specs.declared.fault.Fault.{Fault}
 use Rattle.aec_params.specs.declared.fault.Fault.TheVariants.{Memory}
-use Rattle.aec_params.specs.Params.{settings_fault}
+use Rattle.aec_params.specs.Params.{IsAllowed}
 use Rattle.aec_params.specs.Codewords.{bytes_of}
 use Rattle.aec_bits.specs.Codec.{code_of}
 use Rattle.aec_interval.specs.IntervalFormat.{interval_format}
 use Rattle.aec_edit.specs.Calls.{range_refusal, IsDue}
 use Rattle.aec_c.specs.declared.handle.OpenWorkspace.{OpenWorkspace}
 use Rattle.aec_c.specs.declared.reply.Reply.{Reply}
+use Rattle.aec_c.specs.Calls.{CannotBegin}
 use Rattle.aec_c.specs.Replies.{done, refused_for, reply_to}
 use Rattle.aec_engine.specs.Buffers.{left_of}
 use Rattle.aec_c.specs.HandleCalls.{format_of, not_open}
 
--- an empty workspace over settings, whose coder has been called neither to code nor to decode
+-- an empty workspace over allowed settings, whose coder has been called neither to code nor to
+-- decode
 pub record IsFresh (s : Settings) (w : OpenWorkspace) : Type 0 where
   pub samples : w.workspace.samples ≡ []
   pub limit : w.workspace.limit ≡ 2 ^ 32
   pub calls : w.workspace.codec.calls ≡ 0
   pub reads : w.workspace.codec.reads ≡ 0
   pub format : format_of w ≡ interval_format s
+  pub allowed : IsAllowed s
 
 -- opening: a fresh workspace replaces what was held, or a refusal changes nothing
 pub data Opens (s : Settings) (old new : Option OpenWorkspace) (reply : Reply) : Type 0 where
   fresh : (w : OpenWorkspace) → new ≡ Some w → IsFresh s w → reply ≡ done 0 → Opens s old new reply
-  refused : (fault : Fault) → (fault ≡ Memory) ⊎ (settings_fault s ≡ Some fault) → new ≡ old
+  refused : (fault : Fault) → CannotBegin s fault → new ≡ old
       → reply ≡ refused_for fault → Opens s old new reply
 
 -- the number of samples; 0 if no workspace is held

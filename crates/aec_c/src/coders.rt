@@ -5,7 +5,7 @@ ghost use Rattle.aec_params.specs.declared.fault.Fault.TheVariants.{Memory};
 ghost use Rattle.aec_params.specs.Params.{IsAllowed, settings_fault};
 ghost use Rattle.aec_params.specs.Codewords.{bytes_of, padded_to_byte};
 ghost use Rattle.aec_interval.specs.Feeding.{fresh_coder};
-ghost use Rattle.aec_c.specs.Calls.{settings_of};
+ghost use Rattle.aec_c.specs.Calls.{settings_of, CannotBegin};
 ghost use Rattle.aec_c.specs.HandleCalls.{OnHandle};
 ghost use Rattle.aec_c.specs.Coders.{OpensCoder, FeedsPiece, FinishesStream, TakesBytes, TakesOut};
 
@@ -27,7 +27,7 @@ fn fresh_coder(alloc: Global, options: &Options) -> Result<Box<OpenCoder>, Fault
         × (made.value.coder ≡ Some (fresh_coder (settings_of options.now) (2 ^ 32)))
         × (made.value.bits.list ≡ [])) }
     ensures refuses { IfErr result
-        (λ fault. (fault ≡ Memory) ⊎ (settings_fault (settings_of options.now) ≡ Some fault)) }
+        (λ fault. CannotBegin (settings_of options.now) fault) }
 {
     let params = params_of(options)?;
     let coder = Some(StreamCoder::new(alloc, params, MOST_SAMPLES));

@@ -7,7 +7,7 @@ ghost use Rattle.aec_params.specs.Codewords.{bytes_of};
 ghost use Rattle.aec_bits.specs.Codec.{code_of};
 ghost use Rattle.aec_engine.specs.Transfers.{answer_by};
 ghost use Rattle.aec_engine.specs.Buffers.{left_of};
-ghost use Rattle.aec_c.specs.Calls.{settings_of};
+ghost use Rattle.aec_c.specs.Calls.{settings_of, CannotBegin};
 ghost use Rattle.aec_c.specs.HandleCalls.{format_of};
 ghost use Rattle.aec_c.specs.Replies.{over_front, reply_to};
 ghost use Rattle.aec_c.specs.HandleReads.{IsFresh, Opens, size_in, calls_in, WritesOut, ReadsOut};
@@ -28,7 +28,7 @@ use std::mem;
 pub(crate) fn fresh(alloc: Global, options: &Options) -> Result<Box<OpenWorkspace>, Fault>
     ensures ok { IfOk result (λ work. IsFresh (settings_of options.now) work.value) }
     ensures refuses { IfErr result
-        (λ fault. (fault ≡ Memory) ⊎ (settings_fault (settings_of options.now) ≡ Some fault)) }
+        (λ fault. CannotBegin (settings_of options.now) fault) }
 {
     let params = Params::new(asked(options))?;
     let workspace = Workspace::new(alloc, AecCodec::new(alloc, params), MOST_SAMPLES);

@@ -69,7 +69,7 @@ impl<'a> Source for ByteSource<'a> {
 /// Returns `Memory` for `Write`: a write to a vector fails only for lack of memory.
 fn memory_for_write(fault: EditFault) -> EditFault
     ensures memory { fault ≡ Plain WriteFault → result ≡ Plain Memory }
-    ensures other { (result ≡ fault) ⊎ (result ≡ Plain Memory) }
+    ensures other { (result ≡ fault) ⊎ (fault ≡ Plain WriteFault) }
 {
     match fault {
         EditFault::Plain(Fault::Write) => EditFault::Plain(Fault::Memory),

@@ -88,7 +88,12 @@ impl<T: OpenFile> Again<T> {
 impl<T: Read> Read for Again<T> {
     ghost remaining = { λ s. T.remaining s.file };
 
-    fn read(&mut self, buf: &mut [u8]) -> io::Result<usize> {
+    fn read(&mut self, buf: &mut [u8]) -> io::Result<usize>
+        ensures bound { ReadsAtMost result buf.new }
+        ensures bytes { ReadConsumes (T.remaining self.old.file) (T.remaining self.new.file) result
+            buf.new }
+        ensures again { IfErr result (λ e. error_kind e ≢ ErrorKind.Interrupted) }
+    {
         read_again(&mut self.file, buf)
     }
 }
@@ -96,11 +101,19 @@ impl<T: Read> Read for Again<T> {
 impl<T: Write> Write for Again<T> {
     ghost contents = { λ s. T.contents s.file };
 
-    fn write(&mut self, buf: &[u8]) -> io::Result<usize> {
+    fn write(&mut self, buf: &[u8]) -> io::Result<usize>
+        ensures bound { WritesAtMost result buf.now }
+        ensures bytes { WriteAppends (T.contents self.old.file) (T.contents self.new.file) result
+            buf.now }
+        ensures again { IfErr result (λ e. error_kind e ≢ ErrorKind.Interrupted) }
+    {
         write_again(&mut self.file, buf)
     }
 
-    fn flush(&mut self) -> io::Result<()> {
+    fn flush(&mut self) -> io::Result<()>
+        ensures bytes { Keeps (T.contents self.old.file) (T.contents self.new.file) }
+        ensures again { IfErr result (λ e. error_kind e ≢ ErrorKind.Interrupted) }
+    {
         flush_again(&mut self.file)
     }
 }

@@ -41,7 +41,7 @@ impl<'a> Source for SliceSource<'a> {
 // Returns `Memory` for `Write`: a write to a vector fails only for lack of memory.
 pub(crate) fn refusal(fault: Fault) -> Fault
     ensures memory { fault ≡ WriteFault → result ≡ Memory }
-    ensures other { (result ≡ fault) ⊎ (result ≡ Memory) }
+    ensures other { (result ≡ fault) ⊎ (fault ≡ WriteFault) }
 {
     match fault {
         Fault::Write => Fault::Memory,

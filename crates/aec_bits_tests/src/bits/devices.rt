@@ -10,13 +10,19 @@ use std::io::{ErrorKind, Read, Write};
 use std::process::Abort;
 use std::test::Fail;
 
-/// A writer that takes no bytes.
+/// A writer that takes nothing of its first piece with bytes, and would then take all bytes.
 #[derive(Drop)]
-struct Full;
+struct Full {
+    is_full: bool,
+}
 
 impl Write for Full {
-    fn write(&mut self, _buf: &[u8]) -> io::Result<usize> {
-        Ok(0)
+    fn write(&mut self, buf: &[u8]) -> io::Result<usize> {
+        if self.is_full && !buf.is_empty() {
+            self.is_full = false;
+            return Ok(0);
+        }
+        Ok(buf.len())
     }
 
     fn flush(&mut self) -> io::Result<()> {
@@ -24,7 +30,8 @@ impl Write for Full {
     }
 }
 
-/// A writer that takes one byte a call. After `left` bytes each call is interrupted.
+/// A writer that takes one byte a call. It is interrupted once, after `left` bytes, and would then
+/// go on.
 #[derive(Drop)]
 struct Slow {
     bytes: Vec<u8>,
@@ -37,6 +44,7 @@ impl Write for Slow {
             None => Ok(0),
             Some(byte) => {
                 if self.left == 0 || self.bytes.push(*byte).is_err() {
+                    self.left = usize::MAX;
                     return Err(io::Error::from(ErrorKind::Interrupted));
                 }
                 self.left -= 1;
@@ -136,7 +144,7 @@ fn writes_a_front_and_fails(rt: HostRuntime) -> Result<(), Fail> {
 
 #[test]
 fn a_writer_that_takes_nothing_fails(rt: HostRuntime) {
-    let mut sink = WriteSink::new(Full);
+    let mut sink = WriteSink::new(Full { is_full: true });
     same(&rt, sink.put(&[]), Ok(0));
     same(&rt, sink.failures(), 0);
     same(&rt, sink.put(&[7]), Err(Fault::Write));

@@ -61,6 +61,15 @@ fn faults_have_texts(rt: HostRuntime) -> Result<(), Fail> {
 }
 
 #[test]
+fn different_faults_differ(rt: HostRuntime) {
+    holds(&rt, Fault::Read != Fault::Write);
+    holds(
+        &rt,
+        Fault::Truncated { bit: 1 } != Fault::Truncated { bit: 2 },
+    );
+}
+
+#[test]
 fn edits_carry_samples(rt: HostRuntime) -> Result<(), Fail> {
     let samples = Samples::new(vec![in rt.alloc(); 3, -1, 4]?);
     same(&rt, samples.as_slice(), [3, -1, 4].as_slice());

@@ -6,6 +6,7 @@ ghost use Rattle.aec_params.specs.declared.fault.Fault.TheVariants.{Memory};
 ghost use Rattle.aec_params.specs.Codewords.{bytes_of};
 ghost use Rattle.aec_bits.specs.Codec.{code_of};
 ghost use Rattle.aec_interval.specs.IntervalFormat.{interval_format};
+ghost use Rattle.aec_edit.specs.Unchanged.{KeepsRules};
 ghost use Rattle.aec_engine.specs.declared.scripts.EditFault.TheVariants.{Plain};
 ghost use Rattle.aec_engine.specs.Transfers.{Taking, taking_of, Putting, putting_of, answer_by};
 ghost use Rattle.aec_engine.specs.Scripts.{listing_of};
@@ -58,7 +59,7 @@ fn carry_rest<C: Codec>(
         ⊎ StopsEditing (C.format workspace.old.codec) workspace.old.limit
         (C.called workspace.old.codec) workspace.old.samples
         (left_in ahead.old).edits (left_in ahead.old).lines fault) }
-    ensures format { C.format workspace.new.codec ≡ C.format workspace.old.codec }
+    ensures rules { KeepsRules C.format workspace.old workspace.new }
 {
     while let Some(next) = &ahead.next {
         if let Err(fault) = workspace.apply(&next.edit) {
@@ -91,6 +92,7 @@ fn edit_bits<C: Codec + Drop>(
     ensures edits { EditsBits params.now limits count bits.now.list (listing_of script.now)
         (answer_by (λ w. recoded_of (C.format w.codec) w.samples (C.called w.codec)) result) }
     ensures format { IfOk result (λ w. C.format w.codec ≡ interval_format params.now) }
+    ensures limit { IfOk result (λ w. w.limit ≡ limits.samples) }
 {
     let (mut reader, judged) = judged_reader(alloc, params, limits, count, bits)?;
     let room = Room::of(params, judged);
@@ -146,6 +148,7 @@ pub fn edit_over<C: Codec + Drop, Q: Source, R: Source, W: Sink>(
         (λ w. Appends (W.taken sink.old) (W.taken sink.new)
         (bytes_of (code_of (C.format w.codec) w.samples))) }
     ensures format { IfOk result (λ w. C.format w.codec ≡ interval_format params.now) }
+    ensures limit { IfOk result (λ w. w.limit ≡ limits.samples) }
 {
     let script = read_script(alloc, limits, from)?;
     let bits = read_bits(alloc, source, limits.bytes())?;

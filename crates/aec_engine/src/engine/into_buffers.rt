@@ -3,9 +3,9 @@
 //! second reading puts the rest into the buffer. The buffer can't be a `Sink`: contracts say what
 //! the sink that an engine returns has taken, but not that it still has the same buffer.
 
-ghost use Rattle.std.specs.Prelude.{◌≡◌, ℕ, ◌+◌, ◌*◌, ◌<◌, ◌≤◌, ◌^◌, ◌++◌, List, [], ℤ, None, Some, Ok, true, false, length, take, drop, max, vec_len, vec_capacity, IsOk, IfOk, IfErr, OnOk};
+ghost use Rattle.std.specs.Prelude.{◌≡◌, ℕ, ◌+◌, ◌*◌, ◌<◌, ◌≤◌, ◌^◌, ◌++◌, List, [], ℤ, None, Some, Ok, true, false, length, take, drop, max, vec_len, vec_capacity, IsOk, IfOk, IfErr, OnOk, ◌↔◌, IsTrue, Err};
 ghost use Rattle.std.specs.List.{AllByRecursion};
-ghost use Rattle.aec_params.specs.declared.fault.Fault.TheVariants.{Memory};
+ghost use Rattle.aec_params.specs.declared.fault.Fault.TheVariants.{Memory, StreamTooLong};
 ghost use Rattle.aec_params.specs.Params.{IsHeld, interval_len, storage_len};
 ghost use Rattle.aec_engine.specs.Transfers.{input_of, RefusesIntake};
 ghost use Rattle.aec_engine.specs.Output.{all_stored, samples_from, IsDecoded, IsRanged};
@@ -29,6 +29,7 @@ use std::alloc::Global;
 fn bits_of(alloc: Global, coded: &[u8], limit: u64) -> Result<BitBuf, Fault>
     ensures ok { IfOk result (λ bits. GaveWhole (Some coded.now) (Some []) 0 limit bits.list) }
     ensures refuses { IfErr result (RefusesIntake (Some coded.now) (Some []) 0 limit) }
+    ensures long { limit < length coded.now → result ≡ Err (StreamTooLong limit) }
 {
     if coded.len() as u64 > limit {
         return Err(Fault::StreamTooLong { limit });
@@ -162,7 +163,7 @@ fn first_room(alloc: Global, params: &Params, count: Option<u64>) -> Result<Vec<
 
 /// Returns whether `samples` is the number of samples that are asked for.
 fn are_all(count: Option<u64>, samples: usize) -> bool
-    ensures { result ≡ true → count ≡ Some samples }
+    ensures { IsTrue result ↔ (count ≡ Some samples) }
 {
     match count {
         Some(asked) => asked == samples as u64,

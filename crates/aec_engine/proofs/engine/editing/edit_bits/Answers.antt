@@ -80,5 +80,5 @@ returns-clause-edits g c =
     c.in_ok-reader.ensures.ok c.plan_script-plan.ensures.alike
     (rest_made c.args.params.now _ _ _ _ _ _ _ (left_in c.in_ok-ahead.ahead) _ (left_in c.append_all.new.ahead) _ _ _ _
     (ap g.C.Codec.format c.in_ok-workspace.ensures.empty.codec_is ∙ c.requires.format)
-    c.append_all.ensures.rules.format c.carry_rest.ensures.format c.in_ok-workspace.ensures.empty.limit_is c.append_all.ensures.rules.limit
+    c.append_all.ensures.rules.format c.carry_rest.ensures.rules.format c.in_ok-workspace.ensures.empty.limit_is c.append_all.ensures.rules.limit
     c.in_ok-ahead.ensures.all c.in_ok-append_all.ensures.ok c.in_ok-carry_rest.ensures.ok)

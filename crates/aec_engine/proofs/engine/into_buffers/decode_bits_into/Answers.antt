@@ -45,7 +45,7 @@ returns-then-are_all c =
     (subst (DecodesBits c.args.params.now c.args.count c.samples.result c.args.bits.now.list) (sym only)
     (first_are_all c.args.params.now c.args.count c.samples.result c.args.bits.now.list q _ _ c.known_allowed.ensures
     (c.in_ok-read_first.ensures.same ∙ ap (λ (start : Place). place_from start q.block q.bit) c.in_ok-reader.ensures.ok)
-    c.in_ok-reader.ensures.refuses kept (c.are_all.ensures c.if-are_all.true)))) c.put_first.ensures
+    c.in_ok-reader.ensures.refuses kept (c.are_all.ensures.0 c.if-are_all.true)))) c.put_first.ensures
 
 pub returns : goal.returns
 returns c =
