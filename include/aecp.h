@@ -88,7 +88,7 @@ enum {
  * `out`, and the bytes after it are unchanged. Otherwise all of `out` is unchanged, and the call may be repeated. NO_ROOM is returned only
  * if there is no other fault. To learn the length, pass an empty `out`, even NULL: the call still does its whole work. The length of a
  * buffer is its number of bytes, but that of a buffer of int64_t is its number of samples. Below, 'options' means the faults 1 to 4 and
- * 17. */
+ * 17, which come before all others. */
 
 /* Codes stored samples. Bytes at the end that don't fill a sample are dropped. Faults: options, SAMPLE_RANGE, TOO_MANY_SAMPLES, MEMORY,
  * NO_ROOM. Allocates up to twice the code's length and 72 KiB, and eight bytes for each sample of an interval, but for at least 4,096
@@ -141,7 +141,7 @@ size_t aecp_text(const aecp_reply *reply, char *out, size_t out_len);
 /* A handle, whose members only the library uses. Initialize it with AECP_HANDLE or zeros. From aecp_open or aecp_load to aecp_close it
  * holds a workspace: a list of samples in coded form. Don't copy a handle that holds one. One thread at a time may use a handle, even to
  * read: every call takes the workspace out of the handle and puts it back. In calls with a handle samples are numbers, not stored bytes,
- * and a refused edit changes no sample. */
+ * and a refused edit changes no sample, and nothing at all unless its fault is MEMORY. */
 typedef struct {
     void *at;
     bool full;

@@ -29,7 +29,7 @@ settings_of o = record {
   even_blocks = o.even_blocks;
 }
 
--- why nothing is opened: the options, or, if they are allowed, `Memory`
+-- why no empty workspace and no coder is opened: the options; or, if they are allowed, `Memory`
 abbrev pub CannotBegin : Settings → Fault → Type 0
 CannotBegin s fault = (settings_fault s ≡ Some fault) ⊎ (IsAllowed s × (fault ≡ Memory))
 

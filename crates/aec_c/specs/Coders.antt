@@ -1,9 +1,9 @@
 -- What the calls on a coder that takes samples in pieces do and reply.
-use Rattle.std.specs.Prelude.{◌≡◌, ℕ, ◌*◌, ◌/◌, ◌<◌, ◌≤◌, ◌^◌, ◌⊎◌, Bool, Option, Some, None, MatchOption, Ok, List, [], ◌++◌, length, take, drop}
+use Rattle.std.specs.Prelude.{◌≡◌, ℕ, ◌*◌, ◌/◌, ◌<◌, ◌≤◌, ◌^◌, Bool, Option, Some, None, MatchOption, Ok, List, [], ◌++◌, length, take, drop}
 use Rattle.aec_params.specs.declared.settings.Settings.{Settings}
 use Rattle.aec_params.specs.declared.fault.Fault.{Fault}
 use Rattle.aec_params.specs.declared.fault.Fault.TheVariants.{Memory}
-use Rattle.aec_params.specs.Params.{IsAllowed, settings_fault}
+use Rattle.aec_params.specs.Params.{IsAllowed}
 use Rattle.aec_params.specs.Codewords.{bytes_of, padded_to_byte}
 use Rattle.aec_params.specs.Streams.{stream_of}
 use Rattle.aec_interval.specs.Feeding.{Coder, fresh_coder, Feeds, StopsFeeding}

@@ -1,5 +1,5 @@
 -- What the calls on a handle do and reply.
-use Rattle.std.specs.Prelude.{◌≡◌, ℕ, ◌⊎◌, Option, Some, None, Result, Ok, Err}
+use Rattle.std.specs.Prelude.{◌≡◌, ◌≢◌, ℕ, ◌⊎◌, Option, Some, None, Result, Ok, Err, IfErr}
 use Rattle.aec_params.specs.declared.fault.Fault.{Fault}
 use Rattle.aec_params.specs.declared.fault.Fault.TheVariants.{Memory}
 use Rattle.aec_params.specs.declared.edit.Edit.{Edit}
@@ -38,6 +38,7 @@ pub record MakesEdit (e : Edit) (before after : OpenWorkspace) (reply : Reply) :
       e answer after.workspace.samples after.workspace.codec.calls after.workspace.codec.reads
   pub limit : after.workspace.limit ≡ before.workspace.limit
   pub format : format_of after ≡ format_of before
+  pub err : IfErr answer (λ fault. fault ≢ Memory → after.workspace ≡ before.workspace)
 
 -- the same for an edit whose values are copied first: without memory for the copy nothing changes
 abbrev pub MakesCopiedEdit : Edit → Option OpenWorkspace → Option OpenWorkspace → Reply → Type 0

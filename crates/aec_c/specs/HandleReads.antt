@@ -1,5 +1,5 @@
 -- What a handle is opened with, and what is read from it.
-use Rattle.std.specs.Prelude.{◌≡◌, ℕ, ◌^◌, ◌⊎◌, Option, Some, None, Result, Ok, Err, List, [], ℤ, length, take, drop}
+use Rattle.std.specs.Prelude.{◌≡◌, ℕ, ◌^◌, Option, Some, None, Result, Ok, Err, List, [], ℤ, length, take, drop}
 use Rattle.aec_params.specs.declared.settings.Settings.{Settings}
 use Rattle.aec_params.specs.declared.fault.Fault.{Fault}
 use Rattle.aec_params.specs.declared.fault.Fault.TheVariants.{Memory}

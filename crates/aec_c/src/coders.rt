@@ -1,8 +1,8 @@
 //! Samples coded in pieces by a coder that a handle holds.
 
-ghost use Rattle.std.specs.Prelude.{◌≡◌, ◌≤◌, ◌^◌, ◌⊎◌, [], None, Some, Option, ◌/◌, length, drop, IfOk, IfErr};
+ghost use Rattle.std.specs.Prelude.{◌≡◌, ◌≤◌, ◌^◌, [], None, Some, Option, ◌/◌, length, drop, IfOk, IfErr};
 ghost use Rattle.aec_params.specs.declared.fault.Fault.TheVariants.{Memory};
-ghost use Rattle.aec_params.specs.Params.{IsAllowed, settings_fault};
+ghost use Rattle.aec_params.specs.Params.{IsAllowed};
 ghost use Rattle.aec_params.specs.Codewords.{bytes_of, padded_to_byte};
 ghost use Rattle.aec_interval.specs.Feeding.{fresh_coder};
 ghost use Rattle.aec_c.specs.Calls.{settings_of, CannotBegin};

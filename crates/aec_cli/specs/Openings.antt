@@ -57,12 +57,12 @@ IsTriedReading failed (reading.Open file) = failed file ≡ 0
 IsTriedReading failed reading.Closed = ⊥
 IsTriedReading failed reading.Failed = Unit {0}
 
--- whether the file is neither open nor closed, and nothing has failed
-abbrev pub is_unread : {T : Type 0} → Reading T → Bool
-is_unread reading.Unopened = true
-is_unread (reading.Open file) = false
-is_unread reading.Closed = false
-is_unread reading.Failed = false
+-- whether the file is not opened yet, and nothing has failed
+abbrev pub is_unopened_reading : {T : Type 0} → Reading T → Bool
+is_unopened_reading reading.Unopened = true
+is_unopened_reading (reading.Open file) = false
+is_unopened_reading reading.Closed = false
+is_unopened_reading reading.Failed = false
 
 -- whether the file is closed, since its end was found
 abbrev pub is_closed : {T : Type 0} → Reading T → Bool

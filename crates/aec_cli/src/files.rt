@@ -5,7 +5,7 @@ ghost use Rattle.std.specs.Io.KnownBytes.{ReadConsumes, WriteAppends};
 ghost use Rattle.aec_params.specs.declared.fault.Fault.TheVariants.{Read as ReadFault, Write as WriteFault};
 ghost use Rattle.aec_bits.specs.Devices.{FailsOnce};
 ghost use Rattle.aec_cli.specs.Ends.{HasSynced};
-ghost use Rattle.aec_cli.specs.Openings.{is_closed, is_open, is_unopened, is_unread, IsTried, IsTriedReading};
+ghost use Rattle.aec_cli.specs.Openings.{is_closed, is_open, is_unopened, is_unopened_reading, IsTried, IsTriedReading};
 
 use crate::again::Again;
 use crate::done::{Done, write_out};
@@ -65,7 +65,8 @@ pub struct FileSource<'a, F: Files> {
 impl<'a, F: Files> FileSource<'a, F> {
     /// Returns a source of the file at `path`, which is not opened yet. The source keeps `rt`.
     pub fn new(rt: &'a F, path: String) -> FileSource<'a, F>
-        ensures unopened { is_unread result.file ≡ true }
+        ensures unopened { is_unopened_reading result.file ≡ true }
+        ensures failed { ⟦<FileSource<'a, F> as Source>⟧.failed result ≡ 0 }
     {
         FileSource {
             rt,

@@ -89,7 +89,7 @@ pub record Recoding : Type 0 where
   pub to : ℕ
   pub values : ℕ
 
--- how many samples it codes, of count: those before the places, the values, those kept behind
+-- how many samples it codes, of count: those before the places, the values, those kept after
 abbrev pub fresh_total : ℕ → ℕ → Recoding → ℕ
 fresh_total n count x = x.gone.first % n + (x.values + (min count (x.to * n) - x.gone.stop))
 
@@ -124,7 +124,7 @@ pub record IsExchangeUpTo (f : Format) (limit : ℕ) (s : List ℤ) (gone : Stre
       ≡ k * f.most))
   pub few : gone.first + length values + (length s - gone.stop) ≤ limit
 
--- bits, starts and a count that are the code of fresh samples for the intervals from `from` to `to`
+-- bits, starts and a count: the code of fresh samples for the intervals from `from` up to `to`
 pub record IsCodeFor (f : Format) (limit : ℕ) (s : List ℤ) (from to : ℕ) (bits : List Bool) (starts : List ℕ)
     (count : ℕ) (fresh : List ℤ) : Type 0 where
   pub recoding : IsRecoding f limit s from to fresh

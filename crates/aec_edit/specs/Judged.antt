@@ -22,8 +22,8 @@ pub record CanCome (f : Format) (limit : ℕ) (s values : List ℤ) : Type 0 whe
   pub few : length s + length values ≤ limit
   pub held : AreHeld f values
 
--- an edit and all that it does to a workspace: nothing, if it is refused for another reason than
--- `Memory`
+-- an edit and all that it does to a workspace; nothing has changed if it is refused with another
+-- fault than `Memory`
 pub record MakesEdit {C : Type 0} (format_of : C → Format) (called read : C → ℕ) (e : Edit) (r : Result ℕ Fault)
     (old new : Contents C) : Type 0 where
   pub applies : Applies (format_of old.codec) old.limit old.samples (called old.codec) (read old.codec) e r new.samples

@@ -1,6 +1,6 @@
 //! Makes edits, beginning with no samples, writes the resulting stream, and reads its samples back.
 
-ghost use Rattle.std.specs.Prelude.{◌≡◌, ◌≢◌, ◌<◌, ◌≤◌, ◌^◌, ◌⊎◌, ℕ, List, [], length, vec_capacity, Err, IfOk, OnOk, IfErr, OnErr, MatchResult};
+ghost use Rattle.std.specs.Prelude.{◌≡◌, ◌≢◌, ◌<◌, ◌≤◌, ◌^◌, ◌⊎◌, ℕ, List, [], length, vec_capacity, Err, IfOk, OnOk, IfErr, OnErr};
 ghost use Rattle.std.specs.Io.KnownBytes.{Appends, Keeps};
 ghost use Rattle.aec_params.specs.declared.fault.Fault.TheVariants.{Memory, Write as WriteFault};
 ghost use Rattle.aec_params.specs.Codewords.{bytes_of};
@@ -39,7 +39,8 @@ pub struct Edited {
 /// The written bytes are, bit for bit, the code of the samples that the accepted edits leave, and
 /// of no other list of as many samples. Fails with `Memory` only if there are edits; nothing is
 /// written then. Fails with `Write` only if the sink has failed; the sink has then taken a prefix
-/// of the stream. If the sink's bytes are unknown, nothing is said about what is written.
+/// of the stream. Doesn't call `begin`. If the sink's bytes are unknown, nothing is said about what
+/// is written.
 pub fn write_edited<C: Codec + Drop, W: Sink>(
     alloc: Global,
     codec: C,
@@ -71,8 +72,7 @@ pub fn write_edited<C: Codec + Drop, W: Sink>(
         (bytes_of (code_of (C.format codec) (all_left [] edits.now done)))) }
     ensures begun { W.begun sink.new ≡ W.begun sink.old }
     ensures order { W.mark sink.new ≡ W.mark sink.old }
-    ensures failures { MatchResult result (λ _. W.failed sink.new ≡ W.failed sink.old)
-        (λ fault. fault ≢ WriteFault → W.failed sink.new ≡ W.failed sink.old) }
+    ensures failures { result ≢ Err WriteFault → W.failed sink.new ≡ W.failed sink.old }
 {
     let mut outcomes = Vec::new(alloc);
     let mut workspace = edit_from_nothing(alloc, codec, limit, edits, &mut outcomes)?;

@@ -41,7 +41,7 @@ impl<C: Codec> Workspace<C> {
             (C.called self.old.codec) edit.now)
             (C.read self.old.codec) (C.read self.new.codec) }
         ensures rules { KeepsRules C.format self.old self.new }
-        ensures refused { IfErr result (λ fault. fault ≢ Memory → self.new ≡ self.old) }
+        ensures err { IfErr result (λ fault. fault ≢ Memory → self.new ≡ self.old) }
     {
         match edit {
             Edit::Overwrite { first, values } => self.overwrite(*first, values.as_slice()),
@@ -75,7 +75,7 @@ impl<C: Codec> Workspace<C> {
             (C.read self.old.codec) (Append values.now) result self.new.samples
             (C.called self.new.codec) (C.read self.new.codec) }
         ensures rules { KeepsRules C.format self.old self.new }
-        ensures refused { IfErr result (λ fault. fault ≢ Memory → self.new ≡ self.old) }
+        ensures err { IfErr result (λ fault. fault ≢ Memory → self.new ≡ self.old) }
     {
         self.check_growth(values)?;
         if values.is_empty() {

@@ -87,7 +87,8 @@ impl StreamCoder {
         ensures settings { self.new.settings ≡ self.old.settings }
         ensures limit { self.new.limit ≡ self.old.limit }
         ensures few { length self.new.held < interval_len self.new.settings }
-        ensures stays { IfSome self.old.refusal (λ fault. self.new ≡ self.old) }
+        ensures stays { IfSome self.old.refusal
+            (λ _. (self.new ≡ self.old) × (out.new ≡ out.old)) }
     {
         if let Some(fault) = self.refusal {
             return Err(fault);

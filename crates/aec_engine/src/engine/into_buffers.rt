@@ -3,7 +3,7 @@
 //! second reading puts the rest into the buffer. The buffer can't be a `Sink`: contracts say what
 //! the sink that an engine returns has taken, but not that it still has the same buffer.
 
-ghost use Rattle.std.specs.Prelude.{◌≡◌, ℕ, ◌+◌, ◌*◌, ◌<◌, ◌≤◌, ◌^◌, ◌++◌, List, [], ℤ, None, Some, Ok, true, false, length, take, drop, max, vec_len, vec_capacity, IsOk, IfOk, IfErr, OnOk, ◌↔◌, IsTrue, Err};
+ghost use Rattle.std.specs.Prelude.{◌≡◌, ℕ, ◌+◌, ◌*◌, ◌<◌, ◌≤◌, ◌^◌, ◌++◌, List, [], ℤ, None, Some, Ok, false, length, take, drop, max, vec_len, vec_capacity, IsOk, IfOk, IfErr, OnOk, ◌↔◌, IsTrue, Err};
 ghost use Rattle.std.specs.List.{AllByRecursion};
 ghost use Rattle.aec_params.specs.declared.fault.Fault.TheVariants.{Memory, StreamTooLong};
 ghost use Rattle.aec_params.specs.Params.{IsHeld, interval_len, storage_len};

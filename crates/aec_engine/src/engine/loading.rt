@@ -171,7 +171,7 @@ pub(crate) fn judged_reader<'a>(
         read.1.bits read.1.total) }
     ensures refuses { IfErr result
         (λ fault. RefusesDecoding params.now count limits.samples bits.now.list fault) }
-    ensures lasting { IfErr result (λ fault. fault ≢ Memory) }
+    ensures fault { IfErr result (λ fault. fault ≢ Memory) }
 {
     let mut reader = StreamReader::new(alloc, *params, bits, count, limits.samples())?;
     let judged = judge_all(params, &mut reader)?;

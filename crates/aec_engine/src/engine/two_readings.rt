@@ -117,7 +117,8 @@ pub(crate) fn judge_samples(
     judge_from(params, reader, 0, first)
 }
 
-/// Judges all samples from the first bit on, and goes back to that bit. Allocates nothing.
+/// Judges all samples from the first bit on, and goes back to that bit. Fails only with the fault
+/// of the bits. Allocates nothing.
 pub(crate) fn judge_all(params: &Params, reader: &mut StreamReader) -> Result<Judged, Fault>
     requires start { IsAtStart reader.old params.now }
     ensures ok { IfOk result (λ judged. Judges reader.old reader.new judged.bits judged.total) }

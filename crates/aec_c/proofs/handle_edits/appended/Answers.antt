@@ -12,4 +12,5 @@ returns-in-Some c =
       applies = c.append-answer.ensures.applies;
       limit = c.append-answer.ensures.rules.limit;
       format = c.append-answer.ensures.rules.format;
+      err = c.append-answer.ensures.err;
     })

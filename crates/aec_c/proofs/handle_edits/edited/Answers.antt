@@ -12,4 +12,5 @@ returns-in-Some c =
       applies = record { answer = c.apply-answer.ensures.answer; samples = c.apply-answer.ensures.samples; opens = c.apply-answer.ensures.reads };
       limit = c.apply-answer.ensures.rules.limit;
       format = c.apply-answer.ensures.rules.format;
+      err = c.apply-answer.ensures.err;
     })

@@ -22,8 +22,8 @@ returns-in_err-judged-clause-refuses c =
     (subst (RefusesDecoding _ _ _ _) (sym exit.2) (refuses_reading _ _ _ _ c.in_ok-reader.reader c.in_err-judged.field-0.0 c.in_ok-reader.ensures.ok
     c.in_ok-reader.ensures.refuses (faulty _ c.in_err-judged.ensures.refuses))))
 
-pub returns-in_err-judged-clause-lasting : goal.returns-in_err-judged-clause-lasting
-returns-in_err-judged-clause-lasting c =
+pub returns-in_err-judged-clause-fault : goal.returns-in_err-judged-clause-fault
+returns-in_err-judged-clause-fault c =
     let exit = err_from_is_err_and c.from_residual-in_err-judged.result c.from_residual-in_err-judged.ensures.1 in
     let lasting = faults_last _ _ _ _ _ _ _ c.in_err-judged.ensures.refuses in
     refuses_err _ exit.0 (λ fault. fault ≢ Memory) exit.1 (subst (λ fault. fault ≢ Memory) (sym exit.2) lasting)
