@@ -33,13 +33,16 @@ on_program() {
     fi
 }
 
-# Prints how many checks the gate may run at a time: one a processor, if each has 4.5 GB, no control group limits the memory and RT_JOBS
-# isn't set; else nothing. Without RT_JOBS `rt ci` plans with two to four times the memory that a check takes (at most 3 GB), and leaves
+# Prints how many checks the gate may run at a time: one a processor, if each has 4.5 GB of the free memory and of the control group's
+# limit, and RT_JOBS isn't set; else nothing. Without RT_JOBS `rt ci` plans with two to four times the memory that a check takes (at most 3 GB), and leaves
 # one of four processors with 24 GB idle for a fifth of the time. With it `rt ci` doesn't look at memory.
 jobs_of_gate() {
     free=$(awk '/MemAvailable/ {print $2}' /proc/meminfo)
     most=$(cat /sys/fs/cgroup/memory.max 2>/dev/null || echo max)
-    if [ -z "${RT_JOBS:-}" ] && [ "$most" = max ] && [ "$free" -ge $((4500000 * $(nproc))) ]; then
+    if [ "$most" != max ] && [ $((most / 1024)) -lt "$free" ]; then
+        free=$((most / 1024))
+    fi
+    if [ -z "${RT_JOBS:-}" ] && [ "$free" -ge $((4500000 * $(nproc))) ]; then
         nproc
     fi
 }
