@@ -108,20 +108,20 @@ module _ (s : Settings) (count : Option ℕ) (from source : Taking) (script code
   edited_ok sink held calls r empty holds (not_written made gives front begun fails) is = absurd (cc)
 
   pub edited_err : (sink : Putting) (r : Result ℕ EditFault) (fault e : EditFault) → (fault ≡ Plain Write → e ≡ Plain Memory)
-      → (e ≡ fault) ⊎ (e ≡ Plain Memory)
+      → (e ≡ fault) ⊎ (fault ≡ Plain Write)
       → LeavesRecoded s most count from source sink r → r ≡ Err fault → IsEditing s count script coded (Err e)
   edited_err sink r fault e memory other leaves is = by_leaves r leaves is other
     where
       lacks : e ≡ Plain Memory → IsEditing s count script coded (Err e)
       lacks same = subst (λ e. IsEditing s count script coded (Err e)) (sym same) (lacks_memory allowed)
 
-      by_leaves : (r : Result ℕ EditFault) → LeavesRecoded s most count from source sink r → r ≡ Err fault → (e ≡ fault) ⊎ (e ≡ Plain Memory)
+      by_leaves : (r : Result ℕ EditFault) → LeavesRecoded s most count from source sink r → r ≡ Err fault → (e ≡ fault) ⊎ (fault ≡ Plain Write)
           → IsEditing s count script coded (Err e)
       by_leaves r (written made gives appends begun sounds) is other = absurd (cc)
       by_leaves r (refused f gives nothing) is (inl same) =
           let was : f ≡ fault = cc in
           subst (λ e. IsEditing s count script coded (Err e)) (was ∙ sym same) (given_answer (Err f) gives)
-      by_leaves r (refused f gives nothing) is (inr same) = lacks same
+      by_leaves r (refused f gives nothing) is (inr fails) = lacks (memory fails)
       by_leaves r (not_written made gives front begun fails) is other = let was : fault ≡ Plain Write = cc in lacks (memory was)
 
 -- limits equal to the greatest limits may be replaced by these

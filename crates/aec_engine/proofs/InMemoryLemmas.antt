@@ -44,9 +44,9 @@ answered_err answers enough source sink bytes r fault whole before sound (not_wr
     let same : fault ≡ Write = cc in inr (inl same)
 
 -- a refusal is `Memory` or one of P, if a write that fails is returned as `Memory`
-pub as_refusal : (P : Fault → Type 0) (fault f : Fault) → (fault ≡ Write → f ≡ Memory) → (f ≡ fault) ⊎ (f ≡ Memory)
+pub as_refusal : (P : Fault → Type 0) (fault f : Fault) → (fault ≡ Write → f ≡ Memory) → (f ≡ fault) ⊎ (fault ≡ Write)
     → (fault ≡ Memory) ⊎ ((fault ≡ Write) ⊎ P fault) → (f ≡ Memory) ⊎ P f
-as_refusal P fault f memory (inr lacks) why = inl lacks
+as_refusal P fault f memory (inr fails) why = inl (memory fails)
 as_refusal P fault f memory (inl same) (inl lacks) = inl (same ∙ lacks)
 as_refusal P fault f memory (inl same) (inr (inl fails)) = inl (memory fails)
 as_refusal P fault f memory (inl same) (inr (inr holds)) = inr (subst P (sym same) holds)
@@ -150,7 +150,7 @@ decoded_in_memory s caps count source sink coded held before sound empty holds l
     before sound empty holds leaves refl)
 
 pub undecoded_in_memory : (s : Settings) (caps : Caps) (count : Option ℕ) (source : Taking) (sink : Putting) (coded : List ℕ) (fault f : Fault)
-    → source.before ≡ Some coded → source.failures ≡ 0 → (fault ≡ Write → f ≡ Memory) → (f ≡ fault) ⊎ (f ≡ Memory)
+    → source.before ≡ Some coded → source.failures ≡ 0 → (fault ≡ Write → f ≡ Memory) → (f ≡ fault) ⊎ (fault ≡ Write)
     → Leaves (IsDecoded s caps count) source (are_past caps.bytes) sink (Err fault) → (f ≡ Memory) ⊎ RefusesCoded s caps count coded f
 undecoded_in_memory s caps count source sink coded fault f before sound memory other leaves =
     by_answer (as_refusal (λ f. IsDecoded s caps count (input_of coded false) (Err f)) fault f memory other

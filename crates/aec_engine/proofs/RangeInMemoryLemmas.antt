@@ -19,7 +19,7 @@ ranged_in_memory s caps count first len source sink coded held before sound empt
 
 pub not_ranged_in_memory : (s : Settings) (caps : Caps) (count : Option ℕ) (first len : ℕ) (source : Taking) (sink : Putting) (coded : List ℕ)
     (fault f : Fault)
-    → source.before ≡ Some coded → source.failures ≡ 0 → (fault ≡ Write → f ≡ Memory) → (f ≡ fault) ⊎ (f ≡ Memory)
+    → source.before ≡ Some coded → source.failures ≡ 0 → (fault ≡ Write → f ≡ Memory) → (f ≡ fault) ⊎ (fault ≡ Write)
     → Leaves (IsRanged s caps count first len) source (are_past caps.bytes) sink (Err fault)
     → (f ≡ Memory) ⊎ IsRanged s caps count first len (input_of coded false) (Err f)
 not_ranged_in_memory s caps count first len source sink coded fault f before sound memory other leaves =

@@ -1,4 +1,4 @@
-use Rattle.std.proofs.Common.{Some, ap, refl, ◌∙◌, ⊎_elim, inl, inr}
+use Rattle.std.proofs.Common.{Some, ap, refl, ◌∙◌}
 use Rattle.aec_c.proofs.StreamEditLemmas.{edited_ok, edited_err, leaves_most, codes_many}
 use Rattle.aec_c.proofs.stream_edits.edited_bytes.Goals as goal
 
@@ -16,6 +16,5 @@ returns-in-Ok-clause-counted c =
 pub returns-in-Err-clause-refuses : goal.returns-in-Err-clause-refuses
 returns-in-Err-clause-refuses c =
     edited_err c.args.params.now c.args.count _ _ c.args.script.now c.args.bytes.now c.requires.allowed c.new-from.ensures refl c.new-source.ensures refl
-    _ _ c.in-Err.fault c.memory_for_write.result c.memory_for_write.ensures.memory
-    (⊎_elim inl (λ is. inr (c.memory_for_write.ensures.memory is)) c.memory_for_write.ensures.other)
+    _ _ c.in-Err.fault c.memory_for_write.result c.memory_for_write.ensures.memory c.memory_for_write.ensures.other
     (leaves_most _ _ _ _ _ _ _ c.limits.ensures c.in-Err.ensures.leaves) refl

@@ -1,4 +1,4 @@
-use Rattle.std.proofs.Common.{Some, ap, refl, ◌∙◌, ⊎_elim, inl, inr}
+use Rattle.std.proofs.Common.{Some, ap, refl, ◌∙◌}
 use Rattle.aec_engine.proofs.RangeInMemoryLemmas.{ranged_in_memory, not_ranged_in_memory}
 use Rattle.aec_engine.proofs.bytes_range.range_bytes.Goals as goal
 
@@ -10,5 +10,4 @@ returns-in-Ok-clause-ok c =
 pub returns-in-Err-clause-refuses : goal.returns-in-Err-clause-refuses
 returns-in-Err-clause-refuses c =
     not_ranged_in_memory c.args.params.now c.args.limits c.args.count c.args.first c.args.len _ _ c.args.coded.now c.in-Err.fault c.refusal.result
-    c.new-source.ensures refl c.refusal.ensures.memory (⊎_elim inl (λ is. inr (c.refusal.ensures.memory is)) c.refusal.ensures.other)
-    c.in-Err.ensures
+    c.new-source.ensures refl c.refusal.ensures.memory c.refusal.ensures.other c.in-Err.ensures
