@@ -1,8 +1,9 @@
 # What a user, a packager and a developer run. Building needs the kit's command `rt` and python3; the library also cc, ld, objcopy and
 # ar. Installing needs python3. `make dist` needs objdump, dpkg-deb, and git or the variable SOURCE_DATE_EPOCH.
 #
-# Variables: PREFIX; DESTDIR, a folder that replaces / as the root; PROGRAM, the program's installed name; BUILT, a program to
-# install in place of bin/aec; LIBDIR and PYTHON_DIR, where the library and the Python module go; PC_PREFIX, the prefix in aecp.pc.
+# Variables: PREFIX; DESTDIR, a folder that replaces / as the root; PROGRAM, the program's installed name; BUILT, the file to install as
+# the program, bin/aec if it isn't given; LIBDIR and PYTHON_DIR, where the library and the Python module go; PC_PREFIX, the prefix in
+# aecp.pc; PYTHON, the interpreter that runs the scripts of packaging/ and says what PYTHON_DIR is if that isn't given.
 PREFIX ?= /usr/local
 
 VERSION := $(shell cat VERSION)
@@ -18,7 +19,7 @@ bin/aec: FORCE
 
 FORCE:
 
-# Builds bin/aec-unproved without proofs, and runs four small jobs with it.
+# Builds bin/aec-unproved without proofs, and tests it with four small jobs.
 try:
 	@sh try.sh
 
@@ -36,8 +37,8 @@ sizes:
 test:
 	sh tests/run.sh
 
-# Writes docs/PROOFS.md from the claims of the crates, and checks each name that they cite; docs/DEFINITIONS.md from the sentences over
-# the definitions; and the tables of modules in the README of each crate.
+# Writes docs/PROOFS.md from the claims of the crates, after it has checked each name that they cite; docs/DEFINITIONS.md from the
+# sentences over the definitions; and the tables of modules in the README of each crate.
 pages:
 	@python3 tools/pages.py
 	@python3 tools/definitions.py
@@ -117,6 +118,8 @@ LIBDIR ?= $(PREFIX)/lib
 PC_PREFIX ?= $(PREFIX)
 info = $(DESTDIR)$(PYTHON_DIR)/aecp-$(VERSION).dist-info
 install-library: install-c install-python
+# With `make -j library install-library` the library is built first.
+install-c install-python: $(filter library,$(MAKECMDGOALS))
 
 install-c:
 	@test -e bin/libaecp.a -a -e bin/libaecp.so || { echo "there is no bin/libaecp.a or no bin/libaecp.so: run make library first" >&2; exit 1; }

@@ -2,9 +2,9 @@
  *
  * A coded stream contains neither its options nor its sample count. Keep both with the stream: no call is sure to notice wrong ones.
  *
- * Every caller must ensure, since no call can check: only the pointer to an empty buffer may be NULL; each length is its buffer's; `out`
- * and `reply` overlap nothing else that is passed; a bool is 0 or 1; if you replace malloc, replace realloc and free too. Make no call in a
- * signal handler, or in a forked child of a process with threads.
+ * Every caller must ensure, since no call can check: only the pointer to an empty buffer may be NULL; each length is that of its buffer;
+ * `out` and `reply` overlap nothing else that is passed; a bool is 0 or 1; if you replace malloc, replace realloc and free too. Make no
+ * call in a signal handler, or in a forked child of a process with threads.
  *
  * Between calls the library keeps only what handles, coders and readers hold. Every buffer stays the caller's. A call frees what it
  * allocates before it returns, except what an open handle, coder or reader holds. Several threads may call at once, each with an `out`, a
@@ -91,9 +91,9 @@ enum {
  * 17, which come before all others. */
 
 /* Codes stored samples. Bytes at the end that don't fill a sample are dropped. Faults: options, SAMPLE_RANGE, TOO_MANY_SAMPLES, MEMORY,
- * NO_ROOM. Allocates up to twice the code's length and 72 KiB, and eight bytes for each sample of an interval, but for at least 4,096
- * samples. Traps: `samples_len` is bytes, but aecp_bound takes samples; keep the sample count, which decoding needs; if `is_signed` is set,
- * a stored sample whose unused bits are zeros is read from its `bits` lowest bits alone: 2048 in 12 bits is -2048. */
+ * NO_ROOM. Allocates up to 72 KiB, twice the code's length, and eight bytes for each sample of an interval (at least 32 KiB). Traps:
+ * `samples_len` is bytes, but aecp_bound takes samples; keep the sample count, which decoding needs; if `is_signed` is set, a stored sample
+ * whose unused bits are zeros is read from its `bits` lowest bits alone: 2048 in 12 bits is -2048. */
 uint32_t aecp_encode(const aecp_options *options, const void *samples, size_t samples_len, uint8_t *out, size_t out_len,
                      aecp_reply *reply);
 
@@ -102,20 +102,22 @@ uint32_t aecp_encode(const aecp_options *options, const void *samples, size_t sa
  * NO_ROOM. Allocates:
  * - eight bytes for each sample of an interval, or for up to 4,096 samples if an interval has fewer; and the stored bytes of an interval;
  * - 64 KiB;
- * - the first aecp_bound(options, count) bytes of the stream; all of it with AECP_ALL, or if those don't yield `count` samples;
- * - up to 16 MiB, if a block's samples are stored in at most 32 bytes.
+ * - the first aecp_bound(options, count) bytes of the stream; the whole stream with AECP_ALL, or if these bytes don't yield `count`
+ *   samples;
+ * - up to 16 MiB, if `block_size` times the bytes of a stored sample is at most 32.
  * Trap: AECP_ALL decodes filler too, and accepts many cut streams; 1.5 MB can decode to 2^32 samples. */
 uint32_t aecp_decode(const aecp_options *options, uint64_t count, const uint8_t *coded, size_t coded_len, void *out,
                      size_t out_len, aecp_reply *reply);
 
 /* Decodes `len` of the first `count` samples, from sample `first` on, counted from 0. Faults: OUT_OF_RANGE, and those of aecp_decode,
- * anywhere in the `count` samples, since it checks them all. Allocates an interval of samples, at least 16 KiB, and as much of the stream
- * as aecp_decode. Trap: `first` and `len` are samples, `out_len` is bytes. */
+ * anywhere in the `count` samples, since it checks them all. Allocates eight bytes for each sample of an interval (at least 16 KiB), and as
+ * much of the stream as aecp_decode. Trap: `first` and `len` are samples, `out_len` is bytes. */
 uint32_t aecp_range(const aecp_options *options, uint64_t count, uint64_t first, uint64_t len, const uint8_t *coded,
                     size_t coded_len, void *out, size_t out_len, aecp_reply *reply);
 
-/* How aecp_edit ended. `samples` is the number of samples of the edited stream, with AECP_NO_ROOM too, and 0 after every other fault. If
- * one edit of the script is refused, `line` is its line, counted from 1, and `reply` says why; else `line` is 0. */
+/* How aecp_edit ended. `samples` is the number of samples of the edited stream, with AECP_NO_ROOM too, and 0 after every other fault. If an
+ * edit of the script is refused, `line` is its line, counted from 1, and `reply` says why. Else `line` is 0, also for AECP_SCRIPT, whose
+ * line is `reply.place`. */
 typedef struct {
     aecp_reply reply;
     uint64_t line;
@@ -150,7 +152,8 @@ typedef struct {
 #define AECP_HANDLE {NULL, false}
 
 /* Opens an empty workspace of at most 2^32 samples. On success the workspace that the handle held is freed; after a fault the handle is
- * unchanged. Faults: options, MEMORY. aecp_close frees what it allocates. Trap: with an uninitialized handle it frees arbitrary memory. */
+ * unchanged. Faults: options, MEMORY. aecp_close frees the workspace. Trap: aecp_open frees arbitrary memory if the handle is
+ * uninitialized. */
 uint32_t aecp_open(const aecp_options *options, aecp_handle *handle, aecp_reply *reply);
 
 /* Opens, as aecp_open does, a workspace with the first `count` samples of a stream, or all with AECP_ALL. `reply->len` is their number;
@@ -176,7 +179,7 @@ uint32_t aecp_append(aecp_handle *handle, const int64_t *values, size_t values_l
 uint32_t aecp_truncate(aecp_handle *handle, uint64_t count, aecp_reply *reply);
 
 /* Removes `len` samples, from sample `first` on. Faults: OUT_OF_RANGE, SPENT, MEMORY, NOT_OPEN. Trap: if `len` isn't a multiple of an
- * interval's samples, all later intervals are coded again; so they are by aecp_insert for such a `values_len`. */
+ * interval's samples, all later intervals are coded again; likewise in aecp_insert if `values_len` isn't a multiple. */
 uint32_t aecp_remove(aecp_handle *handle, uint64_t first, uint64_t len, aecp_reply *reply);
 
 /* Replaces `values_len` samples by the values, from sample `first` on. Faults: OUT_OF_RANGE, SAMPLE_RANGE, SPENT, MEMORY, NOT_OPEN.
@@ -187,8 +190,8 @@ uint32_t aecp_overwrite(aecp_handle *handle, uint64_t first, const int64_t *valu
  * OUT_OF_RANGE. Allocates a copy of the values. Trap: `first` can't be greater than the number of samples. */
 uint32_t aecp_insert(aecp_handle *handle, uint64_t first, const int64_t *values, size_t values_len, aecp_reply *reply);
 
-/* Writes `len` samples, from sample `first` on, to `out`. Faults: OUT_OF_RANGE, MEMORY, NO_ROOM, NOT_OPEN. Allocates the intervals that
- * contain them. Trap: `out_len` and `reply->len` are numbers of samples, not of bytes. */
+/* Writes `len` samples, from sample `first` on, to `out`. Faults: OUT_OF_RANGE, MEMORY, NO_ROOM, NOT_OPEN. Allocates eight bytes for each
+ * sample of the intervals that contain these samples. Trap: `out_len` and `reply->len` are numbers of samples, not of bytes. */
 uint32_t aecp_read(aecp_handle *handle, uint64_t first, uint64_t len, int64_t *out, size_t out_len, aecp_reply *reply);
 
 /* Writes the stream of all samples to `out`. aecp_decode reads the stream with the number of samples. Faults: MEMORY, NO_ROOM, NOT_OPEN.
@@ -211,7 +214,7 @@ typedef struct {
 #define AECP_CODER {NULL, false}
 
 /* Opens a coder of at most 2^32 samples. On success the coder that `coder` held is freed; after a fault it is unchanged. Faults: options,
- * MEMORY. Trap: with an uninitialized coder it frees arbitrary memory. */
+ * MEMORY. Trap: aecp_coder_open frees arbitrary memory if the coder is uninitialized. */
 uint32_t aecp_coder_open(const aecp_options *options, aecp_coder *coder, aecp_reply *reply);
 
 /* Codes more stored samples; a sample may be cut in two. `reply->len` is the number of bytes left to take. Faults: SAMPLE_RANGE,
@@ -246,13 +249,13 @@ typedef struct {
 /* Opens a reader of a stream's first `count` samples, or of all with AECP_ALL, at sample 0. `reply->len` is the length in bytes of the
  * samples of a whole interval. On success the reader that `reader` held is freed; after a fault it is unchanged. Faults: options,
  * TOO_MANY_SAMPLES, MEMORY. Allocates the length of the stream, and eight bytes a sample of an interval. Traps: it reads no sample yet, so
- * a bad stream opens too; with an uninitialized reader it frees arbitrary memory. */
+ * a bad stream opens too; aecp_reader_open frees arbitrary memory if the reader is uninitialized. */
 uint32_t aecp_reader_open(const aecp_options *options, uint64_t count, const uint8_t *coded, size_t coded_len, aecp_reader *reader,
                           aecp_reply *reply);
 
 /* Writes the stored samples of the next interval to `out`. `reply->len` is 0 if all samples were read. Faults: TRUNCATED, VALUE_TOO_LARGE,
- * RUN_TOO_LONG, TOO_MANY_SAMPLES, NO_ROOM, NOT_OPEN. Allocates nothing. After a fault the reader is where it was. Trap: a fault is returned
- * only when its interval is read, so earlier samples may be wrong. */
+ * RUN_TOO_LONG, TOO_MANY_SAMPLES, NO_ROOM, NOT_OPEN. Allocates nothing. After a fault the reader is where it was. Trap: damage may be
+ * noticed late, so samples of earlier intervals may be wrong. */
 uint32_t aecp_reader_next(aecp_reader *reader, void *out, size_t out_len, aecp_reply *reply);
 
 /* Goes to the start of `interval`, counted from 0, or to the end if the stream has fewer intervals. `reply->len` is the number of samples

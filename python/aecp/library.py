@@ -11,6 +11,7 @@ from aecp.options import FLAGS, NUMBERS, Options
 
 HERE = os.path.dirname(os.path.abspath(__file__))
 NAME = "libaecp.so"
+SONAME = "libaecp.so.0"  # what a program is linked to; a distribution has NAME in its package for developers
 TEXT_BYTES = 200
 VERSION = 10000  # 1.0.0, as AECP_VERSION of aecp.h
 
@@ -58,12 +59,12 @@ class Reader(ctypes.Structure):
 
 def place_of_library() -> str:
     """Returns the path of the library: AECP_LIBRARY, else beside this module, else in a checkout's bin/, else where the loader
-    looks."""
+    looks for SONAME."""
     named = os.environ.get("AECP_LIBRARY")
     if named:
         return named
     here = (os.path.join(HERE, NAME), os.path.normpath(os.path.join(HERE, "..", "..", "bin", NAME)))
-    return next(filter(os.path.exists, here), NAME)
+    return next(filter(os.path.exists, here), SONAME)
 
 
 def call_types() -> dict[str, tuple[Any, list[Any]]]:

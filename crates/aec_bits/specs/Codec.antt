@@ -23,7 +23,7 @@ pub record IsInterval (f : Format) (s : List ℤ) : Type 0 where
   pub held : AreHeld f s
 
 -- A lawful way: the greatest number of samples in an interval is 1 to 262,144, samples fit signed
--- 64 bits, and the bits of intervals distinguish those of one length, whatever bits follow. Each
+-- 64 bits, and intervals of equal length are told apart by their bits, whatever bits follow. Each
 -- codec must prove it.
 pub record IsLawful (f : Format) : Type 0 where
   pub some : 1 ≤ f.most

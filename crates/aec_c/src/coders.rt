@@ -3,7 +3,7 @@
 ghost use Rattle.std.specs.Prelude.{◌≡◌, ◌≤◌, ◌^◌, [], None, Some, Option, ◌/◌, length, drop, IfOk, IfErr};
 ghost use Rattle.aec_params.specs.declared.fault.Fault.TheVariants.{Memory};
 ghost use Rattle.aec_params.specs.Params.{IsAllowed};
-ghost use Rattle.aec_params.specs.Codewords.{bytes_of, padded_to_byte};
+ghost use Rattle.aec_params.specs.Codewords.{bytes_of};
 ghost use Rattle.aec_interval.specs.Feeding.{fresh_coder};
 ghost use Rattle.aec_c.specs.Calls.{settings_of, CannotBegin};
 ghost use Rattle.aec_c.specs.HandleCalls.{OnHandle};
@@ -66,13 +66,6 @@ fn whole_bytes(bits: &BitBuf) -> u64
     bits.len() / 8
 }
 
-/// Fills the last byte with zeros. Allocates nothing.
-fn fill_byte(bits: &mut BitBuf)
-    ensures { bits.new.list ≡ padded_to_byte bits.old.list }
-{
-    let _always = bits.pad_to_byte();
-}
-
 /// Takes a piece of stored samples.
 fn feed_open(made: &mut OpenCoder, piece: &[u8]) -> Reply
     ensures { FeedsPiece piece.now made.old made.new result }
@@ -97,7 +90,7 @@ fn finish_open(made: &mut OpenCoder) -> Reply
     };
     match coder.finish(&mut made.bits) {
         Ok(()) => {
-            fill_byte(&mut made.bits);
+            made.bits.pad_to_byte();
             answered(whole_bytes(&made.bits))
         }
         Err(fault) => refused(fault),

@@ -9,11 +9,12 @@ use crate::failure::{Failure, status};
 /// How the program ended.
 #[derive(Debug, PartialEq, Eq, Drop)]
 pub enum End {
-    /// Parsing the words ended the run: help, the version or a mistake was printed.
+    /// Parsing the words ended the run: help, the version or a mistake in them was printed.
     Unstarted { status: u8 },
     /// The job is done.
     Done(Done),
-    /// The words make no job, or the job was refused: the line of the failure was printed.
+    /// The words make no job, the job was refused, or there was no memory for the words. The
+    /// failure was printed on one line.
     Failed(Failure),
 }
 

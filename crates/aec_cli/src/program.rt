@@ -1,20 +1,19 @@
 //! One whole run of the program.
 
-ghost use Rattle.std.specs.Prelude.{◌≡◌, ◌≤◌, ◌<◌, IfOk, IfErr, ℕ, Bool, List, [], map};
+ghost use Rattle.std.specs.Prelude.{◌≡◌, ◌≤◌, IfOk, IfErr, ℕ, Bool, List, [], map};
 ghost use Rattle.std.specs.String.{string_bytes};
 ghost use Rattle.clap.specs.Faults.{fault_of};
 ghost use Rattle.clap.specs.Values.{kind_of};
 ghost use Rattle.clap.specs.Walk.{Text};
 ghost use Rattle.aec_cli.specs.Actions.{HasNoScript, IsAnswerOf, are_enough, program_caps};
 ghost use Rattle.aec_cli.specs.Commands.{aec_app};
-ghost use Rattle.aec_cli.specs.Ends.{HasSynced, end_of_run, end_status, IsDoneAtZero};
+ghost use Rattle.aec_cli.specs.Ends.{ConcernsJob, end_of_parse, end_of_run, end_status, EndsByMistake, EndsByWords, HasSynced};
 ghost use Rattle.aec_engine.specs.Editing.{LeavesEdited};
-ghost use Rattle.aec_cli.specs.Statuses.{EndsByMistake, EndsByWords, parse_status, status_of};
 ghost use Rattle.aec_engine.specs.Transfers.{Taking, taking_of, Putting, putting_of, Leaves};
 
 use crate::done::Done;
 use crate::ending::End;
-use crate::failure::{Failure, status};
+use crate::failure::Failure;
 use crate::files::{DestSink, FileSource};
 use crate::job::{Action, Job, settings};
 use crate::usage::Usage;
@@ -38,19 +37,13 @@ pub fn perform<F: Files, O: Write, E: Write>(
     err: &mut E,
 ) -> End
     ensures bound { end_status result ≤ 2 }
-    ensures mistakes { EndsByMistake (fault_of aec_app (map string_bytes words.items))
-        (end_status result) }
+    ensures mistakes { EndsByMistake (fault_of aec_app (map string_bytes words.items)) result }
     ensures refusals { let given : List Text = map string_bytes words.items in
-        fault_of aec_app given ≡ [] → EndsByWords given (end_status result) }
-    ensures done { fault_of aec_app (map string_bytes words.items) ≡ [] → IsDoneAtZero result }
+        fault_of aec_app given ≡ [] → EndsByWords given result }
 {
     let matches = match parse(alloc, words.as_slice()) {
         Ok(matches) => matches,
-        Err(error) => {
-            return End::Unstarted {
-                status: answer(&error, out, err),
-            };
-        }
+        Err(error) => return unparsed(&error, out, err),
     };
     let job = match settings(alloc, &matches) {
         Ok(job) => job,
@@ -115,7 +108,7 @@ fn act_by_script<Q: Source, R: Source, W: Sink>(
 // begun and finished without a fault.
 fn run<F: Files>(rt: &F, alloc: Global, job: Job) -> Result<Done, Failure>
     ensures done { IfOk result (λ done. HasSynced done) }
-    ensures fault { IfErr result (λ failure. status_of failure ≡ 1) }
+    ensures fault { IfErr result (λ failure. ConcernsJob failure) }
 {
     let Job {
         params,
@@ -151,31 +144,23 @@ fn ended<E: Write>(run: Result<Done, Failure>, err: &mut E) -> End
 fn failed<E: Write>(failure: Failure, err: &mut E) -> End
     ensures { result ≡ End.Failed failure }
 {
-    let _ = report(failure, err);
+    let _ = writeln!(err, "aec: {failure}");
     End::Failed(failure)
 }
 
-// Prints the line of a failure, and returns its status.
-fn report<E: Write>(failure: Failure, err: &mut E) -> u8
-    ensures { result ≡ status_of failure }
-{
-    let _ = writeln!(err, "aec: {failure}");
-    status(&failure)
-}
-
-// Prints what a parse returned instead of matches, help or a mistake in the words, and returns the
-// status.
-fn answer<O: Write, E: Write>(error: &clap::Error, out: &mut O, err: &mut E) -> u8
-    ensures { result ≡ parse_status (kind_of error.now) }
+// Prints what a parse returned instead of matches: help, the version, a mistake in the words, or
+// the lack of memory. Returns this end of the program.
+fn unparsed<O: Write, E: Write>(error: &clap::Error, out: &mut O, err: &mut E) -> End
+    ensures { result ≡ end_of_parse (kind_of error.now) }
 {
     if error.kind() == ErrorKind::OutOfMemory {
-        return report(Failure::Usage(Usage::Memory), err);
+        return failed(Failure::Usage(Usage::Memory), err);
     }
     if error.use_stderr() {
         let _ = write!(err, "{error}");
-        2
+        End::Unstarted { status: 2 }
     } else {
         let _ = write!(out, "{error}");
-        0
+        End::Unstarted { status: 0 }
     }
 }

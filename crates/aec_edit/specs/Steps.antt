@@ -16,7 +16,7 @@ pub record IsAccepted (f : Format) (limit : ℕ) (s : List ℤ) (calls : ℕ) (e
   pub coded_is : coded ≡ needed_calls f.most (length s) e
   pub calls_are : after ≡ calls + coded
 
--- memory was lacking: the edit codes at least one interval, and some calls may have been made by
+-- refused with `Memory`: the edit codes at least one interval, and some calls may have been made by
 -- then (`IsRefused` says that the edit fits)
 pub record LacksMemory (needed calls : ℕ) (fault : Fault) (after : ℕ) : Type 0 where
   pub fault_is : fault ≡ Memory

@@ -21,36 +21,35 @@ use std::alloc::Global;
 
 /// The result of `write_edited`.
 #[derive(Debug, Drop)]
-pub struct Edited {
+pub struct Edited<C: Codec + Drop> {
     /// The outcome of each edit.
     pub outcomes: Vec<Outcome>,
     /// The number of bits in the stream.
     pub bits: u64,
     /// All samples that the stream is read as.
     pub samples: Vec<i64>,
-    /// A count of coded intervals, which need not start at 0. Clause `answers` relates it to the
-    /// edits. That it is the codec's own count isn't proved.
-    pub calls: u64,
+    /// The codec that coded the edits, with its count of calls.
+    pub codec: C,
 }
 
 /// Makes edits, beginning with no samples, and writes the resulting stream.
 ///
-/// Each edit has an outcome that is permitted for the samples and calls that earlier edits left.
-/// The written bytes are, bit for bit, the code of the samples that the accepted edits leave, and
-/// of no other list of as many samples. Fails with `Memory` only if there are edits; nothing is
-/// written then. Fails with `Write` only if the sink has failed; the sink has then taken a prefix
-/// of the stream. Doesn't call `begin`. If the sink's bytes are unknown, nothing is said about what
-/// is written.
+/// Each edit has an outcome that is permitted for the samples and calls that earlier edits left;
+/// the codec counts the calls. The written bytes are, bit for bit, the code of the samples that the
+/// accepted edits leave, and of no other list of as many samples. Fails with `Memory` only if there
+/// are edits; nothing is written then. Fails with `Write` only if the sink has failed; the sink has
+/// then taken a prefix of a stream that permitted outcomes leave. Doesn't call `begin`. If the
+/// sink's bytes are unknown, nothing is said about what is written.
 pub fn write_edited<C: Codec + Drop, W: Sink>(
     alloc: Global,
     codec: C,
     limit: u64,
     edits: &[Edit],
     sink: &mut W,
-) -> Result<Edited, Fault>
+) -> Result<Edited<C>, Fault>
     requires { limit ≤ 2 ^ 32 }
     ensures answers { IfOk result (λ edited. AnswersAll (C.format codec) limit [] (C.called codec)
-        edits.now edited.outcomes.items edited.calls) }
+        edits.now edited.outcomes.items (C.called edited.codec)) }
     ensures stream { IfOk result
         (λ edited. let left = all_left [] edits.now edited.outcomes.items in
         Appends (W.taken sink.old) (W.taken sink.new) (bytes_of (code_of (C.format codec) left))) }
@@ -82,7 +81,7 @@ pub fn write_edited<C: Codec + Drop, W: Sink>(
         outcomes,
         bits: workspace.stream_bits(),
         samples,
-        calls: workspace.calls(),
+        codec: workspace.into_codec(),
     })
 }
 

@@ -150,6 +150,14 @@ impl<C: Codec> Workspace<C> {
         self.codec.reads()
     }
 
+    /// Drops the workspace, and returns its codec.
+    pub(crate) fn into_codec(self) -> C
+        ensures { result ≡ self.codec }
+    {
+        let Workspace { codec, .. } = self;
+        codec
+    }
+
     /// Writes the bytes of the code of the samples to the sink; zeros fill the last byte. Fails
     /// with `Write` if the sink fails; the sink has then taken a prefix of these bytes. Never fails
     /// with `Memory`, and doesn't call `begin`.

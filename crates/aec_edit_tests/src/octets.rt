@@ -324,7 +324,8 @@ fn writes_what_edits_leave(rt: HostRuntime) -> Result<(), Fail> {
     ];
     same(&rt, edited.outcomes.as_slice(), outcomes.as_slice());
     same(&rt, edited.samples.as_slice(), [0, 0, 0, 0, 7].as_slice());
-    same(&rt, (edited.bits, edited.calls, sink.begins()), (40, 13, 0));
+    let calls = edited.codec.calls();
+    same(&rt, (edited.bits, calls, sink.begins()), (40, 13, 0));
     same(
         &rt,
         sink.into_inner().as_slice(),

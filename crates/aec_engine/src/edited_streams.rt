@@ -24,8 +24,8 @@ use std::alloc::Global;
 pub struct Decoded {
     /// The outcome of each edit.
     pub outcomes: Vec<Outcome>,
-    /// A count of coded intervals, from 0, as in `Edited`.
-    pub calls: u64,
+    /// The coder of the edits, whose count of calls began at 0.
+    pub codec: AecCodec,
     /// The bytes of the stream.
     pub stream: Vec<u8>,
     /// The samples that the stream is decoded to, given their number.
@@ -37,7 +37,7 @@ pub struct Decoded {
 #[derive(Drop)]
 struct Written {
     outcomes: Vec<Outcome>,
-    calls: u64,
+    codec: AecCodec,
     stream: Vec<u8>,
     bits: BitBuf,
     count: u64,
@@ -52,7 +52,8 @@ fn write_stream(
 ) -> Result<Written, Fault>
     requires { limit ≤ 2 ^ 32 }
     ensures written { IfOk result
-        (λ w. IsWritten params.now limit edits.now w.outcomes.items w.calls w.bits.list w.count) }
+        (λ w. IsWritten params.now limit edits.now w.outcomes.items w.codec.calls w.bits.list
+        w.count) }
     ensures stream { IfOk result
         (λ w. w.stream.items ≡ bytes_of
         (stream_of params.now (all_left [] edits.now w.outcomes.items))) }
@@ -70,7 +71,7 @@ fn write_stream(
     let count = edited.samples.len() as u64;
     Ok(Written {
         outcomes: edited.outcomes,
-        calls: edited.calls,
+        codec: edited.codec,
         stream,
         bits,
         count,
@@ -80,9 +81,10 @@ fn write_stream(
 /// Makes edits, beginning with no samples, and decodes the bytes of the resulting stream, given the
 /// number of samples.
 ///
-/// Each edit has the outcome that is defined for the samples and calls that earlier edits left. The
-/// bytes are the stream of the samples that the accepted edits leave, and given the number of these
-/// samples the bytes are read as these samples. Fails only with `Memory`.
+/// Each edit has an outcome that is permitted for the samples and calls that earlier edits left;
+/// the codec counts the calls. The bytes are the stream of the samples that the accepted edits
+/// leave, and given the number of these samples the bytes are read as these samples. Fails only
+/// with `Memory`.
 pub fn decode_edited(
     alloc: Global,
     params: &Params,
@@ -91,7 +93,7 @@ pub fn decode_edited(
 ) -> Result<Decoded, Fault>
     requires { limit ≤ 2 ^ 32 }
     ensures answers { IfOk result (λ decoded. AnswersAll (interval_format params.now) limit [] 0
-        edits.now decoded.outcomes.items decoded.calls) }
+        edits.now decoded.outcomes.items decoded.codec.calls) }
     ensures stream { IfOk result (λ decoded. decoded.stream.items
         ≡ bytes_of (stream_of params.now (all_left [] edits.now decoded.outcomes.items))) }
     ensures samples { IfOk result
@@ -108,7 +110,7 @@ pub fn decode_edited(
     let samples = decode_all(alloc, params, &w.bits, Some(w.count), limit)?;
     Ok(Decoded {
         outcomes: w.outcomes,
-        calls: w.calls,
+        codec: w.codec,
         stream: w.stream,
         samples,
     })

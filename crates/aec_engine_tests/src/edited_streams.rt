@@ -41,7 +41,7 @@ fn edited_streams_are_decoded(rt: HostRuntime) -> Result<(), Fail> {
         ]
         .as_slice(),
     );
-    same(&rt, decoded.calls, 4);
+    same(&rt, decoded.codec.calls(), 4);
     same(&rt, decoded.stream.as_slice(), [0x00, 0x78].as_slice());
     same(&rt, decoded.samples.as_slice(), [7, 7, 7, 7, 7].as_slice());
     Ok(())

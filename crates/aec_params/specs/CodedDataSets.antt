@@ -87,8 +87,8 @@ pub record HasShape (s : Settings) (is_reference : Bool) (c : CodedDataSet) : Ty
   pub reference : HasReference s is_reference c.reference
   pub body : HasBody s is_reference c.body
 
--- the numbers that are values: not the first member of the first pair in a reference block (§12; a
--- list, where the code passes over that member)
+-- the numbers that are judged: all values, but in a reference block not the first member of the
+-- first pair (§12; a list, where the code passes over that member)
 abbrev pub judged_in : Option ℕ → Body → List ℕ
 judged_in reference (uncompressed_values values) = values
 judged_in None (value_pairs values) = values

@@ -33,17 +33,18 @@ reached_intervals n places = range_with_len (places.first / n) (div_ceil places.
 abbrev pub cut_calls : ℕ → ℕ → ℕ → ℕ
 cut_calls n old count = if count == old then 0 else (if count % n == 0 then 0 else 1)
 
--- the intervals that are cut anew if len samples are inserted or removed: none if len is 0; if len
--- fills whole intervals, those that the places reach, since later samples keep their grouping;
--- otherwise all from the one that contains the first place to the end of the `count` samples
+-- the intervals that are cut anew if len samples are inserted or removed: none if len is 0; if n
+-- divides len, those that the places reach, since later samples keep their grouping; otherwise all
+-- from the one that contains the first place to the end of the `count` samples
 abbrev pub moved_intervals : ℕ → ℕ → ℕ → Stretch → List ℕ
 moved_intervals n len count places =
     if len == 0 then [] else reached_intervals n
     (record { first = places.first; stop = if len % n == 0 then places.stop else count })
 
--- how many intervals of n samples an edit of a list of `old` samples codes: in the result, those
--- that hold a new sample or are cut anew (of an insertion or a removal those that did not exist
--- before: law `moves_code_what_is_new`; how many, by lengths: law `moves_by_length`)
+-- how many intervals of n samples an edit of a list of `old` samples codes: those of the result
+-- that hold a new sample or are cut anew. By the law `moves_code_what_is_new` an insertion or a
+-- removal codes exactly the intervals that did not exist before; the law `moves_by_length` gives
+-- their number.
 abbrev pub needed_calls : ℕ → ℕ → Edit → ℕ
 needed_calls n old (Overwrite first values) = length (touched_intervals n first (length values))
 needed_calls n old (Append values) = if length values == 0 then 0 else div_ceil (old + length values) n - old / n

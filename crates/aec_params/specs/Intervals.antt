@@ -33,6 +33,6 @@ abbrev pub unpadded_bits : Settings → List ℤ → List Bool
 unpadded_bits s v = flat_map (cds_bits s) (block_sets s (blocks_of s v))
 
 -- the code of an interval's samples, padded where the settings ask for it (§10; the interval's own
--- bits, where the code counts in the buffer from where it began)
+-- bits, where the program counts in a buffer that has earlier bits too)
 abbrev pub interval_bits : Settings → List ℤ → List Bool
 interval_bits s v = if s.pad then padded_to_byte (unpadded_bits s v) else unpadded_bits s v

@@ -40,8 +40,8 @@ stays_in_segment s p c = nat_le (block_count s p c) (segment_left s p)
 abbrev pub is_reference_block : Settings → ℕ → Bool
 is_reference_block s p = s.preprocess && (p == 0)
 
--- a coded data set that the format has at block p of an interval (§12; it has no fault of the first
--- three kinds)
+-- a coded data set that the format has at block p of an interval (§12; its shape, its values and
+-- the length of its run have no fault)
 pub record IsLawfulAt (s : Settings) (p : ℕ) (c : CodedDataSet) : Type 0 where
   pub shape : HasShape s (is_reference_block s p) c
   pub small : has_small_values s c ≡ true

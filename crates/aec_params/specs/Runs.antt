@@ -14,7 +14,7 @@ pub data Group : Type 0 where
 abbrev pub segment_len : ℕ
 segment_len = 64
 
--- blocks in consecutive segments (§8; only of blocks that are coded, so the last coded block ends a
+-- blocks in consecutive segments (§8; the blocks are those that are coded, so the last one ends a
 -- segment)
 abbrev pub segments_of : List Block → List (List Block)
 segments_of blocks = pieces_of segment_len blocks

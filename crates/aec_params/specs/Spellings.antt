@@ -15,15 +15,17 @@ after_reference (Some r) values = drop 1 values
 abbrev pub written_values : Block → List ℕ
 written_values b = after_reference b.reference b.values
 
--- the block by no compression (§7; a coded data set, where the code has a name and a length)
+-- the block by no compression (§7; a coded data set, where the program has an option and a length)
 abbrev pub uncompressed : Block → CodedDataSet
 uncompressed b = record { reference = b.reference; body = uncompressed_values (written_values b) }
 
--- the block by the second extension, whose pairs have the reference place too (§7; likewise)
+-- the block by the second extension, whose pairs have the reference place too (§7; a coded data
+-- set, where the program has an option and a length)
 abbrev pub paired : Block → CodedDataSet
 paired b = record { reference = b.reference; body = value_pairs b.values }
 
--- the block by splitting with k (§7; likewise)
+-- the block by splitting with k (§7; a coded data set, where the program has an option and a
+-- length)
 abbrev pub split : Block → ℕ → CodedDataSet
 split b k = record { reference = b.reference; body = split_values k (written_values b) }
 

@@ -43,7 +43,7 @@ sample_of_number s u =
 abbrev pub byte_groups : Settings → List ℕ → List (List ℕ)
 byte_groups s bytes = first_chunks (storage_len s) (length bytes / storage_len s) bytes
 
--- a sample, if there is one, put before the samples that come after it (§2)
+-- a sample put before the later samples; where there is none, its index i is the result (§2)
 abbrev pub sample_before : Option ℤ → ℕ → Result (List ℤ) ℕ → Result (List ℤ) ℕ
 sample_before None i later = Err i
 sample_before (Some x) i (Ok xs) = Ok (x ∷ xs)
@@ -60,13 +60,13 @@ samples_of_groups s i (g ∷ gs) = sample_before (sample_of_number s (number_in 
 abbrev pub samples_of_bytes : Settings → List ℕ → Result (List ℤ) ℕ
 samples_of_bytes s bytes = samples_of_groups s 0 (byte_groups s bytes)
 
--- given samples, and after them those of the bytes, if all these are samples
+-- given samples, and after them those of the bytes; or the index of a bad one
 abbrev pub samples_behind : List ℤ → Result (List ℤ) ℕ → Result (List ℤ) ℕ
 samples_behind xs (Ok ys) = Ok (xs ++ ys)
 samples_behind xs (Err k) = Err k
 
--- What a call that reads stored samples returns, seen through `view`: all samples, or `Memory`; if
--- one isn't allowed by the settings, only its index. (§2)
+-- What a call that reads stored samples returns: all samples (`view` gives the list that was made
+-- of them), or `Memory`; but if one isn't allowed by the settings, its index, never `Memory`. (§2)
 abbrev pub AnswersSamples : {X : Type 0} → (X → List ℤ) → Result (List ℤ) ℕ → Result X Fault → Type 0
 AnswersSamples view (Ok xs) (Ok answer) = view answer ≡ xs
 AnswersSamples view (Ok xs) (Err e) = e ≡ Memory

@@ -35,54 +35,63 @@ impl Options {
 
     /// Sets the number of samples in a block: 8, 16, 32 or 64; with
     /// [`even_blocks`](Options::even_blocks) every even number from 8 to 64.
+    #[must_use]
     pub fn block_size(mut self, samples: u32) -> Options {
         self.0.block_size = samples;
         self
     }
 
     /// Sets the number of blocks in a reference sample interval, 1 to 4096.
+    #[must_use]
     pub fn interval(mut self, blocks: u32) -> Options {
         self.0.interval = blocks;
         self
     }
 
     /// Sets whether samples are signed.
+    #[must_use]
     pub fn signed(mut self, is_on: bool) -> Options {
         self.0.is_signed = is_on;
         self
     }
 
     /// Sets whether stored samples are big-endian, not little-endian.
+    #[must_use]
     pub fn msb_first(mut self, is_on: bool) -> Options {
         self.0.msb_first = is_on;
         self
     }
 
     /// Sets whether samples of 17 to 24 bits are stored in three bytes instead of four.
+    #[must_use]
     pub fn three_byte(mut self, is_on: bool) -> Options {
         self.0.three_byte = is_on;
         self
     }
 
     /// Sets whether each sample is predicted from the one before, which is the default.
+    #[must_use]
     pub fn preprocess(mut self, is_on: bool) -> Options {
         self.0.preprocess = is_on;
         self
     }
 
     /// Sets whether each interval is filled up to a byte boundary.
+    #[must_use]
     pub fn pad(mut self, is_on: bool) -> Options {
         self.0.pad = is_on;
         self
     }
 
     /// Sets whether only the restricted set of code options is used, for samples of at most 4 bits.
+    #[must_use]
     pub fn restricted(mut self, is_on: bool) -> Options {
         self.0.restricted = is_on;
         self
     }
 
     /// Sets whether a block may have any even number of samples from 8 to 64.
+    #[must_use]
     pub fn even_blocks(mut self, is_on: bool) -> Options {
         self.0.even_blocks = is_on;
         self

@@ -8,7 +8,7 @@ use Rattle.aec_c.proofs.coders.finish_open.Goals as goal
 pub returns-in-Ok : goal.returns-in-Ok
 returns-in-Ok c =
     finished c.in-Some.coder (sym c.in-Some.ensures.value) (never_refused _ _ _ _ refl c.in-Ok.ensures.refuses) c.replace.ensures.after
-    (c.fill_byte.ensures ∙ ap padded_to_byte c.in-Ok.ensures.ok) (c.answered.ensures ∙ ap done c.whole_bytes.ensures)
+    (c.pad_to_byte.ensures.list ∙ ap padded_to_byte c.in-Ok.ensures.ok) (c.answered.ensures ∙ ap done c.whole_bytes.ensures)
 
 pub returns-in-Err : goal.returns-in-Err
 returns-in-Err c =

@@ -11,7 +11,7 @@ returns-clause-written c =
     let edited = c.in-Ok.edited in
     let streamed : c.into_inner-stream.result.items ≡ bytes_of (stream_of c.args.params.now (all_left [] c.args.edits.now edited.outcomes.items)) =
     grind (arith, common_steps) in
-    let answers : AnswersAll (interval_format c.args.params.now) c.args.limit [] 0 c.args.edits.now edited.outcomes.items edited.calls =
+    let answers : AnswersAll (interval_format c.args.params.now) c.args.limit [] 0 c.args.edits.now edited.outcomes.items edited.codec.calls =
     grind (arith, common_steps) in
     record {
       allowed = c.known_allowed.ensures;
