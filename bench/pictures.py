@@ -237,7 +237,7 @@ def interval():
         parts.append(text(20, y + 23, name))
         for begin, width, said, fill in boxes:
             parts += [box(begin, y, width, 36, fill, "edge"), text(begin + width / 2, y + 23, said, "middle", 13)]
-    parts.append(text(120, 235, "Blocks 0 (green) are reference blocks: the reference sample, then J - 1 values.", size=13))
+    parts.append(text(120, 235, "Blocks 0 (green) are reference blocks: the reference sample, then J - 1 written values.", size=13))
     parts.append(text(120, 257, "A run of zero blocks ends with its segment, and begins anew at blocks 64 and 128.", size=13))
     return picture(275, "an interval, its segments and its blocks", parts)
 
