@@ -199,7 +199,7 @@ def instructions():
 def coded_data_set():
     """Draws the bits of one coded data set by sample splitting with k = 1."""
     strip = [("010", "identifier: sample splitting with k = 1", "blue"), ("00000000", "reference sample 0, in n = 8 bits", "sand")]
-    strip.append(("1010101010101", "fs(v / 2) of each of seven values: fs(0), then six times fs(1)", "green"))
+    strip.append(("1010101010101", "fs(v / 2, rounded down) of each of seven values: fs(0), then six times fs(1)", "green"))
     strip += [("1000000", "the low bit of each of the values 1 2 2 2 2 2 2", "violet"), ("0", "fills the last byte", "grey")]
     side, x, y, bit = 26, 30, 80, 0
     parts = [text(20, 30, "One coded data set: the bytes 40 15 55 80", size=18)]
@@ -237,8 +237,8 @@ def interval():
         parts.append(text(20, y + 23, name))
         for begin, width, said, fill in boxes:
             parts += [box(begin, y, width, 36, fill, "edge"), text(begin + width / 2, y + 23, said, "middle", 13)]
-    parts.append(text(120, 235, "Blocks 0 (green) are reference blocks: the reference sample, then J - 1 written values.", size=13))
-    parts.append(text(120, 257, "A run of zero blocks ends with its segment, and begins anew at blocks 64 and 128.", size=13))
+    parts.append(text(120, 235, "Blocks 0 (green) are reference blocks: the reference sample, then the other J - 1 values.", size=13))
+    parts.append(text(120, 257, "No run of zero blocks crosses a segment's end: at blocks 64 and 128 a new one begins.", size=13))
     return picture(275, "an interval, its segments and its blocks", parts)
 
 

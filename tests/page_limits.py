@@ -5,6 +5,8 @@ writes into a page, from a line `<!-- Written by .. -->` to a line `<!-- end -->
 and in docs/, README.md of examples/ and of each crate and package, and bench/steps.md. Not among them: docs/theorems/, bench/tables.md
 and LICENSE, and the claims, from which docs/PROOFS.md is written.
 
+A list item begins a line: ` - ` before a word within a line is an item that was joined to the one before it.
+
 No run of eight words may be in two pages. A run lies within one paragraph, item or cell. Blocks of code, heads of tables and targets of
 links don't count, and code within a line is one word. A package's README may repeat other pages, since it is read alone, on an index
 of packages.
@@ -104,6 +106,13 @@ def told_twice(found):
     return joined
 
 
+def joined_items(path, text):
+    """Yields the items of lists that begin within a line."""
+    text = re.sub(r"(?ms)^ *```.*?^ *```$", "", text)
+    for item in re.findall(r"(?m)\S -$|\S - (?:[A-Za-z*]|\[|``).{,30}", re.sub(r"`[^`]*`", "``", text)):
+        yield f"{path}: an item within a line: {item}"
+
+
 def headings(text):
     """Returns the names of a page's headings in links."""
     names = re.findall(r"(?m)^#+ (.*)", re.sub(r"(?ms)^```.*?^```$", "", text))
@@ -131,6 +140,7 @@ def wrongs(top):
     wrong, needed = list(too_long(found)), set()
     for path, text in found.items():
         wrong += lost_links(top, path, text)
+        wrong += joined_items(path, text)
     for told in told_twice(found):
         kept = [it for it in TWICE if it in " ".join(told.words)]
         needed.update(kept)

@@ -38,7 +38,7 @@ FENCE = "\n```"
 LIBRARY = "`rt lemma WORD` prints what each is."
 # The module of words about a device's bytes, and what they leave open.
 KNOWN_BYTES = "std.specs.Io.KnownBytes"
-UNKNOWN = "`Appends` and `Keeps` say nothing of unknown bytes. Those of a device over memory are known."
+UNKNOWN = "`Appends` and `Keeps` say nothing of unknown bytes. A memory device's bytes are known, and stay known."
 
 
 class Item(NamedTuple):
