@@ -92,18 +92,17 @@ enum {
 
 /* Codes stored samples. Bytes at the end that don't fill a sample are dropped. Faults: options, SAMPLE_RANGE, TOO_MANY_SAMPLES, MEMORY,
  * NO_ROOM. Allocates up to 72 KiB, twice the code's length, and eight bytes for each sample of an interval (at least 32 KiB). Traps:
- * `samples_len` is bytes, but aecp_bound takes samples; keep the sample count, which decoding needs; if `is_signed` is set, a stored sample
- * whose unused bits are zeros is read from its `bits` lowest bits alone: 2048 in 12 bits is -2048. */
+ * `samples_len` is bytes, but aecp_bound takes samples; keep the sample count, which decoding needs; with `is_signed` unused bits may also
+ * be zeros, and the lowest `bits` bits are still read as signed: 2048 in 12 bits is -2048. */
 uint32_t aecp_encode(const aecp_options *options, const void *samples, size_t samples_len, uint8_t *out, size_t out_len,
                      aecp_reply *reply);
 
 /* Decodes the first `count` samples of a stream, or all with AECP_ALL. The result has 1, 2, 3 or 4 bytes for each sample. Ignores bytes of
  * the stream after these samples. Faults: options, TRUNCATED, VALUE_TOO_LARGE, RUN_TOO_LONG, TOO_MANY_SAMPLES, STREAM_TOO_LONG, MEMORY,
  * NO_ROOM. Allocates:
- * - eight bytes for each sample of an interval, or for up to 4,096 samples if an interval has fewer; and the stored bytes of an interval;
+ * - eight bytes for each sample of an interval (up to 32 KiB for one of fewer than 4,096); and an interval's stored bytes;
  * - 64 KiB;
- * - the first aecp_bound(options, count) bytes of the stream; the whole stream with AECP_ALL, or if these bytes don't yield `count`
- *   samples;
+ * - the first aecp_bound(options, count) bytes of the stream; all of it with AECP_ALL, or if those first bytes hold fewer samples;
  * - up to 16 MiB, if `block_size` times the bytes of a stored sample is at most 32.
  * Trap: AECP_ALL decodes filler too, and accepts many cut streams; 1.5 MB can decode to 2^32 samples. */
 uint32_t aecp_decode(const aecp_options *options, uint64_t count, const uint8_t *coded, size_t coded_len, void *out,
@@ -116,8 +115,8 @@ uint32_t aecp_range(const aecp_options *options, uint64_t count, uint64_t first,
                     size_t coded_len, void *out, size_t out_len, aecp_reply *reply);
 
 /* How aecp_edit ended. `samples` is the number of samples of the edited stream, with AECP_NO_ROOM too, and 0 after every other fault. If an
- * edit of the script is refused, `line` is its line, counted from 1, and `reply` says why. Else `line` is 0, also for AECP_SCRIPT, whose
- * line is `reply.place`. */
+ * edit of the script is refused, `line` is its line, counted from 1, and `reply` says why. Else `line` is 0; for AECP_SCRIPT, `reply.place`
+ * is the line. */
 typedef struct {
     aecp_reply reply;
     uint64_t line;
@@ -142,8 +141,8 @@ size_t aecp_text(const aecp_reply *reply, char *out, size_t out_len);
 
 /* A handle, whose members only the library uses. Initialize it with AECP_HANDLE or zeros. From aecp_open or aecp_load to aecp_close it
  * holds a workspace: a list of samples in coded form. Don't copy a handle that holds one. One thread at a time may use a handle, even to
- * read: every call takes the workspace out of the handle and puts it back. In calls with a handle samples are numbers, not stored bytes,
- * and a refused edit changes no sample, and nothing at all unless its fault is MEMORY. */
+ * read: every call takes the workspace out of the handle and puts it back. In calls with a handle samples are numbers, not stored bytes. A
+ * refused edit changes no sample; only MEMORY may change aecp_calls. */
 typedef struct {
     void *at;
     bool full;
@@ -194,8 +193,8 @@ uint32_t aecp_insert(aecp_handle *handle, uint64_t first, const int64_t *values,
  * sample of the intervals that contain these samples. Trap: `out_len` and `reply->len` are numbers of samples, not of bytes. */
 uint32_t aecp_read(aecp_handle *handle, uint64_t first, uint64_t len, int64_t *out, size_t out_len, aecp_reply *reply);
 
-/* Writes the stream of all samples to `out`. aecp_decode reads the stream with the number of samples. Faults: MEMORY, NO_ROOM, NOT_OPEN.
- * Allocates the code. Trap: keep the result of aecp_size with the stream. */
+/* Writes the stream of all samples to `out`. aecp_decode needs the number of samples too. Faults: MEMORY, NO_ROOM, NOT_OPEN. Allocates the
+ * code. Trap: keep the result of aecp_size with the stream. */
 uint32_t aecp_write(aecp_handle *handle, uint8_t *out, size_t out_len, aecp_reply *reply);
 
 /* aecp_size returns the number of samples. aecp_calls returns the number of intervals coded since the workspace was opened, also by edits
