@@ -238,7 +238,7 @@ def interval():
         for begin, width, said, fill in boxes:
             parts += [box(begin, y, width, 36, fill, "edge"), text(begin + width / 2, y + 23, said, "middle", 13)]
     parts.append(text(120, 235, "Blocks 0 (green) are reference blocks: the reference sample, then the other J - 1 values.", size=13))
-    parts.append(text(120, 257, "No run of zero blocks crosses a segment's end: at blocks 64 and 128 a new one begins.", size=13))
+    parts.append(text(120, 257, "No run of zero blocks crosses a segment's end. Segments begin at blocks 0, 64 and 128.", size=13))
     return picture(275, "an interval, its segments and its blocks", parts)
 
 

@@ -1,9 +1,10 @@
 #!/usr/bin/env python3
-"""Tries the wrong bodies that the gate leaves out: wrong_bodies.py [NAME..]
+"""Tries the wrong bodies that the gate leaves out: wrong_bodies.py [CRATE|CRATE/EDIT..]
 
-These are the edits of crates/NAME/more-must-fail/, with which the gate would take too long. They have the form of the must-fail edits
+These are the edits of crates/CRATE/more-must-fail/, with which the gate would take too long. They have the form of the must-fail edits
 in must-fail/, and the checker must refuse them too. Each crate is tried in its own copy below bin/, with the proofs that `make bin/aec`
-has kept; as many crates are tried at a time as there are processors. With names, only those crates are tried.
+has kept; as many crates are tried at a time as there are processors. With names, only those crates or edits are tried. Without, the
+first edit of a crate is another each day: so a run that is stopped leaves out other edits than the one of the day before.
 
 Prints for each edit the first thing that the checker refuses. An edit fails if it can't be applied, if the checker can't read the
 edited text, if the crate is still proved, or if it is refused only because a proof names what the edit took away. A crate fails if it
@@ -11,6 +12,7 @@ isn't proved without edits, before them or after them. The last line counts what
 failed.
 """
 
+import datetime
 import os
 import re
 import shutil
@@ -56,6 +58,24 @@ def edits_of(crate):
     folder = os.path.join(TOP, "crates", crate, EDITS)
     names = sorted(os.listdir(folder)) if os.path.isdir(folder) else []
     return [Edit(crate, name.removesuffix(".edit"), os.path.join(folder, name)) for name in names]
+
+
+def turned(edits, day):
+    """Returns the edits in their order, but from another one on each day."""
+    first = day * (len(edits) * 3 // 8 + 1) % len(edits)
+    return edits[first:] + edits[:first]
+
+
+def asked_edits(names):
+    """Returns for each crate of the names its edits that are asked for. Ends the program if there are none for a name."""
+    asked = {}
+    for name in names:
+        crate, _, edit = name.partition("/")
+        found = [it for it in edits_of(crate) if edit in ("", it.name)]
+        if not found:
+            sys.exit(f"no such edits: {name}")
+        asked[crate] = asked.get(crate, []) + found
+    return asked
 
 
 def crate_of(line):
@@ -164,12 +184,12 @@ def tried(edit, folder):
     return found
 
 
-def try_crate(crate, direct, room):
-    """Tries the edits of a crate, and checks the crate without edits before and after. Returns by name whether each passed."""
+def try_crate(crate, edits, direct, room):
+    """Tries edits of a crate, and checks the crate without edits before and after. Returns by name whether each passed."""
     folder = copy_of(crate, direct, room)
     ends = {}
     if check(folder)[0] == 0:
-        for edit in edits_of(crate):
+        for edit in edits:
             ends[f"{crate}/{edit.name}"], said = tried(edit, folder)
             print(f"{crate}/{edit.name}: {'refused' if ends[f'{crate}/{edit.name}'] else 'NOT REFUSED'}: {said[:200]}", flush=True)
     if not ends or check(folder)[0] != 0:
@@ -177,21 +197,15 @@ def try_crate(crate, direct, room):
     return ends
 
 
-def asked_crates(direct, names):
-    crates = [crate for crate in names or direct if names or edits_of(crate)]
-    wrong = [crate for crate in crates if crate not in direct or not edits_of(crate)]
-    if wrong or not crates:
-        sys.exit(f"no such edits: {' '.join(wrong)}")
-    return sorted(crates, key=lambda crate: -len(edits_of(crate)))
-
-
 def main():
     direct = uses()
-    crates = asked_crates(direct, sys.argv[1:])
+    today = datetime.date.today().toordinal()
+    asked = asked_edits(sys.argv[1:]) or {crate: turned(edits_of(crate), today) for crate in direct if edits_of(crate)}
+    crates = sorted(asked, key=lambda crate: -len(asked[crate]))
     ends = {}
     os.makedirs(os.path.join(TOP, "bin"), exist_ok=True)
     with tempfile.TemporaryDirectory(dir=os.path.join(TOP, "bin")) as room, ThreadPoolExecutor(os.cpu_count()) as pool:
-        for done in as_completed([pool.submit(try_crate, crate, direct, room) for crate in crates]):
+        for done in as_completed([pool.submit(try_crate, crate, asked[crate], direct, room) for crate in crates]):
             ends.update(done.result())
     failed = [name for name, is_well in ends.items() if not is_well]
     print("".join(f"FAILED: {name}\n" for name in failed) + f"{len(ends) - len(failed)} passed, {len(failed)} failed")
