@@ -8,7 +8,7 @@ use crate::steps::{
     stream,
 };
 use aec_bits::laws::Octets;
-use aec_bits::{Sink, WriteSink};
+use aec_bits::{Codec, Sink, WriteSink};
 use aec_edit::{Outcome, Workspace, laws, write_edited};
 use aec_params::{Edit, Fault, Samples, Settings};
 use std::alloc::{AllocError, Global};
@@ -352,13 +352,7 @@ impl Write for Full {
 fn a_failing_sink_is_named(rt: HostRuntime) -> Result<(), Fail> {
     let alloc = rt.alloc();
     let mut sink = WriteSink::new(Full);
-    let edited = write_edited(
-        alloc,
-        Octets::new(0),
-        8,
-        &[zeros(alloc, 1)?],
-        &mut sink,
-    );
+    let edited = write_edited(alloc, Octets::new(0), 8, &[zeros(alloc, 1)?], &mut sink);
     same(&rt, edited.err(), Some(Fault::Write));
     same(&rt, sink.failures(), 1);
     Ok(())
