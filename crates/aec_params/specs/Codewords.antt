@@ -28,8 +28,8 @@ padded_to_byte bits = bits ++ replicate (up_to_multiple 8 (length bits)) false
 abbrev pub bytes_of : List Bool → List ℕ
 bytes_of bits = map bits_number (pieces_of 8 (padded_to_byte bits))
 
--- the bits of bytes: up to padding the inverse of `bytes_of`, by the law `bytes_are_bits` (§10; byte
--- by byte, where the code joins eight bytes to a word)
+-- the bits of bytes: up to padding the inverse of `bytes_of`, by the law `bytes_are_bits` (§10;
+-- byte by byte, where the code joins eight bytes to a word)
 abbrev pub bits_of_bytes : List ℕ → List Bool
 bits_of_bytes [] = []
 bits_of_bytes (b ∷ bytes) = binary 8 b ++ bits_of_bytes bytes
