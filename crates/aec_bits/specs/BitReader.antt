@@ -58,8 +58,8 @@ behind_ones (suc n) (false ∷ bits) = further 1 (behind_ones (suc n) bits)
 abbrev pub AreBelow : ℕ → List ℕ → Type 0
 AreBelow limit numbers = AllByRecursion (λ v. v < limit) numbers
 
--- fewer fundamental sequences than a count begin the bits, and the 64 bits after them have no 1
--- (that such numbers exist, where the code shifts a word)
+-- fewer than `count` fundamental sequences begin the bits, and the 64 bits after these have no 1
+-- (states that their numbers exist, where the code shifts a word)
 pub record StopsBefore (count : ℕ) (bits : List Bool) : Type 0 where
   pub numbers : List ℕ
   pub rest : List Bool

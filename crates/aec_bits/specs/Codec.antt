@@ -22,9 +22,9 @@ pub record IsInterval (f : Format) (s : List ℤ) : Type 0 where
   pub few : length s ≤ f.most
   pub held : AreHeld f s
 
--- A lawful way: the greatest number of samples in an interval is 1 to 262,144, samples fit signed
--- 64 bits, and intervals of equal length are told apart by their bits, whatever bits follow. Each
--- codec must prove it.
+-- A lawful format: the greatest number of samples in an interval is 1 to 262,144, samples fit
+-- signed 64 bits, and the bits of an interval, whatever bits follow, determine it among the
+-- intervals of its length. Each codec must prove it.
 pub record IsLawful (f : Format) : Type 0 where
   pub some : 1 ≤ f.most
   pub few : f.most ≤ 262144

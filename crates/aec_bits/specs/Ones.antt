@@ -1,9 +1,9 @@
 -- For proofs alone: no public contract cites this file.
--- Bits of a word in which a 1 bit is looked for.
+-- Parts of a word in which a 1 bit is searched.
 use Rattle.std.specs.Prelude.{ℕ, ◌+◌, ◌^◌, ◌<◌, ◌≤◌, count_ones}
 use Rattle.aec_bits.specs.declared.bit_reader.counted_ones.Stretch.{Stretch}
 
--- the 1 bit that is looked for is among n bits of a word
+-- the 1 bit that is searched is in this part of a word, of n bits
 pub record HasNthOne (n : ℕ) (stretch : Stretch) : Type 0 where
   pub fits : stretch.bits < 2 ^ n
   pub some : 0 < stretch.nth

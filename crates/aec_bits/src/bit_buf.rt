@@ -172,8 +172,8 @@ impl BitBuf {
         Err(Fault::Memory)
     }
 
-    /// Makes room for `bits` more bits, and allocates if needed. Returns false if a growth was
-    /// refused.
+    /// Makes room for `bits` more bits, and allocates if needed. Returns false if an allocation
+    /// fails or the list would have more than 2^62 bits.
     #[inline(never)]
     fn grow_by(&mut self, bits: u64) -> bool
         ensures grown { result ≡ true → bits ≤ self.new.room }

@@ -14,14 +14,14 @@ pub trait Codec {
     /// samples.
     ghost format: { Self → Format };
 
-    /// The count of coded intervals, from where the codec began to count.
+    /// The count of coded intervals, plus the count with which the codec was made.
     ghost called: { Self → ℕ };
 
     /// The count of `decode` calls, at most `u64::MAX`.
     ghost read: { Self → ℕ };
 
-    /// The format is lawful, as `IsLawful` says: the bits of intervals distinguish those of one
-    /// length.
+    /// The format is lawful, as `IsLawful` says: the bits of an interval determine it among the
+    /// intervals of its length.
     ghost lawful: { (c : Self) → IsLawful (format c) };
 
     /// Returns the greatest number of samples in an interval, 1 to 262,144.
@@ -32,7 +32,7 @@ pub trait Codec {
     fn holds(&self, x: i64) -> bool
         ensures { result ≡ (format self.now).holds x };
 
-    /// Returns the count of coded intervals, from where the codec began to count.
+    /// Returns the count of coded intervals, plus the count with which the codec was made.
     fn calls(&self) -> u64
         ensures { result ≡ called self.now };
 

@@ -1,5 +1,6 @@
 -- What the private functions of reading return: what was taken, instead of a result, and values if
--- they are small enough. `read_cds` and `skip_cds` cite none of this.
+-- they are small enough. Of the public functions only `is_plain_next`, `read_run`, `read_plain` and
+-- `read_plain_first` cite this file, of which they need only `bits_at`.
 use Rattle.std.specs.Prelude.{◌≡◌, ◌≤◌, ◌^◌, ℕ, Bool, nat_lt, true, false, if◌then◌else◌, Option, Some, None, Result, Ok, Err, List, ◌∷◌, length, drop}
 use Rattle.std.specs.List.{list_all}
 use Rattle.aec_bits.specs.BitReader.{Cursor}
@@ -9,21 +10,21 @@ use Rattle.aec_params.specs.Places.{block_of_values, block_of_members}
 use Rattle.aec_params.specs.CodedDataSets.{value_pairs, judged_in}
 use Rattle.aec_block.specs.ReadAt.{Taken, nothing, taken, map_taken, fs_at, binary_at, values_at, split_at}
 
--- the bits that are left at a cursor
+-- the bits from a cursor's place on
 abbrev pub bits_at : Cursor → List Bool
 bits_at c = drop c.pos c.list
 
--- a result as what was taken before the rest
+-- what a reader took: the value of a result, with the bits after it; nothing for an error
 abbrev pub as_taken : {X E : Type 0} → Result X E → List Bool → Taken X
 as_taken (Ok x) rest = taken x rest
 as_taken (Err e) rest = nothing
 
--- the same for what a result stands for
+-- what a reader took: f of the value of a result, with the bits after it; nothing for an error
 abbrev pub as_taken_by : {X Y E : Type 0} → (X → Y) → Result X E → List Bool → Taken Y
 as_taken_by f (Ok x) rest = taken (f x) rest
 as_taken_by f (Err e) rest = nothing
 
--- values of which nothing is kept
+-- values, of which nothing is kept
 abbrev pub no_values : List ℕ → Unit {0}
 no_values values = tt
 
@@ -57,17 +58,18 @@ abbrev pub pair_block : ℕ → Option ℕ → List ℕ → Option Block
 pair_block limit reference members =
     when (all_below limit (judged_in reference (value_pairs members))) (block_of_members reference members)
 
--- What `there` takes at the old cursor is what was returned, with the bits at the new cursor after
--- it. The bits are unchanged, and the new place is within them.
+-- Applied to the bits at the old cursor, the reader `there` takes the returned value and leaves the
+-- bits at the new cursor; for an error it takes nothing. The list is unchanged, and the new place
+-- is within it.
 pub record Takes {Y : Type 0} (there : List Bool → Taken Y) (old : Cursor) (returned : List Bool → Taken Y)
     (new : Cursor) : Type 0 where
   pub taken : there (bits_at old) ≡ returned (bits_at new)
   pub list : new.list ≡ old.list
   pub within : new.pos ≤ length new.list
 
--- the numbers of the next fundamental sequences replace the list before, one for one, if all are
--- below a limit, which the result says; an error if there are fewer. The bits are unchanged, and
--- the place is within them
+-- The numbers of the next fundamental sequences replace the list `before`, one for one. The result
+-- says whether all are below a limit: only then is the new list theirs. It is an error if fewer
+-- sequences follow. The bits are unchanged, and the place is within them.
 pub record PutsHighs {E : Type 0} (limit : ℕ) (old : Cursor) (before : List ℕ) (result : Result Bool E)
     (new : Cursor) (highs : List ℕ)
     : Type 0 where
@@ -77,8 +79,8 @@ pub record PutsHighs {E : Type 0} (limit : ℕ) (old : Cursor) (before : List �
   pub list : new.list ≡ old.list
   pub within : new.pos ≤ length new.list
 
--- the next numbers of `width` bits each replace the list before, one for one; an error if there are
--- fewer. The bits are unchanged, and the place is within them
+-- The next numbers of `width` bits each replace the list `before`, one for one. The result is an
+-- error if fewer follow. The bits are unchanged, and the place is within them.
 pub record PutsNumbers {X E : Type 0} (width : ℕ) (old : Cursor) (before : List ℕ) (result : Result X E) (new : Cursor)
     (numbers : List ℕ) : Type 0 where
   pub taken : values_at (binary_at width) (length before) (bits_at old)
@@ -87,9 +89,9 @@ pub record PutsNumbers {X E : Type 0} (width : ℕ) (old : Cursor) (before : Lis
   pub list : new.list ≡ old.list
   pub within : new.pos ≤ length new.list
 
--- the next values, split at bit k, replace the list before, one for one, if all are at most 2^n -
--- 1, which the result says; an error if there are fewer. The bits are unchanged, and the place is
--- within them
+-- The next values, split at bit k, replace the list `before`, one for one. The result says whether
+-- all are at most 2^n - 1: only then is the new list theirs. It is an error if fewer follow. The
+-- bits are unchanged, and the place is within them.
 pub record PutsSplit {E : Type 0} (s : Settings) (k : ℕ) (old : Cursor) (before : List ℕ) (result : Result Bool E)
     (new : Cursor) (values : List ℕ)
     : Type 0 where

@@ -21,7 +21,7 @@ WhatIsReadIsSpelled = (s : Settings) → IsAllowed s
     → (is_reference : Bool) (bits : List Bool) (c : CodedDataSet) (rest : List Bool)
     → cds_at s is_reference bits ≡ taken c rest → HasShape s is_reference c × (bits ≡ cds_bits s c ++ rest)
 
--- nothing is read exactly where no coded data set begins the bits
+-- reading takes nothing exactly if no coded data set begins the bits
 abbrev pub NothingIsReadWhereNoneBegins : Type 0
 NothingIsReadWhereNoneBegins = (s : Settings) → IsAllowed s → (is_reference : Bool) (bits : List Bool)
     → (cds_at s is_reference bits ≡ nothing)

@@ -52,7 +52,7 @@ pub record AreFewBelow (bits : ℕ) (values : List ℕ) : Type 0 where
   pub len : length values ≤ most_values
   pub below : AllByRecursion (λ v. v < 2 ^ bits) values
 
--- the sums `IsSum` without k low bits, without one more, and without two more
+-- the sums of values without k, k + 1 and k + 2 low bits, each at most `most`
 pub record AreThreeSums (k : ℕ) (values : List ℕ) (most : ℕ) (sums : ThreeSums) : Type 0 where
   pub first : IsSum k values most sums.first
   pub second : IsSum (k + 1) values most sums.second
@@ -76,9 +76,9 @@ pub record IsBestSplit (count k : ℕ) (values : List ℕ) : Type 0 where
   pub before : (j : ℕ) → j < k → split_values_length k values < split_values_length j values
   pub after : (j : ℕ) → k < j → j < count → split_values_length k values ≤ split_values_length j values
 
--- a k to begin with, at most `last`, for `count` values with the sum `total`: the sum is above
+-- the k to begin with, at most `last`, for `count` values with the sum `total`: the sum is above
 -- 3 * 2^j times the count for each j before it, and if k isn't the last, at most 3 * 2^k times
-pub record BeginsAt (total count last k : ℕ) : Type 0 where
+pub record IsFirstK (total count last k : ℕ) : Type 0 where
   pub within : k ≤ last
   pub before : (j : ℕ) → j < k → 3 * count * 2 ^ j < total
   pub there : k < last → total ≤ 3 * count * 2 ^ k
@@ -94,8 +94,8 @@ pairs_length [] = 0
 pairs_length (a ∷ []) = 0
 pairs_length (a ∷ (b ∷ values)) = pair_number a b + 1 + pairs_length values
 
--- the length, at most `most`; or nothing, only if it is above 2^31 bits, which no block by no
--- compression has
+-- `told` is the length, which is then at most `most`; or `None`, and then the length is above 2^31,
+-- more than any uncompressed block has
 pub record IsLengthIfShort (bits most : ℕ) (told : Option ℕ) : Type 0 where
   pub some : IfSome told (λ n. (n ≡ bits) × (n ≤ most))
   pub none : IfNone told (2 ^ 31 < bits)

@@ -1,5 +1,6 @@
 -- What the private functions of reading compute, on lists of bits; the laws of `laws.rt` say that
--- it is the reading of coded data sets. `read_cds` and `skip_cds` cite none of this.
+-- it is the reading of coded data sets. Of the other public functions only `is_plain_next` and
+-- `read_plain` cite this file, by `begins_plain`.
 use Rattle.std.specs.Prelude.{ℕ, zero, suc, ◌+◌, ◌-◌, ◌*◌, ◌/◌, ◌^◌, ◌==◌, nat_le, Bool, true, false, if◌then◌else◌, Option, Some, None, List, [], ◌∷◌, length, take, drop}
 use Rattle.aec_params.specs.declared.settings.Settings.{Settings}
 use Rattle.aec_params.specs.Params.{id_len}
@@ -8,12 +9,12 @@ use Rattle.aec_params.specs.CodedDataSets.{Body, uncompressed_values, value_pair
 use Rattle.aec_block.specs.declared.reading.Kind.{Kind}
 use Rattle.aec_block.specs.declared.reading.Kind.TheVariants.{ZeroBlocks, SecondExtension, Split, NoCompression}
 
--- what begins the bits, with the bits after it; `nothing` if nothing of its kind does
+-- what begins a list of bits, with the bits after it; `nothing` if nothing of its kind begins it
 pub data Taken (X : Type 0) : Type 0 where
   nothing : Taken X
   taken : X → List Bool → Taken X
 
--- what a reader of one thing, then of another takes
+-- what two readers in a row take: first one thing, then another that may depend on it
 abbrev pub then_at : {X Y : Type 0} → Taken X → (X → List Bool → Taken Y) → Taken Y
 then_at nothing next = nothing
 then_at (taken x rest) next = next x rest

@@ -18,16 +18,16 @@ use Rattle.aec_block.specs.declared.reading.Kind.TheVariants.{ZeroBlocks, Second
 use Rattle.aec_block.specs.ReadAt.{Taken, nothing, taken, set_of, kind_at, cds_at}
 use Rattle.aec_block.specs.Gathering.{when}
 
--- a run's number of blocks, or `Rest` if it depends on the place (as `told_blocks` has it)
+-- a run's number of blocks, or `Rest` if it depends on the place (as in `told_blocks`)
 abbrev pub as_run_len : Option ℕ → RunLen
 as_run_len None = Rest
 as_run_len (Some z) = Blocks z
 
--- how many zero blocks a run has by the number of its code (as `told_blocks` has it)
+-- how many zero blocks a run has by the number of its code (as in `told_blocks`)
 abbrev pub run_len_of : ℕ → RunLen
 run_len_of m = as_run_len (told_blocks m)
 
--- what a coded data set stands for (as `block_of_values` and `block_of_members` have it)
+-- what a coded data set stands for (as in `block_of_values` and `block_of_members`)
 abbrev pub answer_of : Option ℕ → Body → Cds
 answer_of reference (uncompressed_values values) = Single (block_of_values reference values)
 answer_of reference (value_pairs members) = Single (block_of_members reference members)
@@ -85,7 +85,8 @@ is_run_body (value_pairs members) = false
 is_run_body (split_values k values) = false
 is_run_body (zero_blocks m) = true
 
--- whether an identifier was taken that announces values written one by one
+-- whether the identifier that was taken announces values that are written one by one; false if none
+-- was taken
 abbrev pub is_plain_taken : Taken Kind → Bool
 is_plain_taken nothing = false
 is_plain_taken (taken kind rest) = is_plain kind
@@ -123,8 +124,8 @@ pub record IsReadPlain (s : Settings) (old new : Cursor) (values : List ℕ) : T
   pub plain : is_plain_body set.body ≡ true
   pub read : IsReadAs s false old new set (Single (block_of_values None values))
 
--- a plain coded data set with a reference sample of this pattern is read, and the cursor moves past
--- it. These are the values of its block, with 0 in the reference place, none of them above 2^n - 1
+-- A plain coded data set with a reference sample of this pattern is read, and the cursor moves past
+-- it. `values` are those of its block, with 0 in the reference place, none of them above 2^n - 1.
 pub record IsReadFirst (s : Settings) (old new : Cursor) (pattern : ℕ) (values : List ℕ) : Type 0 where
   pub set : CodedDataSet
   pub plain : is_plain_body set.body ≡ true

@@ -37,7 +37,7 @@ judged_len s c = when (has_small_values s c) (set_len c)
 abbrev pub judged_body_len : Settings → Option ℕ → Body → Option RunLen
 judged_body_len s reference body = judged_len s (set_of reference body)
 
--- the coded data set c, whose values are at most 2^n - 1, is skipped as `IsReadAs` has it, and
+-- the coded data set c, whose values are at most 2^n - 1, is skipped as in `IsReadAs`, and
 -- stands for `len` blocks (the code reads values only where it must judge each)
 pub record IsSkippedAs (s : Settings) (is_reference : Bool) (old new : Cursor) (c : CodedDataSet)
     (len : RunLen) : Type 0 where

@@ -1,5 +1,4 @@
--- Lists of samples and of the values that stand for them: places for both, and samples taken back
--- from values, one after the other.
+-- Lists of samples and of their values: lists of equal length for both, and the samples of values.
 use Rattle.std.specs.Prelude.{◌≡◌, ℕ, ◌^◌, ◌<◌, ◌≤◌, true, ℤ, pos, ◌+ℤ◌, List, [], ◌++◌, Some, length}
 use Rattle.std.specs.List.{AllByRecursion, last_or}
 use Rattle.aec_params.specs.declared.settings.Settings.{Settings}
@@ -7,16 +6,16 @@ use Rattle.aec_params.specs.Params.{IsHeld, x_min}
 use Rattle.aec_params.specs.Mapping.{mapped_value, mapped_after}
 use Rattle.aec_block.specs.Offsets.{top_offset}
 
--- new samples are the old ones and those that values stand for, the first of them predicted from p
--- (held samples whose mapped values are these, where the code undoes the mapping)
+-- `new` is `old` followed by the samples whose mapped values are `values`, the first of them
+-- predicted from p (stated by the mapping, where the code inverts it)
 pub record Unmaps (s : Settings) (p : ℤ) (values : List ℕ) (old new : List ℤ) : Type 0 where
   pub more : List ℤ
   pub appended : new ≡ old ++ more
   pub held : AllByRecursion (IsHeld s) more
   pub mapped : mapped_after s p more ≡ values
 
--- new samples are the old ones and those that values stand for, the first of them predicted from p;
--- `last` is the last of them, or p if there are none
+-- `new` is `old` followed by the samples whose mapped values are `values`, the first of them
+-- predicted from p; `last` is the last of them, or p if there are none
 pub record UnmapsTo (s : Settings) (p last : ℤ) (values : List ℕ) (old new : List ℤ) : Type 0 where
   pub so_far : Unmaps s p values old new
   pub last_is : last_or (Some p) so_far.more ≡ Some last
@@ -37,20 +36,20 @@ pub record HaveSamplePlaces (s : Settings) (values : List ℕ) (places : List �
   pub mapped : AllByRecursion (λ v. v < 2 ^ s.bits) values
   pub len : length places ≡ length values
 
--- the samples of values are put in the places of others, the first of them predicted from p
+-- the samples of values, the first of them predicted from p, replace those of a list, one for one
 pub record PutsSamples (s : Settings) (p : ℤ) (values : List ℕ) (old new : List ℤ) : Type 0 where
   pub items : Unmaps s p values [] new
   pub len : length new ≡ length old
 
--- with preprocessing, values that stand for samples after the one at an offset, and a list of equal
--- length for these
+-- with preprocessing: the offset of a sample to predict from, values of n bits, and a list of equal
+-- length for their samples
 pub record CanUnmap (s : Settings) (offset : ℕ) (values : List ℕ) (places : List ℤ) : Type 0 where
   pub on : s.preprocess ≡ true
   pub within : offset ≤ top_offset s
   pub fits : HaveSamplePlaces s values places
 
--- the samples of values are put in the places of others, predicted from the sample at one offset;
--- the last of them lies at another
+-- the samples of values, the first of them predicted from the sample at offset `first`, replace
+-- those of a list, one for one; the last of them is at offset `last`
 pub record PutsUnmapped (s : Settings) (first last : ℕ) (values : List ℕ) (old new : List ℤ) : Type 0 where
   pub within : last ≤ top_offset s
   pub items : UnmapsTo s (x_min s +ℤ pos first) (x_min s +ℤ pos last) values [] new

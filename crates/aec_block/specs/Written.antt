@@ -57,7 +57,8 @@ split_parts k values = high_parts k values ++ low_parts k values
 abbrev pub shortest_bits : Settings → Block → List Bool
 shortest_bits s b = cds_bits s (shortest_spelling s b)
 
--- the bits of a run of z zero blocks, which ends its segment or not (a whole list, likewise)
+-- the bits of a run of z zero blocks, which ends its segment or not (a whole list, where the code
+-- appends part by part into reserved room)
 abbrev pub run_bits : Settings → Option ℕ → ℕ → Bool → List Bool
 run_bits s reference z is_last = cds_bits s (record { reference = reference; body = zero_blocks (run_code z is_last) })
 
@@ -70,9 +71,9 @@ pub record Adds (added : List Bool) (old new : Bits) : Type 0 where
   pub list : new.list ≡ old.list ++ added
   pub room : old.room ≤ new.room + length added
 
--- Bits are gathered, those that were held before among them: the new list, with the bits that are
--- held now after it, is the old list with the gathered bits after it. The room shrinks by at most
--- the number of bits that were appended.
+-- Bits are gathered, which include those that were held before: the new list followed by the bits
+-- that are held now is the old list followed by the gathered bits. The room shrinks by at most the
+-- number of bits that were appended.
 pub record GathersBits (gathered : List Bool) (old : Bits) (held : List Bool) (new : Bits) : Type 0 where
   pub list : new.list ++ held ≡ old.list ++ gathered
   pub room : old.room + length held ≤ new.room + length gathered

@@ -1,17 +1,17 @@
-//! What one coded data set stands for.
+//! What one coded data set decodes to.
 
 use crate::block::Block;
 
-/// The number of zero blocks that a run stands for.
+/// The number of zero blocks in a run.
 #[derive(Clone, Copy, Debug, PartialEq, Eq)]
 pub enum RunLen {
-    /// This many.
+    /// This number of blocks.
     Blocks(u64),
-    /// All that the segment has left: the remainder code.
+    /// All blocks that the segment has left: the remainder code.
     Rest,
 }
 
-/// One coded data set.
+/// What a coded data set decodes to: one block, or a run of zero blocks.
 #[derive(Debug, Drop)]
 pub enum Cds {
     /// One block, by any option.
@@ -20,13 +20,13 @@ pub enum Cds {
     Zeros { reference: Option<u32>, len: RunLen },
 }
 
-/// A coded data set that was read into a block.
+/// What a coded data set that was read into a block decodes to.
 #[derive(Clone, Copy, Debug, PartialEq, Eq)]
 pub enum Found {
-    /// One block, by any option: the block that it was read into.
+    /// One block, by any option: the block that was passed to the call.
     Single,
     /// A run of zero blocks; the first has the reference sample if there is one. The contents of
-    /// the lent block are unspecified.
+    /// the block that was passed to the call are unspecified.
     Zeros { reference: Option<u32>, len: RunLen },
 }
 
@@ -36,7 +36,7 @@ impl Found {
     ghost use Rattle.aec_block.specs.ReadCds.{as_cds};
     ghost use Rattle.aec_block.specs.SkipCds.{read_len};
 
-    /// Returns how many blocks the coded data set stands for.
+    /// Returns how many blocks the coded data set decodes to.
     pub fn stands_for(self) -> RunLen
         ensures { (values : Values) → result ≡ read_len (as_cds self values) }
     {

@@ -12,7 +12,7 @@ pub fn what_is_read_is_spelled()
     ensures { WhatIsReadIsSpelled }
 {}
 
-/// Nothing is read exactly where no coded data set begins.
+/// Reading takes nothing exactly if no coded data set begins the bits.
 pub fn nothing_is_read_where_none_begins()
     ensures { NothingIsReadWhereNoneBegins }
 {}
@@ -28,8 +28,8 @@ pub fn one_set_stands()
     ensures { OneSetStands }
 {}
 
-/// No coded data set that stands for a block by a single option is shorter than the block's
-/// shortest spelling, also with any first member of a reference pair.
+/// No coded data set of a block by a single option is shorter than the block's shortest spelling,
+/// whatever the first member of a reference pair is.
 pub fn no_option_is_shorter()
     ensures { NoOptionIsShorter }
 {}

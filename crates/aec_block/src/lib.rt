@@ -19,7 +19,7 @@ pub use choice::{Choice, Coding};
 pub use mapping::mapped_blocks::{map_first, map_list};
 pub use mapping::unmapping::unmap_into;
 pub use mapping::{map, unmap};
-pub use reading::plain::{comes_plain, read_plain, read_plain_first};
+pub use reading::plain::{is_plain_next, read_plain, read_plain_first};
 pub use reading::runs::read_run;
 pub use reading::{read_cds, read_into};
 pub use shortest::write_shortest_of;

@@ -100,7 +100,7 @@ fn run_len_of(number: u64) -> RunLen
     }
 }
 
-/// Returns one block, if its values fit.
+/// Returns `Single` if the block's values fit.
 fn single(fit: bool) -> Option<Found>
     ensures { result ≡ when fit Single }
 {

@@ -127,9 +127,9 @@ fn put_low_parts(values: &[u32], width: u32, gathered: Gathered, out: &mut BitBu
     put_each_low_part(values, width, gathered, out)
 }
 
-/// Gathers the values of a block that are written one by one, split at bit `k`: first their
-/// codewords without the `k` low bits, `len` bits in all, then the low bits. Seven values after a
-/// reference have code of their own.
+/// Gathers the values of a block that are written one by one, split at bit `k`: first the codewords
+/// of the values without their `k` low bits, `len` bits in all, then the low bits. Seven values
+/// after a reference have code of their own.
 #[inline(always)]
 #[tactic(auto, using(crate::proofs::WritingLemmas::both))]
 fn put_written(
@@ -165,7 +165,7 @@ fn put_pairs(values: &[u32], mut gathered: Gathered, out: &mut BitBuf) -> Gather
     gathered
 }
 
-/// Appends a block as it is, for which there is room.
+/// Appends a block by no compression, for which there is room.
 #[tactic(auto, using(crate::proofs::WritingLemmas::parts))]
 #[inline(always)]
 fn put_uncompressed(
@@ -249,10 +249,9 @@ pub(crate) const WITHOUT_REFERENCE: usize = 1;
 /// The copy for blocks of a known number of values with a reference.
 pub(crate) const WITH_REFERENCE: usize = 2;
 
-/// Appends the coded data set of a block by the option of `choose`. The values after the reference
-/// place are given too. Fails with `Memory` if an allocation fails. `N` and `COPY` are for the
-/// compiler alone: it inlines this much code only into a single caller, so each caller has its own
-/// copy.
+/// Appends the coded data set of a block by the chosen option. `values` are those that are written
+/// one by one. Fails with `Memory` if an allocation fails. `N` and `COPY` are for the compiler
+/// alone: it inlines this much code only into a single caller, so each caller has its own copy.
 #[inline(always)]
 pub(crate) fn write_values<const N: usize, const COPY: usize>(
     params: &Params,
@@ -271,17 +270,17 @@ pub(crate) fn write_values<const N: usize, const COPY: usize>(
         Coding::NoCompression => put_uncompressed(params, id_len, block, values, out),
         Coding::SecondExtension => {
             let own = *params;
-            let lent = BlockRef::new(block.reference(), block.values());
-            put_paired(&own, id_len, &lent, out);
+            let own_block = BlockRef::new(block.reference(), block.values());
+            put_paired(&own, id_len, &own_block, out);
         },
         Coding::Split(k) => put_split(params, id_len, block, values, k, choice.bits, out),
     }
     Ok(())
 }
 
-/// Appends the coded data set of a block that is in no run, by the option of `choose`. Fails with
-/// `Memory` if an allocation fails, never if there is room for the coded data set; nothing is then
-/// changed.
+/// Appends the coded data set of a block that is in no run, by the option that `choose` returned.
+/// Fails with `Memory` if an allocation fails, never if there is room for the coded data set;
+/// nothing is then changed.
 pub fn write_block(
     params: &Params,
     block: &Block,
@@ -292,8 +291,8 @@ pub fn write_block(
     requires choice { IsChoice params.now block.now choice }
     ensures { Appends (shortest_bits params.now block.now) out.old result out.new }
 {
-    let lent = block.lent();
-    write_values::<0, OF_ANY_BLOCK>(params, params.id_len(), &lent, lent.written(), choice, out)
+    let view = block.as_ref();
+    write_values::<0, OF_ANY_BLOCK>(params, params.id_len(), &view, view.written(), choice, out)
 }
 
 /// Returns the number that the code of a run of `z` blocks spells: 4, the remainder code, for a run

@@ -39,7 +39,8 @@ opened_for n old e (Done coded) = opened_intervals n old e
 opened_for n old e (Refused Memory) = opened_intervals n old e
 opened_for n old e (Refused fault) = 0
 
--- how many intervals edits with these outcomes may decode (a sum, likewise)
+-- how many intervals edits with these outcomes may decode (a sum over the outcomes, where the code
+-- counts in the codec)
 abbrev pub all_opened : ℕ → List ℤ → List Edit → List Outcome → ℕ
 all_opened n s [] outcomes = 0
 all_opened n s (e ∷ edits) [] = 0

@@ -52,7 +52,7 @@ fed c piece = record {
 }
 
 -- the bits that a piece adds: the code of the intervals that are complete with it (of the whole
--- piece, likewise)
+-- piece, where the code takes it in parts)
 abbrev pub fed_bits : Coder → List ℕ → List Bool
 fed_bits c piece = stream_of c.settings (whole_front (interval_len c.settings) (samples_with c piece))
 

@@ -12,8 +12,8 @@ abbrev pub binary : ℕ → ℕ → List Bool
 binary zero v = []
 binary (suc w) v = (v / 2 ^ w % 2 == 1) ∷ binary w v
 
--- the number that bits spell, the most significant first (§5, backwards; a sum of powers, where the
--- code shifts words)
+-- the number that bits spell, the most significant first: the inverse of `binary` (§5; a sum of
+-- powers, where the code shifts words)
 abbrev pub bits_number : List Bool → ℕ
 bits_number [] = 0
 bits_number (b ∷ bits) = cond b (2 ^ length bits) 0 + bits_number bits
@@ -28,8 +28,8 @@ padded_to_byte bits = bits ++ replicate (up_to_multiple 8 (length bits)) false
 abbrev pub bytes_of : List Bool → List ℕ
 bytes_of bits = map bits_number (pieces_of 8 (padded_to_byte bits))
 
--- the bits of bytes (§10, backwards; the code joins eight bytes to a word. They undo `bytes_of`, up
--- to its padding: law `bytes_are_bits`)
+-- the bits of bytes: up to padding the inverse of `bytes_of`, by the law `bytes_are_bits` (§10;
+-- byte by byte, where the code joins eight bytes to a word)
 abbrev pub bits_of_bytes : List ℕ → List Bool
 bits_of_bytes [] = []
 bits_of_bytes (b ∷ bytes) = binary 8 b ++ bits_of_bytes bytes

@@ -68,19 +68,20 @@ pub record Exchange : Type 0 where
 abbrev pub count_after : Exchange → ℕ
 count_after x = x.gone.first + x.fresh + (x.old - x.gone.stop)
 
--- where the sample that is at a place after an exchange was before it: nowhere if it is new
+-- the place before an exchange of the sample that is at `place` after it; none if the sample is new
 abbrev pub stood_at : Exchange → ℕ → Option ℕ
 stood_at x place =
     if nat_lt place x.gone.first then Some place
     else (if nat_lt place (x.gone.first + x.fresh) then None else Some (place - (x.gone.first + x.fresh) + x.gone.stop))
 
--- interval k of n samples after an exchange is interval i from before it, sample by sample
+-- interval k of n samples after an exchange has exactly the samples of interval i before it, in the
+-- same order
 pub record IsFromBefore (n : ℕ) (x : Exchange) (k i : ℕ) : Type 0 where
   pub count : min (k * n + n) (count_after x) - k * n ≡ min (i * n + n) x.old - i * n
   pub each : (j : ℕ) → k * n + j < min (k * n + n) (count_after x) → stood_at x (k * n + j) ≡ Some (i * n + j)
 
--- an interval after an exchange is one of the given ones and did not exist before it; or it is none
--- of them and did
+-- interval k after an exchange is among the given intervals exactly if no interval before the
+-- exchange has its samples
 pub record IsNewIfOneOf (n : ℕ) (x : Exchange) (intervals : List ℕ) (k : ℕ) : Type 0 where
   pub one : list_any (λ i. i == k) intervals ≡ true → (i : ℕ) → IsFromBefore n x k i → ⊥
   pub none : list_any (λ i. i == k) intervals ≡ false → (i : ℕ) × IsFromBefore n x k i
@@ -95,8 +96,8 @@ pub record MovesCodeWhatIsNew : Type 0 where
       → IsNewIfOneOf n (record { old = old; gone = record { first = first; stop = first + len }; fresh = 0 })
       (moved_intervals n len (old - len) (record { first = first; stop = first })) k
 
--- an interval before an exchange is one of the given ones and no longer exists after it; or it is
--- none of them and does
+-- interval i before an exchange is among the given intervals exactly if no interval after the
+-- exchange has its samples
 pub record IsLostIfOneOf (n : ℕ) (x : Exchange) (intervals : List ℕ) (i : ℕ) : Type 0 where
   pub one : list_any (λ k. k == i) intervals ≡ true → (k : ℕ) → IsFromBefore n x k i → ⊥
   pub none : list_any (λ k. k == i) intervals ≡ false → (k : ℕ) × IsFromBefore n x k i
@@ -127,8 +128,8 @@ pub record MovesOpenFew : Type 0 where
   pub removed : (n old first len : ℕ) → 0 < n → first + len ≤ old
       → opened_intervals n old (Remove first len) ≤ needed_calls n old (Remove first len) + 2
 
--- an insertion of no values and a removal of none code nothing, nor does a removal of whole
--- intervals, or from the beginning of one to the end
+-- These code nothing: an insertion of no values, a removal of no samples, a removal of whole
+-- intervals, and a removal from the beginning of an interval to the end of the samples
 pub record MovesCodeNothing : Type 0 where
   pub inserted : (n old first : ℕ) → needed_calls n old (Insert first []) ≡ 0
   pub removed : (n old first : ℕ) → needed_calls n old (Remove first 0) ≡ 0

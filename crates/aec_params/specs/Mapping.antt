@@ -4,14 +4,15 @@ use Rattle.std.specs.Int.{int_min}
 use Rattle.aec_params.specs.declared.settings.Settings.{Settings}
 use Rattle.aec_params.specs.Params.{x_min, x_max, sample_pattern}
 
--- how far samples can lie to either side of a prediction p (§4; whole numbers with sign, while the
+-- how far samples can lie to either side of a prediction p (§4; whole numbers with sign, where the
 -- code has 32-bit offsets from the least sample)
 abbrev pub room_around : Settings → ℤ → ℤ
 room_around s p = int_min (p -ℤ x_min s) (x_max s -ℤ p)
 
 -- the prediction error d of a sample as a number without sign, t being the room around the
 -- prediction: differences within t alternate between both sides, and larger ones are numbered after
--- them (§4; numbers as in `room_around`. Undoing has no definition: `unmap` is stated by this one)
+-- them (§4; numbers as in `room_around`. The inverse has no definition: the contract of `unmap`
+-- cites this one)
 abbrev pub mapped_error : ℤ → ℤ → ℕ
 mapped_error t d =
     if int_le (pos 0) d && int_le d t then 2 * nat_abs d

@@ -91,8 +91,9 @@ abbrev pub sample_pattern : Settings → ℤ → ℕ
 sample_pattern s (pos m) = m
 sample_pattern s (negsuc m) = 2 ^ s.bits - (m + 1)
 
--- the sample of a pattern; if samples are signed, the upper half of the patterns is negative (§1,
--- backwards; the law `samples_are_values` says that patterns are one-to-one)
+-- the sample of a pattern, the inverse of `sample_pattern`: if samples are signed, the patterns of
+-- the upper half are those of negative samples (§1; the law `samples_are_values` says that patterns
+-- are one-to-one)
 abbrev pub pattern_value : Settings → ℕ → ℤ
 pattern_value s u = if s.signed && nat_le (2 ^ (s.bits - 1)) u then pos u -ℤ pos (2 ^ s.bits) else pos u
 

@@ -8,7 +8,7 @@ use Rattle.aec_params.specs.declared.fault.Fault.TheVariants.{SampleRange, Memor
 use Rattle.aec_params.specs.Params.{storage_len, pattern_value}
 
 -- the number that all bits of a sample's bytes spell: the unused bits are 0 if unsigned, and copies
--- of the sign if signed (§2; by the sign, while the code takes a remainder)
+-- of the sign if signed (§2; by the sign, where the code takes a remainder)
 abbrev pub stored_number : Settings → ℤ → ℕ
 stored_number s (pos m) = m
 stored_number s (negsuc m) = 2 ^ (8 * storage_len s) - (m + 1)
@@ -20,7 +20,7 @@ stored_bytes s x =
     if s.msb_first then big_bytes (storage_len s) (stored_number s x)
     else little_bytes (storage_len s) (stored_number s x)
 
--- the number in the bytes of one sample (§2, backwards)
+-- the number that the bytes of one sample spell: the inverse of how `stored_bytes` writes one (§2)
 abbrev pub number_in : Settings → List ℕ → ℕ
 number_in s bytes =
     if s.msb_first then big_number (storage_len s) bytes else little_number (storage_len s) bytes
@@ -38,12 +38,12 @@ sample_of_number s u =
     if nat_lt u (2 ^ s.bits) then Some (pattern_value s u)
     else (if s.signed && has_sign_above s u then Some (pattern_value s (u % 2 ^ s.bits)) else None)
 
--- the whole groups of bytes that hold a sample each; what is left over at the end is in none (§2;
--- the list of groups, where the code walks over pieces of a slice)
+-- the groups of bytes that hold one sample each; bytes at the end that fill no group are in none
+-- (§2; the list of groups, where the code walks over pieces of a slice)
 abbrev pub byte_groups : Settings → List ℕ → List (List ℕ)
 byte_groups s bytes = first_chunks (storage_len s) (length bytes / storage_len s) bytes
 
--- a sample put before the later samples; where there is none, its index i is the result (§2)
+-- a sample before later samples; if the sample is missing, its index i is the result (§2)
 abbrev pub sample_before : Option ℤ → ℕ → Result (List ℤ) ℕ → Result (List ℤ) ℕ
 sample_before None i later = Err i
 sample_before (Some x) i (Ok xs) = Ok (x ∷ xs)
@@ -55,18 +55,19 @@ abbrev pub samples_of_groups : Settings → ℕ → List (List ℕ) → Result (
 samples_of_groups s i [] = Ok []
 samples_of_groups s i (g ∷ gs) = sample_before (sample_of_number s (number_in s g)) i (samples_of_groups s (i + 1) gs)
 
--- the samples that bytes are, or the index of the first that is no sample (§2; one function with
--- both answers, where the code goes over the bytes twice, to judge and to take)
+-- the samples that bytes hold, or the index of the first group that is no sample (§2; one function
+-- with both results, where the code goes over the bytes twice: to check them, then to read them)
 abbrev pub samples_of_bytes : Settings → List ℕ → Result (List ℤ) ℕ
 samples_of_bytes s bytes = samples_of_groups s 0 (byte_groups s bytes)
 
--- given samples, and after them those of the bytes; or the index of a bad one
+-- given samples followed by those of the bytes, or the index of the first group that is no sample
 abbrev pub samples_behind : List ℤ → Result (List ℤ) ℕ → Result (List ℤ) ℕ
 samples_behind xs (Ok ys) = Ok (xs ++ ys)
 samples_behind xs (Err k) = Err k
 
--- What a call that reads stored samples returns: all samples (`view` gives the list that was made
--- of them), or `Memory`; but if one isn't allowed by the settings, its index, never `Memory`. (§2)
+-- What a call that reads stored samples returns. If all are samples of the settings: a value of
+-- which `view` is their list, or `Memory`. Else `SampleRange` with the index of the first that is
+-- none, never `Memory`. (§2)
 abbrev pub AnswersSamples : {X : Type 0} → (X → List ℤ) → Result (List ℤ) ℕ → Result X Fault → Type 0
 AnswersSamples view (Ok xs) (Ok answer) = view answer ≡ xs
 AnswersSamples view (Ok xs) (Err e) = e ≡ Memory

@@ -19,7 +19,8 @@ pub enum Fault {
     /// The restricted set of code options is asked for with more than 4 bits per sample.
     #[error("restricted codes need 4 bits per sample or fewer")]
     RestrictedWidth,
-    /// The first sample that the parameters do not hold, counted from 0.
+    /// A number is no sample of these parameters; the first such number is at place `index`,
+    /// counted from 0.
     #[error("sample {index} is out of range")]
     SampleRange { index: u64 },
     /// A coded data set runs off the end of the stream.
@@ -37,11 +38,11 @@ pub enum Fault {
     /// A place is outside the samples that are present.
     #[error("position outside the {count} samples")]
     OutOfRange { count: u64 },
-    /// An interval, or an edit that fits, needs more calls of the interval coder than are left up
-    /// to `u64::MAX`. No call is made.
+    /// The codec's count of coded intervals would exceed `u64::MAX`. Returned before any interval
+    /// is coded.
     #[error("coder calls are spent")]
     Spent,
-    /// A growth was refused.
+    /// An allocation failed, or a list of bits would have more than 2^62 bits.
     #[error("out of memory")]
     Memory,
     /// The source failed.
@@ -50,7 +51,7 @@ pub enum Fault {
     /// The sink failed.
     #[error("write failed")]
     Write,
-    /// The first line of a script that is no edit, counted from 1.
+    /// A line of a script is no edit; the first such line is `line`, counted from 1.
     #[error("script line {line} is not an edit")]
     Script { line: u64 },
     /// A coded input or a script is longer than the limit.

@@ -10,8 +10,8 @@ use crate::params::Params;
 use crate::stored::sample_of;
 use byteorder::{BigEndian, ByteOrder, LittleEndian};
 
-/// Returns the index of the first sample whose unused bits are not what its width allows. Allocates
-/// nothing.
+/// Returns the index of the first sample whose unused bits are not what its width allows; `None` if
+/// no sample is such. Allocates nothing.
 pub fn first_bad(params: &Params, bytes: &[u8]) -> Option<u64>
     ensures { result ≡ result_err (samples_of_bytes params.now bytes.now) }
 {

@@ -18,12 +18,14 @@ pub fn codewords_have_their_lengths()
     ensures { CodewordLengths }
 {}
 
-/// Numbers in binary are read back, and bits are spelled again from their number.
+/// A number below 2^w is read back from its w bits, and a list of bits is spelled again from its
+/// number.
 pub fn binary_numbers_are_read_back()
     ensures { BinaryNumbersAreReadBack }
 {}
 
-/// Lists of codewords differ as their codewords do, whatever bits follow them.
+/// If codewords determine what they code, so do lists of equally many codewords, whatever bits
+/// follow them.
 pub fn lists_of_codewords_differ<X, K>()
     ensures { ListsAreTold X K }
 {}
@@ -76,7 +78,9 @@ pub fn edits_touch_few()
     ensures { EditsTouchFew }
 {}
 
-/// States how many intervals an insertion and a removal code and open, by lengths alone.
+/// States how many intervals an insertion and a removal code and open, by lengths alone. Exception:
+/// if a removal's length is no multiple of an interval's, the intervals that it opens are counted
+/// in their list.
 pub fn moves_by_length()
     ensures { MovesByLength }
 {}

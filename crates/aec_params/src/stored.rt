@@ -17,10 +17,10 @@ pub fn sample_of(params: &Params, group: &[u8]) -> Option<i64>
 {
     let number = number_of(params, group);
     if number < 1u64 << params.bits() {
-        return Some(params.value(number as u32));
+        return Some(params.sample_of_pattern(number as u32));
     }
     if params.signed() && has_sign_bits(params, number) {
-        return Some(low_value(params, number));
+        return Some(low_sample(params, number));
     }
     None
 }
@@ -48,14 +48,14 @@ fn has_sign_bits(params: &Params, number: u64) -> bool
 }
 
 /// Returns the sample whose pattern is the low n bits of a number.
-pub(crate) fn low_value(params: &Params, number: u64) -> i64
+pub(crate) fn low_sample(params: &Params, number: u64) -> i64
     ensures value { result ≡ pattern_value params.now (number % 2 ^ params.now.bits) }
     ensures held { IsHeld params.now result }
 {
-    params.value((number % (1u64 << params.bits())) as u32)
+    params.sample_of_pattern((number % (1u64 << params.bits())) as u32)
 }
 
-/// Returns a sample in all bits of its bytes, as an unsigned number.
+/// Returns the number that all bits of a sample's bytes spell.
 fn full_width(params: &Params, x: i64) -> u64
     requires { IsHeld params.now x }
     ensures value { result ≡ stored_number params.now x }

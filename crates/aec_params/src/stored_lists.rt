@@ -13,7 +13,7 @@ use crate::fault::Fault;
 use crate::judging::first_bad;
 use crate::numbers::{first_number, put_number};
 use crate::params::Params;
-use crate::stored::low_value;
+use crate::stored::low_sample;
 use byteorder::{BigEndian, ByteOrder, LittleEndian};
 use std::alloc::Global;
 
@@ -117,28 +117,28 @@ fn load_each<T: ByteOrder>(params: &Params, bytes: &[u8], width: usize, out: &mu
 {
     let params = *params;
     for i in 0..out.len() {
-        out[i] = value_of(&params, first_number::<T>(&bytes[width * i..], width));
+        out[i] = loaded_sample(&params, first_number::<T>(&bytes[width * i..], width));
     }
 }
 
 /// Returns the sample whose pattern is the low n bits of a number of at most four bytes.
 #[inline(always)]
-fn value_of(params: &Params, number: u64) -> i64
+fn loaded_sample(params: &Params, number: u64) -> i64
     requires { number < 2 ^ 32 }
     ensures value { result ≡ pattern_value params.now (number % 2 ^ params.now.bits) }
     ensures held { IsHeld params.now result }
 {
     if params.signed() {
-        signed_value_of(params, number)
+        loaded_signed_sample(params, number)
     } else {
-        low_value(params, number)
+        low_sample(params, number)
     }
 }
 
-/// `value_of` for signed samples, without a branch on the sign: adds half the number of patterns
-/// before it takes the low bits, and subtracts it again.
+/// `loaded_sample` for signed samples, without a branch on the sign: adds half the number of
+/// patterns before it takes the low bits, and subtracts it again.
 #[inline(always)]
-fn signed_value_of(params: &Params, number: u64) -> i64
+fn loaded_signed_sample(params: &Params, number: u64) -> i64
     requires signed { params.now.signed ≡ true }
     requires few { number < 2 ^ 32 }
     ensures value { result ≡ pattern_value params.now (number % 2 ^ params.now.bits) }

@@ -8,8 +8,8 @@ ghost use Rattle.aec_bits.specs.Ones.{HasNthOne};
 
 use crate::bit_buf::BitBuf;
 
-/// Bits of a word, as a number, in which the `nth` one is sought, and how many places of the word
-/// come before these bits.
+/// A part of a word: its bits as a number, which of its 1 bits is searched (`nth`, counted from 1),
+/// and the number of the word's bits before this part.
 #[derive(Clone, Copy)]
 struct Stretch {
     bits: u64,
@@ -17,7 +17,7 @@ struct Stretch {
     before: u32,
 }
 
-/// Returns the half of a stretch, of `width` bits, that contains the 1 bit that is sought.
+/// Returns the half of a part, of `width` bits, that contains the 1 bit that is searched.
 #[inline(always)]
 fn half_with_one(stretch: Stretch, width: u32) -> Stretch
     requires width { width ≤ 32 }

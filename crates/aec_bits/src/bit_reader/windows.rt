@@ -176,16 +176,11 @@ pub(crate) fn sequences_from(buf: &BitBuf, start: u64, numbers: &mut [u32]) -> O
 {
     let mut window = window_from(buf, start);
     for i in 0..numbers.len() / 8 {
-        match next_sequences(buf, window, &mut numbers[8 * i..8 * i + 8]) {
-            None => return None,
-            Some(next) => window = next,
-        }
+        window = next_sequences(buf, window, &mut numbers[8 * i..8 * i + 8])?;
     }
     let done = 8 * (numbers.len() / 8);
-    match next_sequences(buf, window, &mut numbers[done..]) {
-        None => None,
-        Some(next) => Some(place_of(next)),
-    }
+    let after = next_sequences(buf, window, &mut numbers[done..])?;
+    Some(place_of(after))
 }
 
 /// Returns the number that the first `width` bits of a window spell, and what is left after them.

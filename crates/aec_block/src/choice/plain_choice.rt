@@ -43,16 +43,16 @@ pub fn choose(params: &Params, block: &Block) -> Choice
     ensures { IsChoice params.now block.now result }
 {
     let id_len = params.id_len();
-    let lent = block.lent();
-    let values = lent.written();
+    let view = block.as_ref();
+    let values = view.written();
     let uncompressed = Choice {
         coding: Coding::NoCompression,
-        bits: uncompressed_len(params, id_len, &lent, values),
+        bits: uncompressed_len(params, id_len, &view, values),
     };
-    let best = shorter_of_pairs(params, id_len, &lent, uncompressed);
+    let best = shorter_of_pairs(params, id_len, &view, uncompressed);
     let options = split_options(params, id_len);
     if options == 0 {
         return best;
     }
-    shorter_of_split(params, id_len, &lent, best, first_best(values, options))
+    shorter_of_split(params, id_len, &view, best, first_best(values, options))
 }

@@ -3,7 +3,7 @@
 ghost use Rattle.std.specs.Prelude.{◌≡◌, ◌+◌, ◌*◌, ◌^◌, ◌<◌, ◌≤◌, ℕ, nat_lt, length};
 ghost use Rattle.std.specs.List.{AllByRecursion};
 ghost use Rattle.aec_block.specs.BlockShape.{most_values};
-ghost use Rattle.aec_block.specs.Lengths.{sum_of_shifted, IsSum, AreFewBelow, HaveEqualSums, BeginsAt, IsBestSplit, IsSplitLen};
+ghost use Rattle.aec_block.specs.Lengths.{sum_of_shifted, IsSum, AreFewBelow, HaveEqualSums, IsFirstK, IsBestSplit, IsSplitLen};
 
 use crate::choice::sums::shifted_sum;
 use crate::choice::sums_of_three::{small_shifted_sum, three_sums};
@@ -73,7 +73,7 @@ fn first_k(sum: u64, count: u64, last: u32) -> u32
     requires count { count ≤ most_values }
     requires none { count ≡ 0 → sum ≡ 0 }
     requires last { last < 32 }
-    ensures { BeginsAt sum count last result }
+    ensures { IsFirstK sum count last result }
 {
     let near = near_first(sum, count);
     if near >= last {
@@ -144,11 +144,11 @@ fn best_of_three(all: &[u32], values: &[u32], first: u32) -> Splitting
 /// Returns the k below `options` with which values below `2^bits` have the fewest bits, and of
 /// equal ones the least. Without options returns 0, which no clause says.
 ///
-/// The sum of the values without their low bits falls at least by half with each k, so what one
-/// more low bit gains never grows: after the first k whose successor isn't shorter, no later k is
-/// shorter. The sum of the values determines the k to begin with; if two further k exist after that
-/// one, they are enough. The sums are those of `all`: a 0 in the reference place adds nothing, and
-/// with it the values fill lanes.
+/// The sum of the values without their low bits at least halves with each k, so one more low bit
+/// never gains more than the one before it: after the first k whose successor isn't shorter, no
+/// later k is shorter. The sum of the values determines the k to begin with; if two further k exist
+/// after that one, they are enough. The sums are those of `all`: a 0 in the reference place adds
+/// nothing, and with it the values fill lanes.
 #[inline(always)]
 pub(crate) fn best_split(all: &[u32], values: &[u32], bits: u32, options: u32) -> Splitting
     requires below { AllByRecursion (λ v. v < 2 ^ bits) all.now }

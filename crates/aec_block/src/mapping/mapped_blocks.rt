@@ -1,4 +1,4 @@
-//! Maps samples into a list of values, overwriting what it held.
+//! Maps samples to values, overwriting a list of values.
 
 ghost use Rattle.std.specs.Prelude.{◌≡◌, ◌<◌, ◌≤◌, ◌∷◌, true, length, map as list_map};
 ghost use Rattle.std.specs.List.{AllByRecursion};

@@ -112,13 +112,13 @@ fn put_offsets(params: &Params, previous: i64, values: &[u32], samples: &mut [i6
 }
 
 /// Puts the samples of patterns into `samples`.
-fn put_values(params: &Params, patterns: &[u32], samples: &mut [i64])
+fn put_patterns(params: &Params, patterns: &[u32], samples: &mut [i64])
     requires off { params.now.preprocess ≡ false }
     requires values { HaveSamplePlaces params.now patterns.now samples.old }
     ensures { (p : ℤ) → PutsSamples params.now p patterns.now samples.old samples.new }
 {
     for i in 0..patterns.len() {
-        samples[i] = params.value(patterns[i]);
+        samples[i] = params.sample_of_pattern(patterns[i]);
     }
 }
 
@@ -134,6 +134,6 @@ pub fn unmap_into(params: &Params, previous: i64, values: &[u32], samples: &mut 
     if params.preprocess() {
         put_offsets(params, previous, values, samples);
     } else {
-        put_values(params, values, samples);
+        put_patterns(params, values, samples);
     }
 }

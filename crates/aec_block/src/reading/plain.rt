@@ -15,7 +15,7 @@ ghost use Rattle.aec_block.specs.Gathering.{bits_at};
 ghost use Rattle.aec_block.specs.ReadCds.{checked, is_plain_body, begins_plain, HasNoPlain, IsReadPlain, IsReadFirst};
 
 use crate::reading::codewords::read_usual_numbers;
-use crate::reading::values::read_usual_split;
+use crate::reading::values::{IN_FIRST_BLOCKS, read_usual_split};
 use crate::reading::{Kind, read_kind, read_pattern};
 use aec_bits::BitReader;
 use aec_params::{Fault, Params};
@@ -23,7 +23,7 @@ use aec_params::{Fault, Params};
 /// Returns whether the next bits are the identifier of a plain coded data set: one by sample
 /// splitting or no compression, which has its values written one by one.
 #[inline(always)]
-pub fn comes_plain(params: &Params, reader: &mut BitReader) -> bool
+pub fn is_plain_next(params: &Params, reader: &mut BitReader) -> bool
     ensures value { result ≡ begins_plain params.now (bits_at reader.old) }
     ensures stays { reader.new ≡ reader.old }
 {
@@ -37,8 +37,8 @@ pub fn comes_plain(params: &Params, reader: &mut BitReader) -> bool
 /// moves past it, if it is plain and its values are at most the greatest that the width has:
 /// `values` then contains them. Else returns false; the reader then hasn't moved, and the contents
 /// of `values` are unspecified. Allocates nothing. Inlined for blocks of `N` values; other blocks
-/// are read too. Calls with different `COPY` share no code: the compiler inlines a large function
-/// only into its only caller.
+/// are read too. `COPY` is at least 3. Calls with different `COPY` share no code: the compiler
+/// inlines a large function only into its only caller.
 #[inline(always)]
 #[tactic(auto, using(crate::proofs::NoPlainLemmas::none_stands))]
 pub fn read_plain<const N: usize, const COPY: usize>(
@@ -110,7 +110,7 @@ fn fill_first<const M: usize>(
             Ok(Some(pattern))
         }
         Kind::Split(k) => {
-            if !read_usual_split::<M, 2>(params, reader, k, values)? {
+            if !read_usual_split::<M, IN_FIRST_BLOCKS>(params, reader, k, values)? {
                 return Ok(None);
             }
             Ok(Some(pattern))

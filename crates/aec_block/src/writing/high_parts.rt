@@ -9,7 +9,7 @@ use crate::writing::gathered::Gathered;
 use crate::writing::joined_high_parts::{high_word, high_word_len};
 use aec_bits::BitBuf;
 
-/// Gathers each value without its `k` low bits, one by one.
+/// Gathers the codewords of the values without their `k` low bits, one by one.
 fn put_each_high_part(values: &[u32], k: u32, mut gathered: Gathered, out: &mut BitBuf) -> Gathered
     requires k { k < 32 }
     requires room { length (gathered ++ high_parts k values.now) ≤ out.old.room }
@@ -21,8 +21,8 @@ fn put_each_high_part(values: &[u32], k: u32, mut gathered: Gathered, out: &mut 
     gathered
 }
 
-/// Gathers each of a few values without its `k` low bits: as one number if these are fewer than 64
-/// bits, else one by one.
+/// Gathers the codewords of a few values without their `k` low bits: as one number if they have
+/// fewer than 64 bits in all, else one by one.
 fn put_high_group(values: &[u32], k: u32, gathered: Gathered, out: &mut BitBuf) -> Gathered
     requires len { length values.now ≤ most_values }
     requires lanes { FitsLanes k values.now }
@@ -36,8 +36,8 @@ fn put_high_group(values: &[u32], k: u32, gathered: Gathered, out: &mut BitBuf) 
     put_each_high_part(values, k, gathered, out)
 }
 
-/// Gathers each value without its `k` low bits: eight values at a time, and the last few one by
-/// one.
+/// Gathers the codewords of the values without their `k` low bits: eight values at a time, and the
+/// last few one by one.
 fn put_high_groups(values: &[u32], k: u32, mut gathered: Gathered, out: &mut BitBuf) -> Gathered
     requires lanes { FitsLanes k values.now }
     requires room { length (gathered ++ high_parts k values.now) ≤ out.old.room }
@@ -50,7 +50,8 @@ fn put_high_groups(values: &[u32], k: u32, mut gathered: Gathered, out: &mut Bit
     put_each_high_part(&values[whole..], k, gathered, out)
 }
 
-/// Gathers each value without its `k` low bits, which are `len` bits in all.
+/// Gathers the codewords of the values without their `k` low bits; the codewords have `len` bits in
+/// all.
 #[inline(always)]
 pub(crate) fn put_high_parts(
     values: &[u32],

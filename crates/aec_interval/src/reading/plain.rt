@@ -14,7 +14,7 @@ use crate::block_sizes::{IN_LONG_INTERVALS, by_block_size};
 use crate::reading::Wanted;
 use crate::segment::previous_of;
 use aec_bits::BitReader;
-use aec_block::{MOST_VALUES, comes_plain, read_plain, unmap_into};
+use aec_block::{MOST_VALUES, is_plain_next, read_plain, unmap_into};
 use aec_params::Params;
 
 /// Room is made for this many blocks at first, since often no more plain blocks follow.
@@ -177,7 +177,7 @@ pub(crate) fn read_plain_blocks(
     let mut at_once = BLOCKS_AT_FIRST;
     let mut next = block;
     while next < last {
-        if !comes_plain(params, reader) {
+        if !is_plain_next(params, reader) {
             return next;
         }
         let asked = at_once.min((last - next) as usize);

@@ -16,7 +16,7 @@ use crate::reading::plain::fill_plain_blocks;
 use crate::reading::zero_runs::repeated_sample;
 use crate::reading::{Wanted, block_count};
 use aec_bits::BitReader;
-use aec_block::{comes_plain, read_plain, read_plain_first, read_run, unmap_into};
+use aec_block::{is_plain_next, read_plain, read_plain_first, read_run, unmap_into};
 use aec_params::Params;
 
 /// The greatest number of samples that are read at a time.
@@ -52,7 +52,7 @@ fn fill_reference_block<const M: usize>(
     match read_plain_first::<M>(params, reader, values) {
         None => false,
         Some(pattern) => {
-            let first = params.value(pattern);
+            let first = params.sample_of_pattern(pattern);
             let len = values.len();
             unmap_into(params, first, values, &mut samples[..len]);
             true
@@ -284,7 +284,7 @@ fn fill_coming_intervals(
     requires room { most * interval_len params.now ≤ length samples.old }
     ensures { FillsIntervals params.now most reader.old samples.old result reader.new samples.new }
 {
-    if !comes_plain(params, reader) {
+    if !is_plain_next(params, reader) {
         return fill_usual_intervals::<ZEROS>(params, reader, most, samples);
     }
     if params.preprocess() {

@@ -11,11 +11,11 @@ pub loop-i-preserved : goal.loop-i-preserved
 loop-i-preserved g c =
     let s = c.args.params.now in
     let i = c.loop-i.i in
-    let fits : SFits w64 c.value_of.result = search rules in
-    let same = to_z-of_z w64 c.value_of.result fits in
+    let fits : SFits w64 c.loaded_sample.result = search rules in
+    let same = to_z-of_z w64 c.loaded_sample.result fits in
     let number = rw (take_rest c.args.bytes.now (c.args.width * i)) at c.first_number.ensures.value in
-    let value = same ∙ c.value_of.ensures.value ∙ ap (λ u. pattern_value s (u % 2 ^ s.bits)) number in (
+    let value = same ∙ c.loaded_sample.ensures.value ∙ ap (λ u. pattern_value s (u % 2 ^ s.bits)) number in (
       (λ d. read_step (λ b. pattern_value s (g.T.ByteOrder.number_of c.args.width b % 2 ^ s.bits)) c.args.width c.args.bytes.now c.loop-i.out d i _
           (omega arith) value (c.loop-i.invariant.0 d)),
-      placed_step (IsHeld s) c.loop-i.out i _ (omega arith) (subst (IsHeld s) (sym same) c.value_of.ensures.held) c.loop-i.invariant.1,
+      placed_step (IsHeld s) c.loop-i.out i _ (omega arith) (subst (IsHeld s) (sym same) c.loaded_sample.ensures.held) c.loop-i.invariant.1,
     )

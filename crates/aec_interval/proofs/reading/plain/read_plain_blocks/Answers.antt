@@ -51,9 +51,9 @@ loop-next-preserved c =
     (with_items_is c.extend_from_slice.new.self fill.new.samples (fill.ensures.len ∙ c.as_mut_slice-all.ensures.len))) fill.ensures.reads in
     record {
       here = untested_further c.args.params.now c.args.wanted c.untested_end-last.result c.loop-next.next fill.result c.loop-next.reader
-          c.comes_plain.new.reader fill.new.reader _ _ c.comes_plain.ensures.stays inv.here (search rules) read;
+          c.is_plain_next.new.reader fill.new.reader _ _ c.is_plain_next.ensures.stays inv.here (search rules) read;
       held = read.held;
-      list = read.list ∙ (ap (λ (cursor : Cursor). cursor.list) c.comes_plain.ensures.stays ∙ inv.list);
+      list = read.list ∙ (ap (λ (cursor : Cursor). cursor.list) c.is_plain_next.ensures.stays ∙ inv.list);
       forward = search rules;
       within = search rules;
       some = search rules;

@@ -1,6 +1,6 @@
 use Rattle.std.proofs.Common.{◌≡◌, ℤ, [], take, length}
 use Rattle.aec_block.specs.Unmapping.{Unmaps}
-use Rattle.aec_block.proofs.mapping.unmapping.put_values.Given as goal
+use Rattle.aec_block.proofs.mapping.unmapping.put_patterns.Given as goal
 
 abbrev pub invariant-loop-i : goal.invariant-loop-i
 invariant-loop-i l = record {

@@ -3,7 +3,7 @@ use Rattle.std.proofs.lemmas.Nat.{pow_pos}
 use Rattle.std.proofs.Math.Nat.{mod-lt}
 use Rattle.aec_params.specs.Params.{IsHeld}
 use Rattle.aec_params.proofs.StoredListLemmas.{pattern-held, raised-sample}
-use Rattle.aec_params.proofs.stored_lists.signed_value_of.Goals as goal
+use Rattle.aec_params.proofs.stored_lists.loaded_signed_sample.Goals as goal
 
 pub returns-clause-value : goal.returns-clause-value
 returns-clause-value c =
