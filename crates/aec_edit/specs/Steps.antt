@@ -49,7 +49,8 @@ outcome_of (Ok coded) = Done coded
 outcome_of (Err fault) = Refused fault
 
 -- an edit and all that it does: its result, the samples s' that it leaves, and the calls of the
--- coder and the decoder after it (the clauses of the private functions in one)
+-- coder and the decoder after it (`append` and the private functions state it; `apply` states its
+-- fields one by one)
 pub record Applies (f : Format) (limit : ℕ) (s : List ℤ) (calls reads : ℕ) (e : Edit) (r : Result ℕ Fault)
     (s' : List ℤ) (calls' reads' : ℕ) : Type 0 where
   pub answer : Answers f limit s calls e (outcome_of r) calls'

@@ -86,7 +86,7 @@ pub fn write_edited<C: Codec + Drop, W: Sink>(
 }
 
 /// Makes edits in an empty workspace, and appends the outcome of each to `outcomes`. Fails with
-/// `Memory` only if `outcomes` has room for fewer.
+/// `Memory` only if `outcomes` has room for fewer outcomes than there are edits.
 fn edit_from_nothing<C: Codec + Drop>(
     alloc: Global,
     codec: C,
