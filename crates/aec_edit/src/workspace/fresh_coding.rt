@@ -146,9 +146,9 @@ impl<C: Codec> Workspace<C> {
         ensures read { IsOnlyRead C.format C.called C.read (fresh.old.end - fresh.old.next)
             self.old self.new }
     {
-        let most = self.interval_len();
-        fresh.gather_held(most as usize)?;
-        if (fresh.front.len() as u64) < most && fresh.next < fresh.end {
+        let interval_len = self.interval_len();
+        fresh.gather_held(interval_len as usize)?;
+        if (fresh.front.len() as u64) < interval_len && fresh.next < fresh.end {
             let i = fresh.next;
             fresh.next = i + 1;
             self.decode_interval(i, &mut fresh.front)?;
@@ -167,15 +167,15 @@ impl<C: Codec> Workspace<C> {
         ensures same { KeepsSamples C.format C.called C.read 1 (fresh.old.end - fresh.old.next)
             self.old self.new }
     {
-        let most = self.interval_len() as usize;
+        let interval_len = self.interval_len() as usize;
         coded.starts.push(coded.bits.len())?;
-        if fresh.front.is_empty() && fresh.values.len() >= most {
-            let (interval, later) = fresh.values.split_at(most);
+        if fresh.front.is_empty() && fresh.values.len() >= interval_len {
+            let (interval, later) = fresh.values.split_at(interval_len);
             fresh.values = later;
             return self.codec.code(interval, &mut coded.bits);
         }
         self.gather(fresh)?;
-        let len = most.min(fresh.front.len());
+        let len = interval_len.min(fresh.front.len());
         self.codec.code(&fresh.front[..len], &mut coded.bits)?;
         drop_front(&mut fresh.front, len);
         Ok(())
@@ -193,12 +193,12 @@ impl<C: Codec> Workspace<C> {
             (div_ceil count (C.format self.old.codec).most) (fresh.old.end - fresh.old.next)
             self.old self.new }
     {
-        let most = self.interval_len();
+        let interval_len = self.interval_len();
         let mut coded = self.take_coded();
         let mut left = count;
         while left > 0 {
             self.code_next(fresh, &mut coded)?;
-            left = left.saturating_sub(most);
+            left = left.saturating_sub(interval_len);
         }
         coded.count = count;
         Ok(coded)
@@ -233,8 +233,8 @@ impl<C: Codec> Workspace<C> {
     pub(crate) fn keep_lists(&mut self, fresh: Fresh<'_>, coded: Coded)
         ensures same { self.new ≡ self.old }
     {
-        let most = self.interval_len() as usize;
+        let interval_len = self.interval_len() as usize;
         let Fresh { front, back, .. } = fresh;
-        self.scratch = Scratch::of(self.alloc, front, back, coded, most);
+        self.scratch = Scratch::of(self.alloc, front, back, coded, interval_len);
     }
 }
