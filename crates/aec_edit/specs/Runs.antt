@@ -15,8 +15,8 @@ all_left s [] outcomes = s
 all_left s (e ∷ edits) [] = s
 all_left s (e ∷ edits) (outcome ∷ outcomes) = all_left (samples_left s e outcome) edits outcomes
 
--- the outcomes of edits, one for each: each edit begins with the samples after the edits before it,
--- and with their count of calls (over both lists, where the code has a loop)
+-- one outcome for each edit: an edit begins with the samples and the count of calls after the edits
+-- before it (over both lists, where the code has a loop)
 abbrev pub AnswersAll : Format → ℕ → List ℤ → ℕ → List Edit → List Outcome → ℕ → Type 0
 AnswersAll f limit s calls [] [] after = after ≡ calls
 AnswersAll f limit s calls [] (outcome ∷ outcomes) after = ⊥
@@ -39,7 +39,8 @@ opened_for n old e (Done coded) = opened_intervals n old e
 opened_for n old e (Refused Memory) = opened_intervals n old e
 opened_for n old e (Refused fault) = 0
 
--- how many intervals edits with these outcomes may decode (a sum, likewise)
+-- how many intervals edits with these outcomes may decode (a sum over the outcomes, where the code
+-- counts in the codec)
 abbrev pub all_opened : ℕ → List ℤ → List Edit → List Outcome → ℕ
 all_opened n s [] outcomes = 0
 all_opened n s (e ∷ edits) [] = 0

@@ -83,8 +83,8 @@ impl<C: Codec> Workspace<C> {
         Ok(fresh)
     }
 
-    /// Decodes the first and the last interval that an exchange touches into `ends`, if they keep a
-    /// sample; the last one by way of `spare`.
+    /// Decodes the first and the last interval that an exchange touches, if they keep a sample, and
+    /// puts their samples into `ends`. The last one is first decoded into `spare`.
     fn open_ends(
         &mut self,
         first: u64,

@@ -73,7 +73,7 @@ pub(crate) fn drop_front(items: &mut Vec<i64>, len: usize)
 }
 
 /// Empty lists for the fresh samples before and after the values, and for their code. After an
-/// accepted edit they have the room that it left; after a refusal with `Memory` maybe none.
+/// accepted edit they keep its room; after a refusal with `Memory` they may have none.
 #[derive(Debug, Drop)]
 pub(crate) struct Scratch {
     pub front: Vec<i64>,
@@ -114,7 +114,7 @@ impl Scratch {
     }
 }
 
-/// Returns the list without its items. Frees its room if that is for more than `most` items.
+/// Empties the list, and keeps its allocation. If it has room for more than `most` items, frees it.
 fn emptied(alloc: Global, mut items: Vec<i64>, most: usize) -> Vec<i64>
     ensures items { result.items ≡ [] }
     ensures capacity { vec_capacity result ≤ most }
@@ -204,7 +204,8 @@ impl<C: Codec> Workspace<C> {
         Ok(coded)
     }
 
-    /// Returns empty lists for samples before and after values, in the room from the last edit.
+    /// Takes out the empty lists for the samples before and after the values, with the room that
+    /// the last edit left.
     pub(crate) fn take_lists(&mut self) -> (Vec<i64>, Vec<i64>)
         ensures empty { (result.0.items ≡ []) × (result.1.items ≡ []) }
         ensures same { self.new ≡ self.old }
@@ -220,7 +221,7 @@ impl<C: Codec> Workspace<C> {
         (front, back)
     }
 
-    /// Returns the code of no samples, in the room from the last edit.
+    /// Takes out the empty code, with the room that the last edit left.
     pub(crate) fn take_coded(&mut self) -> Coded
         ensures none { IsNoCode result }
         ensures same { self.new ≡ self.old }
