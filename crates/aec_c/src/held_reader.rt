@@ -128,7 +128,7 @@ impl HeldReader {
             self.count,
             MOST_SAMPLES,
         )?;
-        reader.go_back(place);
+        reader.seek(place);
         Ok(reader)
     }
 

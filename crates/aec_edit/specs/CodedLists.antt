@@ -14,7 +14,7 @@ pub record IsNoCode (coded : Coded) : Type 0 where
   pub starts : coded.starts.items ≡ []
   pub count : coded.count ≡ 0
 
--- the same code, maybe in other room
+-- the same code; its room may differ
 pub record IsSameCode (old new : Coded) : Type 0 where
   pub bits : new.bits.list ≡ old.bits.list
   pub starts : new.starts.items ≡ old.starts.items

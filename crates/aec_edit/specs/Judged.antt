@@ -1,6 +1,6 @@
 -- For proofs alone: no public contract cites this file.
--- What the code knows of values that it has judged, and what an edit does to a workspace. The
--- contract of `apply` cites `due_refusal` and what `Applies` names instead.
+-- What holds for values that were judged, and what an edit does to a workspace. The contract of
+-- `apply` cites `due_refusal` and what `Applies` names instead.
 use Rattle.std.specs.Prelude.{◌≡◌, ◌≢◌, ℕ, ◌+◌, ◌≤◌, None, Result, IfErr, List, length, ℤ}
 use Rattle.aec_params.specs.declared.fault.Fault.{Fault}
 use Rattle.aec_params.specs.declared.fault.Fault.TheVariants.{Memory}

@@ -15,8 +15,8 @@ all_left s [] outcomes = s
 all_left s (e ∷ edits) [] = s
 all_left s (e ∷ edits) (outcome ∷ outcomes) = all_left (samples_left s e outcome) edits outcomes
 
--- the outcomes of edits, one for each: each edit begins with the samples after the edits before it,
--- and with their count of calls (over both lists, where the code has a loop)
+-- one outcome for each edit: an edit begins with the samples and the count of calls after the edits
+-- before it (over both lists, where the code has a loop)
 abbrev pub AnswersAll : Format → ℕ → List ℤ → ℕ → List Edit → List Outcome → ℕ → Type 0
 AnswersAll f limit s calls [] [] after = after ≡ calls
 AnswersAll f limit s calls [] (outcome ∷ outcomes) after = ⊥

@@ -32,13 +32,13 @@ IsRefused f limit s calls e fault after =
     (LacksMemory (needed_calls f.most (length s) e) calls fault after)
     (λ due. (fault ≡ due) × (after ≡ calls))
 
--- the outcome of an edit of the samples s under a limit, after calls of the coder, and the calls
--- after it
+-- the outcome of an edit of the samples s under a limit; `calls` and `after` are the codec's counts
+-- of calls before and after the edit
 abbrev pub Answers : Format → ℕ → List ℤ → ℕ → Edit → Outcome → ℕ → Type 0
 Answers f limit s calls e (Done coded) after = IsAccepted f limit s calls e coded after
 Answers f limit s calls e (Refused fault) after = IsRefused f limit s calls e fault after
 
--- the samples that an edit leaves: a refused one changes none
+-- the samples after an edit with this outcome: a refused edit changes none
 abbrev pub samples_left : List ℤ → Edit → Outcome → List ℤ
 samples_left s e (Done coded) = samples_after s e
 samples_left s e (Refused fault) = s
@@ -49,7 +49,8 @@ outcome_of (Ok coded) = Done coded
 outcome_of (Err fault) = Refused fault
 
 -- an edit and all that it does: its result, the samples s' that it leaves, and the calls of the
--- coder and the decoder after it (the clauses of the private functions in one)
+-- coder and the decoder after it (`append` and the private functions state it; `apply` states its
+-- fields one by one)
 pub record Applies (f : Format) (limit : ℕ) (s : List ℤ) (calls reads : ℕ) (e : Edit) (r : Result ℕ Fault)
     (s' : List ℤ) (calls' reads' : ℕ) : Type 0 where
   pub answer : Answers f limit s calls e (outcome_of r) calls'

@@ -54,8 +54,8 @@ impl Coded {
         Ok(())
     }
 
-    /// Returns the code of no samples, in the same room. Frees room for more than 128 bits for each
-    /// of `most` samples, or for more than `most` starts.
+    /// Empties the lists, and keeps their allocations. If they have room for more than `128 * most`
+    /// bits or for more than `most` starts, frees both.
     pub fn emptied(mut self, alloc: Global, most: u64) -> Coded
         requires { most ≤ 524288 }
         ensures none { IsNoCode result }

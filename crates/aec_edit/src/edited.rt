@@ -36,7 +36,7 @@ pub struct Edited<C: Codec + Drop> {
 ///
 /// Each edit has an outcome that is permitted for the samples and calls that earlier edits left;
 /// the codec counts the calls. The written bytes are, bit for bit, the code of the samples that the
-/// accepted edits leave, and of no other list of as many samples. Fails with `Memory` only if there
+/// accepted edits leave, and of no other list of the same length. Fails with `Memory` only if there
 /// are edits; nothing is written then. Fails with `Write` only if the sink has failed; the sink has
 /// then taken a prefix of a stream that permitted outcomes leave. Doesn't call `begin`. If the
 /// sink's bytes are unknown, nothing is said about what is written.
@@ -86,7 +86,7 @@ pub fn write_edited<C: Codec + Drop, W: Sink>(
 }
 
 /// Makes edits in an empty workspace, and appends the outcome of each to `outcomes`. Fails with
-/// `Memory` only if `outcomes` has room for fewer.
+/// `Memory` only if `outcomes` has room for fewer outcomes than there are edits.
 fn edit_from_nothing<C: Codec + Drop>(
     alloc: Global,
     codec: C,

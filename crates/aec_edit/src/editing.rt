@@ -90,10 +90,8 @@ impl<C: Codec> Workspace<C> {
         ensures { MakesEdit C.format C.called C.read (Truncate stop) result
             self.old self.new }
     {
+        self.check_places(stop, 0)?;
         let count = self.count();
-        if stop > count {
-            return Err(Fault::OutOfRange { count });
-        }
         if stop == count {
             return Ok(0);
         }
@@ -106,10 +104,7 @@ impl<C: Codec> Workspace<C> {
         ensures { MakesEdit C.format C.called C.read (Insert first values.now) result
             self.old self.new }
     {
-        let count = self.count();
-        if first > count {
-            return Err(Fault::OutOfRange { count });
-        }
+        self.check_places(first, 0)?;
         self.check_growth(values)?;
         if values.is_empty() {
             return Ok(0);
@@ -137,9 +132,9 @@ impl<C: Codec> Workspace<C> {
     fn recoded_end(&self, place: u64, len: u64) -> u64
         ensures { result ≡ recoded_end (C.format self.now.codec) self.now.samples place len }
     {
-        let most = self.interval_len();
-        if len % most == 0 {
-            place.div_ceil(most)
+        let interval_len = self.interval_len();
+        if len % interval_len == 0 {
+            place.div_ceil(interval_len)
         } else {
             self.intervals()
         }

@@ -31,16 +31,16 @@ impl<C: Codec> Workspace<C> {
         ensures { ExchangesUpTo C.format C.called C.read (record { first = first; stop = stop })
             to values.now result self.old self.new }
     {
-        let most = self.interval_len();
-        let kept = self.count().min(to * most) - stop;
-        let total = first % most + (values.len() as u64 + kept);
-        let needed = total.div_ceil(most);
+        let interval_len = self.interval_len();
+        let kept = self.count().min(to * interval_len) - stop;
+        let total = first % interval_len + (values.len() as u64 + kept);
+        let needed = total.div_ceil(interval_len);
         if self.are_spent(needed) {
             return Err(Fault::Spent);
         }
         let mut fresh = self.fresh(first, stop, to, values)?;
         let coded = self.code_fresh(&mut fresh, total)?;
-        self.put(first / most, to, &coded)?;
+        self.put(first / interval_len, to, &coded)?;
         self.keep_lists(fresh, coded);
         Ok(needed)
     }
@@ -66,10 +66,10 @@ impl<C: Codec> Workspace<C> {
             (record { first = first; stop = stop }))
             self.old self.new }
     {
-        let most = self.interval_len();
-        let next = stop.div_ceil(most);
-        let head = (first % most) as usize;
-        let tail = (self.count().min(next * most) - stop) as usize;
+        let interval_len = self.interval_len();
+        let next = stop.div_ceil(interval_len);
+        let head = (first % interval_len) as usize;
+        let tail = (self.count().min(next * interval_len) - stop) as usize;
         let (mut front, mut back) = self.take_lists();
         self.open_ends(first, stop, &mut front, &mut back)?;
         let mut fresh = Fresh {
@@ -83,8 +83,8 @@ impl<C: Codec> Workspace<C> {
         Ok(fresh)
     }
 
-    /// Decodes the first and the last interval that an exchange touches into `ends`, if they keep a
-    /// sample; the last one by way of `spare`.
+    /// Decodes the first and the last interval that an exchange touches, if they keep a sample, and
+    /// puts their samples into `ends`. The last one is first decoded into `spare`.
     fn open_ends(
         &mut self,
         first: u64,
@@ -122,9 +122,9 @@ impl<C: Codec> Workspace<C> {
             && keeps_a_sample (C.format self.now.codec).most (length self.now.samples)
             (record { first = first; stop = stop }) k) }
     {
-        let most = self.interval_len();
-        let begin = k * most;
-        begin < stop && (begin < first || stop < self.count().min(begin + most))
+        let interval_len = self.interval_len();
+        let begin = k * interval_len;
+        begin < stop && (begin < first || stop < self.count().min(begin + interval_len))
     }
 
     /// Decodes the first touched interval if it keeps a sample before the places, or if it is also
@@ -165,9 +165,9 @@ impl<C: Codec> Workspace<C> {
             (record { first = first; stop = stop })))
             self.old self.new }
     {
-        let most = self.interval_len();
-        let last = stop.div_ceil(most).saturating_sub(1);
-        if last <= first / most {
+        let interval_len = self.interval_len();
+        let last = stop.div_ceil(interval_len).saturating_sub(1);
+        if last <= first / interval_len {
             return Ok(());
         }
         if self.is_opened(first, stop, last) {

@@ -47,10 +47,10 @@ impl<C: Codec> Workspace<C> {
         if len == 0 {
             return Ok(out);
         }
-        let most = self.interval_len();
-        let from = first / most;
-        self.decode_intervals(from, (first + len).div_ceil(most), &mut out)?;
-        keep_part(&mut out, (first % most) as usize, len as usize);
+        let interval_len = self.interval_len();
+        let from = first / interval_len;
+        self.decode_intervals(from, (first + len).div_ceil(interval_len), &mut out)?;
+        keep_part(&mut out, (first % interval_len) as usize, len as usize);
         Ok(out)
     }
 

@@ -69,6 +69,7 @@ impl<C: Codec> Workspace<C> {
         ensures codec { result.codec ≡ codec }
         ensures room { (result.room.bits ≡ 0) × (result.room.intervals ≡ 0) }
     {
+        // For the invariant's bound on the codec's count of reads.
         let _reads = codec.reads();
         Workspace {
             coded: Coded::new(alloc),
@@ -194,6 +195,7 @@ impl<C: Codec> Workspace<C> {
         ensures value { result ≡ (C.format self.now.codec).most }
         ensures sound { IsSound (C.format self.now.codec) self.now.limit self.now.samples }
     {
+        // For the clause `sound`.
         let _ = &self.coded;
         self.codec.interval_len()
     }
@@ -217,7 +219,7 @@ impl<C: Codec> Workspace<C> {
         }
     }
 
-    /// Returns the number `i` with the bit `start_at(i)`.
+    /// Returns the cut where interval `i` begins, or where the code ends.
     pub(crate) fn cut_at(&self, i: u64) -> Cut
         requires { i ≤ interval_count (C.format self.now.codec) self.now.samples }
         ensures { IsCutAt (C.format self.now.codec) self.now.samples i result }
@@ -240,8 +242,8 @@ impl<C: Codec> Workspace<C> {
         ensures read { IsOnlyRead C.format C.called C.read 1 self.old self.new }
     {
         let start = self.start_at(i);
-        let most = self.interval_len();
-        let len = most.min(self.coded.count - i * most);
+        let interval_len = self.interval_len();
+        let len = interval_len.min(self.coded.count - i * interval_len);
         self.codec.decode(&self.coded.bits, start, len, out)
     }
 
@@ -263,9 +265,9 @@ impl<C: Codec> Workspace<C> {
     {
         let from = self.cut_at(from);
         let to = self.cut_at(to);
-        let most = self.interval_len();
-        let later = self.count().saturating_sub(to.interval * most);
-        let count = from.interval * most + coded.count + later;
+        let interval_len = self.interval_len();
+        let later = self.count().saturating_sub(to.interval * interval_len);
+        let count = from.interval * interval_len + coded.count + later;
         self.coded.replace(from, to, coded, count)
     }
 }

@@ -14,9 +14,8 @@ use Rattle.aec_interval.specs.Feeding.{Coder, fresh_coder, taken_of, Feeds, Stop
 abbrev pub all_bytes : List (List ℕ) → List ℕ
 all_bytes pieces = flat_map (λ piece. piece) pieces
 
--- all samples of the bytes (bytes left over at the end are none) are in range, as many as were
--- counted and no more than the limit; what was appended is their stream up to the code of those
--- that are still held
+-- all whole samples of the bytes are in range; their number is `d.count`, at most the limit. The
+-- appended bits and the code of the samples that d still holds are the stream of all samples
 pub record IsStreamSoFar (s : Settings) (limit : ℕ) (bytes : List ℕ) (before after : List Bool)
     (d : Coder) : Type 0 where
   pub samples : List ℤ
@@ -33,20 +32,22 @@ pub record CutsMakeNoDifference (s : Settings) (limit : ℕ) : Type 0 where
   pub stream : (pieces : List (List ℕ)) (before after : List Bool) (d : Coder)
       → FeedsAll (fresh_coder s limit) pieces before after d
       → IsStreamSoFar s limit (all_bytes pieces) before after d
-  -- the pieces are as one piece of all their bytes
+  -- if all pieces are taken, one piece of all their bytes is taken too, with the same bits and the
+  -- same coder after it
   pub taken : (pieces : List (List ℕ)) (before after : List Bool) (d : Coder)
       → FeedsAll (fresh_coder s limit) pieces before after d
       → Feeds (fresh_coder s limit) (all_bytes pieces) before after d
-  -- a refusal of the next one is the refusal of all bytes, whatever comes after them
+  -- if the piece after these is refused, one piece of all bytes is refused with the same fault and
+  -- the same bits, whatever bytes come after them
   pub refused : (pieces : List (List ℕ)) (piece rest : List ℕ) (before between after : List Bool) (d : Coder)
       (fault : Fault)
       → FeedsAll (fresh_coder s limit) pieces before between d → StopsFeeding d piece between after fault
       → StopsFeeding (fresh_coder s limit) (all_bytes pieces ++ (piece ++ rest)) before after fault
-  -- which is the refusal of all samples: the first that is out of range before the limit, or too
-  -- many of them
+  -- the refusal of bytes in one piece is that of `judged_samples`: the first sample out of range if
+  -- it lies before the limit; else `TooManySamples` if there are more samples than the limit
   pub judged : (bytes : List ℕ) → (taken_of (fresh_coder s limit) bytes).refusal
       ≡ judged_samples limit (samples_of_bytes s bytes)
-  -- step by step: nothing is taken at first, and a piece more after what was taken
+  -- a new coder has taken no bytes; if it has taken bytes and takes a piece, it has taken both
   pub begun : (bits : List Bool) → Feeds (fresh_coder s limit) [] bits bits (fresh_coder s limit)
   pub more : (bytes piece : List ℕ) (before between after : List Bool) (d e : Coder)
       → Feeds (fresh_coder s limit) bytes before between d

@@ -27,7 +27,7 @@ fresh_coder s limit = record { settings = s; limit = limit; held = []; rest = []
 abbrev pub whole_front : {X : Type 0} → ℕ → List X → List X
 whole_front n xs = take (length xs / n * n) xs
 
--- what is left after that front
+-- what `whole_front` leaves of a list
 abbrev pub left_behind : {X : Type 0} → ℕ → List X → List X
 left_behind n xs = drop (length xs / n * n) xs
 
@@ -35,7 +35,7 @@ left_behind n xs = drop (length xs / n * n) xs
 abbrev pub taken_of : Coder → List ℕ → TakenSamples
 taken_of c piece = taken_groups c.settings c.limit c.count (byte_groups c.settings (c.rest ++ piece))
 
--- the samples that are held, and those after them
+-- the held samples, then those that a piece completes
 abbrev pub samples_with : Coder → List ℕ → List ℤ
 samples_with c piece = c.held ++ (taken_of c piece).samples
 
@@ -62,9 +62,9 @@ pub record Feeds (c : Coder) (piece : List ℕ) (before after : List Bool) (d : 
   pub bits : after ≡ before ++ fed_bits c piece
   pub coder : d ≡ fed c piece
 
--- a piece is refused: at its first sample that is too many or out of range, after the code of the
--- intervals that were complete before it; or for want of memory at a sample that is neither, after
--- the code of some whole intervals before it, the first ones
+-- a piece is refused at its first sample that is too many or out of range, and the code of the
+-- intervals complete before that sample is appended; or it is refused with `Memory` at a sample
+-- that is neither, and the code of some of these intervals is appended, from the first on
 pub data StopsFeeding (c : Coder) (piece : List ℕ) (before after : List Bool) : Fault → Type 0 where
   refused : (fault : Fault) → (taken_of c piece).refusal ≡ Some fault → after ≡ before ++ fed_bits c piece
       → StopsFeeding c piece before after fault

@@ -39,10 +39,10 @@ pub record BitsAreReadInOneWay (s : Settings) (count : Option ℕ) (limit : ℕ)
   -- a reading, or a fault
   pub either : ((samples : List ℤ) × IsReading s count limit bits samples)
       ⊎ ((fault : Fault) × IsFault s count limit bits 0 0 fault)
-  -- and not both
+  -- never both
   pub not_both : (samples : List ℤ) (fault : Fault) → IsReading s count limit bits samples
       → IsFault s count limit bits 0 0 fault → ⊥
-  -- of each at most one
+  -- at most one reading, and at most one fault
   pub one_reading : (xs ys : List ℤ) → IsReading s count limit bits xs → IsReading s count limit bits ys → xs ≡ ys
   pub one_fault : (e f : Fault) → IsFault s count limit bits 0 0 e → IsFault s count limit bits 0 0 f → e ≡ f
 

@@ -22,8 +22,8 @@ run_count s p (Blocks z) = z
 run_count s p Rest = segment_left s p
 
 -- the block after a coded data set that begins at block i and at this bit and stands for z blocks,
--- or why it may not stand there: its segment has fewer left; else the samples with it pass the
--- limit
+-- or its refusal: `RunTooLong` if its segment has fewer blocks left, else `TooManySamples` if the
+-- samples with it pass the limit
 abbrev pub block_behind : Settings → Option ℕ → ℕ → ℕ → ℕ → ℕ → Result ℕ Fault
 block_behind s count limit i z bit =
     if nat_lt (segment_left s (i % s.interval)) z then Err (RunTooLong bit)

@@ -72,7 +72,7 @@ RefusesAt p fault = RefusesUpTo p.settings p.count p.limit p.bits p.block p.bit 
 
 -- a place between two steps, or where all is read: coded data sets lead there from the first bit
 -- on, and where more is wanted an interval begins. Fewer than `2^34` blocks were read: `2^32`
--- samples have far fewer (`place` proves it of each place of a reader, `go_back` requires it)
+-- samples have far fewer (`place` proves it of each place of a reader, `seek` requires it)
 pub record IsPlace (p : Place) : Type 0 where
   pub few : p.block < 2 ^ 34
   pub limit : p.limit ≤ 2 ^ 32

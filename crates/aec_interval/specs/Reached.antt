@@ -8,8 +8,8 @@ use Rattle.aec_params.specs.CodedDataSets.{CodedDataSet}
 use Rattle.aec_params.specs.Reading.{LeadsTo, stream_blocks, kept_blocks, IsBlockReading, FillBlocks, counted_samples}
 use Rattle.aec_params.specs.Faults.{IsFault}
 
--- samples that fill `count` blocks (`decode_all` cites `IsReading` and `IsFault` instead of this,
--- `IsReached` and `IsReadFrom`)
+-- samples that fill `count` blocks (`decode_all` cites `IsReading` and `IsFault` instead of
+-- `AreFilled`, `IsReached` and `IsReadFrom`)
 pub record AreFilled (s : Settings) (count : ℕ) (samples : List ℤ) : Type 0 where
   pub blocks : List Block
   pub filled : FillBlocks s samples blocks
@@ -50,8 +50,8 @@ pub data RefusesReading (s : Settings) (count : Option ℕ) (limit : ℕ) (bits 
   faulty : (fault : Fault) → IsFault s count limit bits first start fault
       → RefusesReading s count limit bits first start fault
 
--- the same, met up to block `end`: the fault of a coded data set that would begin before `end`, or
--- want of memory for the samples of sets that lead to `end` at most
+-- why such a reading is refused up to block `end`: the fault of a coded data set that would begin
+-- before `end`, or want of memory for the samples of sets that lead to `end` at most
 pub data RefusesUpTo (s : Settings) (count : Option ℕ) (limit : ℕ) (bits : List Bool) (first start end : ℕ) : Fault
     → Type 0 where
   no_room : (h : LeadsBehindOne s count limit bits first start) → h.block ≤ end

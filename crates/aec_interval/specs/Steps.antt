@@ -17,15 +17,15 @@ pub record IsWantedNext (s : Settings) (count : Option ℕ) (limit : ℕ) (bits 
   pub low : limit ≤ 2 ^ 32
   pub counted : IfSome count (λ n. n ≤ 2 ^ 32)
 
--- block `next` comes after block i, no further on than where the interval of that ends
+-- block `next` comes after block i, at most where the interval of block i ends
 pub record ComesNext (s : Settings) (i next : ℕ) : Type 0 where
   pub forward : i < next
   pub within : next ≤ i + blocks_before_end s i
   pub few : next < 2 ^ 34
 
--- block `last` is a bound, not always the greatest: no block of the interval that begins at block
--- `first` needs a test of its place before it, since each is needed, if there is a count, and keeps
--- the limit, and after none of them does padding follow. It is below 2^34, as all places are
+-- no block before `last`, in the interval that begins at block `first`, needs a test of its place:
+-- each is needed, keeps the limit and isn't followed by padding. `last` need not be the greatest
+-- such bound. It is below 2^34, as all block numbers are
 pub record IsUntestedEnd (s : Settings) (count : Option ℕ) (limit first last : ℕ) : Type 0 where
   pub within : last ≤ first + s.interval
   pub unpadded : s.pad ≡ true → last < first + s.interval

@@ -26,7 +26,7 @@ abbrev pub judged_sample : Settings → ℕ → ℕ → List ℕ → Result ℤ 
 judged_sample s limit i g = if nat_lt i limit then in_range i (sample_of_number s (number_in s g))
     else Err (TooManySamples limit)
 
--- a sample before those that are taken after it, or its refusal
+-- a sample and those taken after it; or, if the sample is refused, none and its refusal
 abbrev pub taken_before : Result ℤ Fault → TakenSamples → TakenSamples
 taken_before (Ok x) later = record { samples = x ∷ later.samples; refusal = later.refusal }
 taken_before (Err fault) later = none_taken (Some fault)
@@ -36,9 +36,9 @@ abbrev pub taken_groups : Settings → ℕ → ℕ → List (List ℕ) → Taken
 taken_groups s limit i [] = none_taken None
 taken_groups s limit i (g ∷ gs) = taken_before (judged_sample s limit i g) (taken_groups s limit (i + 1) gs)
 
--- the same refusal by what bytes are as a whole: samples past the limit are too many, whatever they
--- hold; before it the first that is none of the settings is out of range (by cases of
--- `samples_of_bytes`; the claim `judged` of `CutsMakeNoDifference` says that both are equal)
+-- the refusal of all bytes at once: the first sample out of range if it lies before the limit; else
+-- `TooManySamples` if there are more than `limit` samples (by cases of `samples_of_bytes`; `judged`
+-- of `CutsMakeNoDifference` proves that it is the refusal of `taken_groups`)
 abbrev pub judged_samples : ℕ → Result (List ℤ) ℕ → Option Fault
 judged_samples limit (Ok samples) = if nat_lt limit (length samples) then Some (TooManySamples limit) else None
 judged_samples limit (Err bad) = Some (if nat_lt bad limit then SampleRange bad else TooManySamples limit)

@@ -57,6 +57,8 @@ fn write_next<const N: usize>(
         run out.old result out.new }
 {
     if samples.len() != N || params.block_size() as usize != N {
+        // `write_short` stays out of line. It is lent a copy, so that the compiler can keep
+        // `params` in registers.
         let own = *params;
         return write_short(alloc, &own, previous, samples, run, out);
     }
@@ -110,8 +112,8 @@ fn write_known_intervals<const N: usize>(
     requires held { AllByRecursion (IsHeld params.now) samples.now }
     ensures { Writes (stream_of params.now samples.now) out.old.list result out.new.list }
 {
-    // Calls that stay out of line are lent copies of this copy, so that the compiler can keep it in
-    // registers.
+    // A copy that no other call can see stays in registers. Calls that stay out of line are lent
+    // copies of this copy.
     let own = *params;
     let interval = own.interval();
     let mut start = out.len();

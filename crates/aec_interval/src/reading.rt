@@ -31,13 +31,16 @@ use aec_block::{Block, Found, RunLen, read_into};
 use aec_params::{Fault, Params};
 use std::alloc::Global;
 
-/// The block and the bit where an interval begins, the number of samples that are asked for from
-/// block 0 on, if it is given, and their greatest number.
+/// Where an interval begins, and which samples are wanted.
 #[derive(Clone, Copy)]
 pub(crate) struct Wanted {
+    /// The stream's block with which the interval begins.
     pub(crate) first: u64,
+    /// The bit where the coded data set of that block begins.
     pub(crate) start: u64,
+    /// The number of samples that are asked for, from block 0 on; `None` asks for all.
     pub(crate) count: Option<u64>,
+    /// The greatest number of samples.
     pub(crate) limit: u64,
 }
 
@@ -59,8 +62,8 @@ pub(crate) fn wants_more(params: &Params, wanted: Wanted, reader: &BitReader, bl
     }
 }
 
-/// Returns whether an interval goes on at this block: it does not end there or before, and more is
-/// wanted.
+/// Returns whether the interval that ends at block `end` goes on at `block`: `block` is before
+/// `end`, and more is wanted.
 pub(crate) fn goes_on(
     params: &Params,
     wanted: Wanted,
@@ -74,7 +77,7 @@ pub(crate) fn goes_on(
     block < end && wants_more(params, wanted, reader, block)
 }
 
-/// Returns how many blocks the segment of this block of an interval has left.
+/// Returns how many blocks a segment has left from block `place` of its interval on.
 fn blocks_left(params: &Params, place: u64) -> u64
     requires { place < params.now.interval }
     ensures value { result ≡ segment_left params.now place }
@@ -103,8 +106,8 @@ fn within_limit(params: &Params, wanted: Wanted, blocks: u64) -> bool
     wanted.count.is_some() || blocks * u64::from(params.block_size()) <= wanted.limit
 }
 
-/// With padding, moves to the next byte after a full interval: the padding skip. `untested_end` of
-/// `plain` excludes the blocks that padding may follow.
+/// If the parameters pad and block `block` begins an interval, moves to the next byte boundary. The
+/// loop in `plain` needs no such call: with padding it ends before the interval's last block.
 pub(crate) fn skip_padding(params: &Params, reader: &mut BitReader, block: u64)
     ensures list { reader.new.list ≡ reader.old.list }
     ensures pos { reader.new.pos ≡ begin_of params.now reader.old.list block reader.old.pos }
@@ -127,8 +130,8 @@ pub(crate) fn block_count(params: &Params, place: u64, len: RunLen) -> u64
 
 /// Returns the number of the block after a coded data set that begins at bit `bit`, at place
 /// `place` of its interval, and stands for `len` blocks. Fails with `RunTooLong` if its segment has
-/// fewer left, else with `TooManySamples` past the limit.
-pub(crate) fn place_next(
+/// fewer blocks left, else with `TooManySamples` if the samples pass the limit.
+pub(crate) fn block_after_set(
     params: &Params,
     wanted: Wanted,
     block: u64,
@@ -254,7 +257,7 @@ fn read_next(
 {
     let bit = reader.pos();
     let found = read_into(params, reader, has_reference(params, place), values)?;
-    let next = place_next(params, wanted, block, place, found.stands_for(), bit)?;
+    let next = block_after_set(params, wanted, block, place, found.stands_for(), bit)?;
     let kept = blocks_kept(params, wanted, block, next);
     reserve_blocks(params, kept, samples)?;
     push_cds(params, found, values, kept, block - wanted.first, samples);

@@ -80,7 +80,7 @@ impl<'a> StreamReader<'a> {
         self.block = 0;
     }
 
-    /// Returns the reader's place, for `go_back`.
+    /// Returns the reader's place, for `seek`.
     pub fn place(&self) -> ReachedPlace
         ensures block { result.block ≡ self.now.block }
         ensures bit { result.bit ≡ self.now.bit }
@@ -92,9 +92,8 @@ impl<'a> StreamReader<'a> {
         }
     }
 
-    /// Moves back, or forward, to a place that a reader of these bits under these terms has
-    /// reached.
-    pub fn go_back(&mut self, place: ReachedPlace)
+    /// Moves to a place that a reader of these bits under these terms has reached.
+    pub fn seek(&mut self, place: ReachedPlace)
         requires reached { let old = self.old in
             IsPlace (place_at old.settings old.count old.limit old.bits place.block place.bit) }
         ensures { let old = self.old in

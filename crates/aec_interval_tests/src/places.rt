@@ -1,4 +1,4 @@
-//! `StreamReader::go_back`, to where an interval begins.
+//! `StreamReader::seek`, to where an interval begins.
 
 use crate::asserts::same;
 use crate::streams::MOST;
@@ -12,7 +12,7 @@ use std::test::Fail;
 fn read_again(reader: &mut StreamReader, samples: &mut Vec<i64>) -> Result<Option<u64>, Fault> {
     let place = reader.place();
     let len = reader.skip()?;
-    reader.go_back(place);
+    reader.seek(place);
     reader.next(samples)?;
     Ok(len)
 }

@@ -73,7 +73,7 @@ pub(crate) fn drop_front(items: &mut Vec<i64>, len: usize)
 }
 
 /// Empty lists for the fresh samples before and after the values, and for their code. After an
-/// accepted edit they have the room that it left; after a refusal with `Memory` maybe none.
+/// accepted edit they keep its room; after a refusal with `Memory` they may have none.
 #[derive(Debug, Drop)]
 pub(crate) struct Scratch {
     pub front: Vec<i64>,
@@ -114,7 +114,7 @@ impl Scratch {
     }
 }
 
-/// Returns the list without its items. Frees its room if that is for more than `most` items.
+/// Empties the list, and keeps its allocation. If it has room for more than `most` items, frees it.
 fn emptied(alloc: Global, mut items: Vec<i64>, most: usize) -> Vec<i64>
     ensures items { result.items ≡ [] }
     ensures capacity { vec_capacity result ≤ most }
@@ -146,9 +146,9 @@ impl<C: Codec> Workspace<C> {
         ensures read { IsOnlyRead C.format C.called C.read (fresh.old.end - fresh.old.next)
             self.old self.new }
     {
-        let most = self.interval_len();
-        fresh.gather_held(most as usize)?;
-        if (fresh.front.len() as u64) < most && fresh.next < fresh.end {
+        let interval_len = self.interval_len();
+        fresh.gather_held(interval_len as usize)?;
+        if (fresh.front.len() as u64) < interval_len && fresh.next < fresh.end {
             let i = fresh.next;
             fresh.next = i + 1;
             self.decode_interval(i, &mut fresh.front)?;
@@ -167,15 +167,15 @@ impl<C: Codec> Workspace<C> {
         ensures same { KeepsSamples C.format C.called C.read 1 (fresh.old.end - fresh.old.next)
             self.old self.new }
     {
-        let most = self.interval_len() as usize;
+        let interval_len = self.interval_len() as usize;
         coded.starts.push(coded.bits.len())?;
-        if fresh.front.is_empty() && fresh.values.len() >= most {
-            let (interval, later) = fresh.values.split_at(most);
+        if fresh.front.is_empty() && fresh.values.len() >= interval_len {
+            let (interval, later) = fresh.values.split_at(interval_len);
             fresh.values = later;
             return self.codec.code(interval, &mut coded.bits);
         }
         self.gather(fresh)?;
-        let len = most.min(fresh.front.len());
+        let len = interval_len.min(fresh.front.len());
         self.codec.code(&fresh.front[..len], &mut coded.bits)?;
         drop_front(&mut fresh.front, len);
         Ok(())
@@ -193,18 +193,19 @@ impl<C: Codec> Workspace<C> {
             (div_ceil count (C.format self.old.codec).most) (fresh.old.end - fresh.old.next)
             self.old self.new }
     {
-        let most = self.interval_len();
+        let interval_len = self.interval_len();
         let mut coded = self.take_coded();
         let mut left = count;
         while left > 0 {
             self.code_next(fresh, &mut coded)?;
-            left = left.saturating_sub(most);
+            left = left.saturating_sub(interval_len);
         }
         coded.count = count;
         Ok(coded)
     }
 
-    /// Returns empty lists for samples before and after values, in the room from the last edit.
+    /// Takes out the empty lists for the samples before and after the values, with the room that
+    /// the last edit left.
     pub(crate) fn take_lists(&mut self) -> (Vec<i64>, Vec<i64>)
         ensures empty { (result.0.items ≡ []) × (result.1.items ≡ []) }
         ensures same { self.new ≡ self.old }
@@ -220,7 +221,7 @@ impl<C: Codec> Workspace<C> {
         (front, back)
     }
 
-    /// Returns the code of no samples, in the room from the last edit.
+    /// Takes out the empty code, with the room that the last edit left.
     pub(crate) fn take_coded(&mut self) -> Coded
         ensures none { IsNoCode result }
         ensures same { self.new ≡ self.old }
@@ -233,8 +234,8 @@ impl<C: Codec> Workspace<C> {
     pub(crate) fn keep_lists(&mut self, fresh: Fresh<'_>, coded: Coded)
         ensures same { self.new ≡ self.old }
     {
-        let most = self.interval_len() as usize;
+        let interval_len = self.interval_len() as usize;
         let Fresh { front, back, .. } = fresh;
-        self.scratch = Scratch::of(self.alloc, front, back, coded, most);
+        self.scratch = Scratch::of(self.alloc, front, back, coded, interval_len);
     }
 }

@@ -43,7 +43,7 @@ fn come_back(reader: &mut StreamReader, place: ReachedPlace) -> u64
         reader.new ≡ place_at old.settings old.count old.limit old.bits place.block place.bit }
 {
     let end = reader.place().bit;
-    reader.go_back(place);
+    reader.seek(place);
     end
 }
 

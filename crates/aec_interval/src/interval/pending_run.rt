@@ -10,8 +10,8 @@ use aec_bits::BitBuf;
 use aec_block::write_run;
 use aec_params::{Fault, Params};
 
-/// Zero blocks that have been counted and not yet written: the reference of the first, and how many
-/// they are.
+/// Zero blocks that have been counted and not yet written: the reference of the first, and their
+/// number.
 #[derive(Clone, Copy, Debug, PartialEq, Eq)]
 pub(crate) struct Run {
     pub(crate) reference: Option<u32>,

@@ -117,6 +117,7 @@ fn fill_any_blocks(
     ensures { FillsBlocks params.now most from reader.old samples.old result reader.new
         samples.new }
 {
+    // A copy that no other call can see stays in registers.
     let own = *params;
     let mut scratch = [0u32; MOST_VALUES];
     let values = &mut scratch[..own.block_size() as usize];

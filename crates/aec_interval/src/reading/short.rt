@@ -20,17 +20,21 @@ use aec_block::{is_plain_next, read_plain, read_plain_first, read_run, unmap_int
 use aec_params::Params;
 
 /// The greatest number of samples that are read at a time.
-const AT_ONCE: u64 = 4096;
+const MOST_SAMPLES_AT_ONCE: u64 = 4096;
 
 /// Intervals of more blocks are read one at a time: what an interval costs besides its blocks is
 /// then small.
 const MOST_BLOCKS: u32 = 8;
 
-/// Kinds of intervals: one run of zero blocks; plain blocks of samples that are predicted, or not.
+/// The kind of an interval that is one run of zero blocks.
 const ZEROS: usize = 10;
 
+/// The kind of an interval of plain blocks whose samples are predicted. It is also the number of
+/// the copy of `read_plain` for the blocks after the first.
 const PREDICTED: usize = 11;
 
+/// The kind of an interval of plain blocks whose samples aren't predicted. It is also the number of
+/// the copy of `read_plain` for the blocks after the first.
 const UNPREDICTED: usize = 12;
 
 /// Reads the next block as the first of its interval, with a reference sample, if it is plain, and
@@ -323,7 +327,7 @@ fn intervals_at_once(params: &Params, wanted: Wanted, most: u64, capacity: usize
     if params.pad() || params.interval() > MOST_BLOCKS {
         return 0;
     }
-    let room = most.min(AT_ONCE).min(capacity as u64) / params.interval_len();
+    let room = most.min(MOST_SAMPLES_AT_ONCE).min(capacity as u64) / params.interval_len();
     room.min(untested_intervals(params, wanted))
 }
 
@@ -353,10 +357,14 @@ pub(crate) fn read_short(
     ensures capacity { vec_capacity samples.old ≤ vec_capacity samples.new }
 {
     let len = params.interval_len();
-    // Places are cleared before they are filled: all at first, later twice the number that was
-    // filled.
+    // `resize` zeroes the places that it adds. So at most twice as many places are made as were
+    // filled last, or 64 if that is more; for an empty vector `MOST_SAMPLES_AT_ONCE`.
     let last = samples.len();
-    let filled = if last == 0 { AT_ONCE as usize } else { last };
+    let filled = if last == 0 {
+        MOST_SAMPLES_AT_ONCE as usize
+    } else {
+        last
+    };
     let room = samples.capacity().min(filled.saturating_mul(2).max(64));
     let asked = intervals_at_once(params, wanted, most, room);
     if asked == 0 || samples.resize((asked * len) as usize, 0).is_err() {

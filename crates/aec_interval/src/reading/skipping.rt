@@ -6,7 +6,7 @@ ghost use Rattle.aec_interval.specs.NextSet.{blocks_before_end};
 ghost use Rattle.aec_interval.specs.Steps.{IsWantedNext, ComesNext, IsGoneOver};
 ghost use Rattle.aec_interval.specs.Skipping.{IsLedTo, IsFaultBefore, asked_len};
 
-use crate::reading::{Wanted, goes_on, has_reference, place_next, skip_padding};
+use crate::reading::{Wanted, block_after_set, goes_on, has_reference, skip_padding};
 use aec_bits::BitReader;
 use aec_block::{Block, skip_cds};
 use aec_params::{Fault, Params};
@@ -39,7 +39,7 @@ fn skip_next(
 {
     let bit = reader.pos();
     let len = skip_cds(params, reader, has_reference(params, place), values)?;
-    let next = place_next(params, wanted, block, place, len, bit)?;
+    let next = block_after_set(params, wanted, block, place, len, bit)?;
     skip_padding(params, reader, next);
     Ok(next)
 }

@@ -15,10 +15,11 @@ use aec_bits::BitBuf;
 use aec_params::{Fault, Params, first_bad};
 use std::mem;
 
-/// The bounds of how many samples are taken at once, if an interval has no more.
-const FEWEST_AT_ONCE: usize = 256;
+/// The fewest samples that `samples_at_once` returns.
+const FEWEST_SAMPLES_AT_ONCE: usize = 256;
 
-const MOST_AT_ONCE: usize = 4096;
+/// The most samples that `samples_at_once` returns.
+const MOST_SAMPLES_AT_ONCE: usize = 4096;
 
 /// The terms for taking samples: how they are coded, and their greatest number.
 #[derive(Debug, Drop)]
@@ -108,12 +109,15 @@ fn refusal(terms: &Terms, count: u64, taken: usize) -> Fault
 /// Returns how many samples are taken at once, if an interval has no more: twice as many as there
 /// are places for, since new places are cleared before they are first filled.
 fn samples_at_once(places: usize) -> usize {
-    places.saturating_mul(2).clamp(FEWEST_AT_ONCE, MOST_AT_ONCE)
+    places
+        .saturating_mul(2)
+        .clamp(FEWEST_SAMPLES_AT_ONCE, MOST_SAMPLES_AT_ONCE)
 }
 
-/// Returns how many of `samples` samples are taken next: at most those up to the end of an interval
-/// that is begun; else those of whole intervals, about `at_once` of them, but at least one
-/// interval; all if they are fewer.
+/// Returns how many of `samples` samples are taken next. If they fill at most the interval that is
+/// begun or comes next, returns all of them. Else, if an interval is begun, returns how many it
+/// lacks; if none is, returns the samples of whole intervals: about `at_once`, but at least one
+/// interval.
 fn part_samples(interval: usize, held: usize, samples: usize, at_once: usize) -> usize
     requires few { held < interval }
     requires some { 0 < samples }

@@ -7,8 +7,8 @@ use Rattle.aec_edit.proofs.CodingLemmas.{one_more_call, front_taken, front_dropp
 use Rattle.aec_edit.proofs.KeptLemmas.{coded_once, read_and_coded}
 use Rattle.aec_edit.proofs.workspace.Workspace.code_next.Goals as goal
 
-pub returns-then-fresh-most-clause-same : goal.returns-then-fresh-most-clause-same
-returns-then-fresh-most-clause-same g c =
+pub returns-then-fresh-interval_len-clause-same : goal.returns-then-fresh-interval_len-clause-same
+returns-then-fresh-interval_len-clause-same g c =
     coded_once g.C.Codec.format g.C.Codec.called g.C.Codec.read _ c.self.inside.written _ c.args.self.now (g.C.Codec.lawful c.code.new.self)
     c.self.view_is c.code.ensures.same_format c.code.ensures.same_reads
     (one_more_call c.code.result _ _ c.code.ensures.counts c.code.ensures.calls_err)
@@ -20,7 +20,7 @@ code-requires-2 g c =
     let now = c.gather.new.fresh in
     let rest : List ℤ = now.values.now ++ (now.back.items ++ old_part f.most seen.samples now.next now.end) in
     let same = c.in_ok-gather.ensures.ok.same in
-    let len : c.min-len.result ≡ min f.most (length now.front.items) = omega (arith, c.interval_len-most.ensures.value, now.front.ok.0) in
+    let len : c.min-len.result ≡ min f.most (length now.front.items) = omega (arith, c.interval_len-interval_len.ensures.value, now.front.ok.0) in
     let front = front_interval f now.front.items rest c.min-len.result len c.in_ok-gather.ensures.gathered (g.C.Codec.lawful seen.codec).some
     (omega (arith, ap length same, c.requires.some)) (held_at f f _ _ refl same c.requires.held) in
     rw (ap (λ w. g.C.Codec.format w.codec) c.self-2.view_is ∙ c.in_ok-gather.ensures.read.format, c.deref.ensures.value) front
@@ -41,7 +41,7 @@ returns-clause-ok g c =
     let rest : List ℤ = now.values.now ++ (now.back.items ++ old_part f.most seen.samples now.next now.end) in
     let got = c.in_ok-gather.ensures in
     let coded = c.in_ok-code.ensures in
-    let len : c.min-len.result ≡ min f.most (length now.front.items) = omega (arith, c.interval_len-most.ensures.value, now.front.ok.0) in
+    let len : c.min-len.result ≡ min f.most (length now.front.items) = omega (arith, c.interval_len-interval_len.ensures.value, now.front.ok.0) in
     let format = ap (λ w. g.C.Codec.format w.codec) c.self-2.view_is ∙ got.read.format in
     let taken = front_taken f now.front.items rest c.min-len.result len got.gathered got.ok.same in
     record {

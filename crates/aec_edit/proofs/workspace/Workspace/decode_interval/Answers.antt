@@ -11,7 +11,7 @@ overflow_mul-i g c =
     let f : Format = g.C.Codec.format c.args.self.now.codec in
     let kept = at_view g.C.Codec.format c.self.inside.written c.args.self.now c.self.view_is in
     let inside = before_end c.args.i (length s) f.most (g.C.Codec.lawful c.args.self.now.codec).some c.requires in
-    let product : c.args.i * c.interval_len-most.result ≡ c.args.i * f.most = ap (λ n. c.args.i * n) c.interval_len-most.ensures.value in
+    let product : c.args.i * c.interval_len-interval_len.result ≡ c.args.i * f.most = ap (λ n. c.args.i * n) c.interval_len-interval_len.ensures.value in
     omega (arith, c.self.invariant.0, c.self.invariant.1)
 
 pub overflow_sub-self-inside : goal.overflow_sub-self-inside
@@ -20,7 +20,7 @@ overflow_sub-self-inside g c =
     let f : Format = g.C.Codec.format c.args.self.now.codec in
     let kept = at_view g.C.Codec.format c.self.inside.written c.args.self.now c.self.view_is in
     let inside = before_end c.args.i (length s) f.most (g.C.Codec.lawful c.args.self.now.codec).some c.requires in
-    let product : c.args.i * c.interval_len-most.result ≡ c.args.i * f.most = ap (λ n. c.args.i * n) c.interval_len-most.ensures.value in
+    let product : c.args.i * c.interval_len-interval_len.result ≡ c.args.i * f.most = ap (λ n. c.args.i * n) c.interval_len-interval_len.ensures.value in
     omega arith
 
 pub decode-requires : goal.decode-requires
@@ -28,7 +28,7 @@ decode-requires g c =
     let s : List ℤ = c.args.self.now.samples in
     let f : Format = g.C.Codec.format c.args.self.now.codec in
     let kept = at_view g.C.Codec.format c.self.inside.written c.args.self.now c.self.view_is in
-    let product : c.args.i * c.interval_len-most.result ≡ c.args.i * f.most = ap (λ n. c.args.i * n) c.interval_len-most.ensures.value in (
+    let product : c.args.i * c.interval_len-interval_len.result ≡ c.args.i * f.most = ap (λ n. c.args.i * n) c.interval_len-interval_len.ensures.value in (
       take f.most (drop (c.args.i * f.most) s),
       begins_for f _ c.args.i _ _ (ap (λ w. g.C.Codec.format w.codec) c.self.view_is) (g.C.Codec.lawful c.args.self.now.codec) kept c.requires
           c.start_at-start.ensures (omega arith),
@@ -38,7 +38,7 @@ pub returns-clause-ok : goal.returns-clause-ok
 returns-clause-ok g c =
     let f : Format = g.C.Codec.format c.args.self.now.codec in
     let kept = at_view g.C.Codec.format c.self.inside.written c.args.self.now c.self.view_is in
-    let product : c.args.i * c.interval_len-most.result ≡ c.args.i * f.most = ap (λ n. c.args.i * n) c.interval_len-most.ensures.value in
+    let product : c.args.i * c.interval_len-interval_len.result ≡ c.args.i * f.most = ap (λ n. c.args.i * n) c.interval_len-interval_len.ensures.value in
     c.decode.ensures.ok _
     (begins_for f _ c.args.i _ _ (ap (λ w. g.C.Codec.format w.codec) c.self.view_is) (g.C.Codec.lawful c.args.self.now.codec) kept c.requires
     c.start_at-start.ensures (omega arith))

@@ -12,8 +12,8 @@ overflow_sub-kept g c =
     let seen = c.args.self.now in
     let f : Format = g.C.Codec.format seen.codec in
     let before = stop_before f seen.limit c.args.first c.args.stop c.args.to seen.samples c.args.values.now (g.C.Codec.lawful seen.codec)
-    c.interval_len-most.ensures.sound.held c.requires in
-    let product : c.args.to * c.interval_len-most.result ≡ c.args.to * f.most = ap (λ n. c.args.to * n) c.interval_len-most.ensures.value in
+    c.interval_len-interval_len.ensures.sound.held c.requires in
+    let product : c.args.to * c.interval_len-interval_len.result ≡ c.args.to * f.most = ap (λ n. c.args.to * n) c.interval_len-interval_len.ensures.value in
     omega (arith, c.count.ensures.value, c.requires.within)
 
 pub code_fresh-requires-clause-fresh : goal.code_fresh-requires-clause-fresh
@@ -21,15 +21,15 @@ code_fresh-requires-clause-fresh g c =
     let seen = c.args.self.now in
     let f : Format = g.C.Codec.format seen.codec in
     let lawful = g.C.Codec.lawful seen.codec in
-    let held = c.interval_len-most.ensures.sound.held in
+    let held = c.interval_len-interval_len.ensures.sound.held in
     let got = c.in_ok-fresh.ensures in
     let came = fresh_coming g.C.Codec.format seen c.fresh.new.self got.read.format got.read.samples got.ok in
     record {
       there = fresh_old_part g.C.Codec.format seen c.fresh.new.self got.read.format got.read.samples c.requires.reaches c.requires.inside got.ok;
       held = held_at f _ _ _ got.read.format came
           (all_held f seen.limit c.args.first c.args.stop c.args.to seen.samples c.args.values.now lawful held c.requires);
-      count_is = total_is _ f.most _ (length seen.samples) c.args.first c.args.stop c.args.to (length c.args.values.now) _ c.interval_len-most.ensures.value
-          c.count.ensures.value c.min.ensures
+      count_is = total_is _ f.most _ (length seen.samples) c.args.first c.args.stop c.args.to (length c.args.values.now) _
+          c.interval_len-interval_len.ensures.value c.count.ensures.value c.min.ensures
           ∙ sym (ap length came ∙ all_len f seen.limit c.args.first c.args.stop c.args.to seen.samples c.args.values.now lawful held c.requires);
     }
 
@@ -37,7 +37,7 @@ pub returns-in_err-coded : goal.returns-in_err-coded
 returns-in_err-coded g c =
     let p = err_from_is_err_and c.from_residual-in_err-coded.result c.from_residual-in_err-coded.ensures.1 in
     let seen = c.args.self.now in
-    let most = c.interval_len-most.ensures.value in
+    let most = c.interval_len-interval_len.ensures.value in
     let got = c.in_ok-fresh.ensures in
     let failed = c.in_err-coded.ensures in
     let total = total_is _ _ _ (length seen.samples) c.args.first c.args.stop c.args.to _ _ most c.count.ensures.value c.min.ensures in
@@ -45,17 +45,17 @@ returns-in_err-coded g c =
     c.div_ceil-needed.ensures in
     rw p.1
     (not_exchanged g.C.Codec.format g.C.Codec.called g.C.Codec.read seen c.args.first c.args.stop c.args.to c.args.values.now (g.C.Codec.lawful seen.codec)
-    c.interval_len-most.ensures.sound.held c.requires _ got.read got.ok failed.same total needed (omega arith) (p.2 ∙ failed.fault.0) failed.fault.1)
+    c.interval_len-interval_len.ensures.sound.held c.requires _ got.read got.ok failed.same total needed (omega arith) (p.2 ∙ failed.fault.0) failed.fault.1)
 
 pub put-requires : goal.put-requires
 put-requires g c =
     let seen = c.args.self.now in
-    let most = c.interval_len-most.ensures.value in
+    let most = c.interval_len-interval_len.ensures.value in
     let coded = c.in_ok-coded.ensures in
     let total = total_is _ _ _ (length seen.samples) c.args.first c.args.stop c.args.to _ _ most c.count.ensures.value c.min.ensures in (
       fresh_of (g.C.Codec.format seen.codec).most seen.samples (from_to c.args.first c.args.stop) c.args.to c.args.values.now,
       coded_for g.C.Codec.format g.C.Codec.called g.C.Codec.read seen c.args.first c.args.stop c.args.to c.args.values.now (g.C.Codec.lawful seen.codec)
-          c.interval_len-most.ensures.sound.held c.requires c.in_ok-fresh.ensures.read c.in_ok-fresh.ensures.ok coded.ok coded.same total
+          c.interval_len-interval_len.ensures.sound.held c.requires c.in_ok-fresh.ensures.read c.in_ok-fresh.ensures.ok coded.ok coded.same total
           (ap (λ n. c.args.first / n) most),
     )
 
@@ -63,7 +63,7 @@ pub returns-in_err-put : goal.returns-in_err-put
 returns-in_err-put g c =
     let p = err_from_is_err_and c.from_residual-in_err-put.result c.from_residual-in_err-put.ensures.1 in
     let seen = c.args.self.now in
-    let most = c.interval_len-most.ensures.value in
+    let most = c.interval_len-interval_len.ensures.value in
     let got = c.in_ok-fresh.ensures in
     let coded = c.in_ok-coded.ensures in
     let failed = c.in_err-put.ensures in
@@ -72,15 +72,15 @@ returns-in_err-put g c =
     c.div_ceil-needed.ensures in
     rw p.1
     (not_exchanged g.C.Codec.format g.C.Codec.called g.C.Codec.read seen c.args.first c.args.stop c.args.to c.args.values.now (g.C.Codec.lawful seen.codec)
-    c.interval_len-most.ensures.sound.held c.requires _ got.read got.ok (kept_since coded.same failed.err failed.rest) total needed (omega arith)
+    c.interval_len-interval_len.ensures.sound.held c.requires _ got.read got.ok (kept_since coded.same failed.err failed.rest) total needed (omega arith)
     (p.2 ∙ failed.fault.0) (omega (arith, failed.fault.1, coded.ok.count_is)))
 
 pub returns : goal.returns
 returns g c =
     let seen = c.args.self.now in
     let lawful = g.C.Codec.lawful seen.codec in
-    let held = c.interval_len-most.ensures.sound.held in
-    let most = c.interval_len-most.ensures.value in
+    let held = c.interval_len-interval_len.ensures.sound.held in
+    let most = c.interval_len-interval_len.ensures.value in
     let got = c.in_ok-fresh.ensures in
     let coded = c.in_ok-coded.ensures in
     let total = total_is _ _ _ (length seen.samples) c.args.first c.args.stop c.args.to _ _ most c.count.ensures.value c.min.ensures in

@@ -24,7 +24,7 @@ returns-in_err-open_ends-clause-fault g c =
 pub keep_ends-requires : goal.keep_ends-requires
 keep_ends-requires g c =
     let f : Format = g.C.Codec.format c.args.self.now.codec in
-    let end = touched_end _ _ _ f.most _ c.args.stop _ c.count.ensures.value c.interval_len-most.ensures.value c.div_ceil-next.ensures c.min.ensures in
+    let end = touched_end _ _ _ f.most _ c.args.stop _ c.count.ensures.value c.interval_len-interval_len.ensures.value c.div_ceil-next.ensures c.min.ensures in
     let there = ends_tail f.most c.args.first c.args.stop c.args.self.now.samples
     (g.C.Codec.lawful c.args.self.now.codec).some c.requires.order c.requires.within in
     let ends : c.open_ends.new.ends.items ≡ opened_samples f.most (from_to c.args.first c.args.stop) c.args.self.now.samples =
@@ -37,7 +37,7 @@ returns-in_err-keep_ends-clause-fault g c =
     let seen = c.args.self.now in
     let f : Format = g.C.Codec.format seen.codec in
     let lawful = g.C.Codec.lawful seen.codec in
-    let end = touched_end _ _ _ f.most _ c.args.stop _ c.count.ensures.value c.interval_len-most.ensures.value c.div_ceil-next.ensures c.min.ensures in
+    let end = touched_end _ _ _ f.most _ c.args.stop _ c.count.ensures.value c.interval_len-interval_len.ensures.value c.div_ceil-next.ensures c.min.ensures in
     let more = kept_more f seen.limit c.args.first c.args.stop c.args.to seen.samples c.args.values.now lawful c.count.ensures.held c.requires in
     let codes = some_calls f seen.limit c.args.first c.args.stop c.args.to seen.samples c.args.values.now lawful c.count.ensures.held c.requires
     (omega (arith, c.in_err-keep_ends.ensures.fault.1, end, more)) in
@@ -47,7 +47,7 @@ pub returns-clause-ok : goal.returns-clause-ok
 returns-clause-ok g c =
     let seen = c.args.self.now in
     let f : Format = g.C.Codec.format seen.codec in
-    let most = c.interval_len-most.ensures.value in
+    let most = c.interval_len-interval_len.ensures.value in
     let end = touched_end _ _ _ f.most _ c.args.stop _ c.count.ensures.value most c.div_ceil-next.ensures c.min.ensures in
     let ends : c.open_ends.new.ends.items ≡ opened_samples f.most (from_to c.args.first c.args.stop) seen.samples =
     rw c.take_lists-front.ensures.same at c.in_ok-open_ends.ensures.ok in

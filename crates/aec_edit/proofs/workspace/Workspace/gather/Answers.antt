@@ -9,7 +9,7 @@ returns-in_ok-decode_interval-clause-ok g c =
     let now = c.gather_held.new.self in
     let was = c.args.fresh.now in
     let held = c.in_ok-gather_held.ensures.ok in
-    let none = emptied c.interval_len-most.result now.front.items now.values.now now.back.items held.full (omega (arith, c.if-len-most.true)) in
+    let none = emptied c.interval_len-interval_len.result now.front.items now.values.now now.back.items held.full (omega (arith, c.if-len-interval_len.true)) in
     record {
       same =
           coming_decoded n s now.front.items now.values.now now.back.items c.decode_interval.new.out.items now.next now.end (omega (arith, c.if-fresh.true))

@@ -35,8 +35,8 @@ invariant_of-self-inside g c =
           in_format same (recoded_kept f seen.limit c.args.from c.args.to seen.samples c.requires.0 (g.C.Codec.lawful seen.codec) c.requires.1.recoding
           _ 0 _ _ _ _ _ _ _ _ kept c.requires.1.bits_are c.requires.1.starts_are
           c.cut_at-from.ensures.interval c.cut_at-to.ensures.interval c.cut_at-from.ensures.bit c.cut_at-to.ensures.bit is.bits is.starts
-          (new_count _ _ _ _ _ _ _ _ _ _ _ _ c.cut_at-from.ensures.interval c.cut_at-to.ensures.interval c.interval_len-most.ensures.value c.requires.1.count_is
-          c.count.ensures.value c.saturating_sub-later.ensures is.count_is))))
+          (new_count _ _ _ _ _ _ _ _ _ _ _ _ c.cut_at-from.ensures.interval c.cut_at-to.ensures.interval c.interval_len-interval_len.ensures.value
+          c.requires.1.count_is c.count.ensures.value c.saturating_sub-later.ensures is.count_is))))
           (on_err_then c.replace.result c.replace.ensures.err (λ is. in_format same (same_kept kept is.bits is.starts is.count))),
       tt,
     )
@@ -52,7 +52,7 @@ returns-clause-ok g c fresh is =
     (in_format same (recoded_kept f seen.limit c.args.from c.args.to seen.samples fresh (g.C.Codec.lawful seen.codec) is.recoding
     _ 0 _ _ _ _ _ _ _ _ kept is.bits_are is.starts_are
     c.cut_at-from.ensures.interval c.cut_at-to.ensures.interval c.cut_at-from.ensures.bit c.cut_at-to.ensures.bit put.bits put.starts
-    (new_count _ _ _ _ _ _ _ _ _ _ _ _ c.cut_at-from.ensures.interval c.cut_at-to.ensures.interval c.interval_len-most.ensures.value is.count_is
+    (new_count _ _ _ _ _ _ _ _ _ _ _ _ c.cut_at-from.ensures.interval c.cut_at-to.ensures.interval c.interval_len-interval_len.ensures.value is.count_is
     c.count.ensures.value c.saturating_sub-later.ensures put.count_is))))
 
 pub returns-clause-err : goal.returns-clause-err

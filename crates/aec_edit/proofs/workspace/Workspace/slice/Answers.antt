@@ -12,7 +12,7 @@ returns-in_err-decode_intervals-clause-read g c =
       room = read.room;
       format = read.format;
       calls = read.calls;
-      reads = range_reads _ c.args.first c.args.len _ _ _ _ (g.C.Codec.lawful c.args.self.now.codec).some some c.interval_len-most.ensures.value
+      reads = range_reads _ c.args.first c.args.len _ _ _ _ (g.C.Codec.lawful c.args.self.now.codec).some some c.interval_len-interval_len.ensures.value
           c.div_ceil.ensures read.reads;
     }
 
@@ -20,7 +20,7 @@ pub returns-clause-ok : goal.returns-clause-ok
 returns-clause-ok g c =
     range_is (g.C.Codec.format c.args.self.now.codec).most c.args.first c.args.len _ _ _ c.args.self.now.samples _ _
     (g.C.Codec.lawful c.args.self.now.codec).some
-    c.interval_len-most.ensures.value c.div_ceil.ensures refl (rw c.new-out.ensures.items at c.in_ok-decode_intervals.ensures.ok) c.keep_part.ensures
+    c.interval_len-interval_len.ensures.value c.div_ceil.ensures refl (rw c.new-out.ensures.items at c.in_ok-decode_intervals.ensures.ok) c.keep_part.ensures
 
 pub returns-clause-read : goal.returns-clause-read
 returns-clause-read g c =
@@ -32,6 +32,6 @@ returns-clause-read g c =
       room = read.room;
       format = read.format;
       calls = read.calls;
-      reads = range_reads _ c.args.first c.args.len _ _ _ _ (g.C.Codec.lawful c.args.self.now.codec).some some c.interval_len-most.ensures.value
+      reads = range_reads _ c.args.first c.args.len _ _ _ _ (g.C.Codec.lawful c.args.self.now.codec).some some c.interval_len-interval_len.ensures.value
           c.div_ceil.ensures read.reads;
     }

@@ -1,7 +1,7 @@
 use Rattle.std.proofs.Common.{◌≤◌, length, ap, sym, subst}
 use Rattle.aec_interval.specs.Pieces.{Place}
 use Rattle.aec_interval.proofs.ReachedPlaceLemmas.{place-within}
-use Rattle.aec_interval.proofs.stream_reader.StreamReader.go_back.Goals as goal
+use Rattle.aec_interval.proofs.stream_reader.StreamReader.seek.Goals as goal
 
 pub seek-requires : goal.seek-requires
 seek-requires c =
