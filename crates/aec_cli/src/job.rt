@@ -9,7 +9,7 @@ ghost use Rattle.aec_cli.specs.Jobs.{work_of, work_asked, action_refusal};
 ghost use Rattle.aec_cli.specs.Asked.{work_meant};
 
 use crate::usage::Usage;
-use aec_engine::range_in;
+use aec_engine::parse_range;
 use aec_params::{Params, Settings};
 use clap::ArgMatches;
 use std::alloc::{AllocError, Global};
@@ -119,7 +119,7 @@ fn asked_action<'a>(matches: &'a ArgMatches<'_>) -> Result<Asked<'a>, Usage>
     ) {
         (true, None, None) => Ok(Asked::Decode { count }),
         (false, Some(text), None) => {
-            let (first, len) = range_in(text).ok_or(Usage::Range)?;
+            let (first, len) = parse_range(text).ok_or(Usage::Range)?;
             Ok(Asked::Range { first, len, count })
         }
         (false, None, Some(script)) => Ok(Asked::Edit { script, count }),

@@ -92,16 +92,16 @@ fn act_by_script<Q: Source, R: Source, W: Sink>(
     alloc: Global,
     params: &Params,
     count: Option<u64>,
-    from: &mut Q,
+    script_source: &mut Q,
     source: &mut R,
     sink: &mut W,
 ) -> Result<(), EditFault>
-    ensures { let read : Taking = taking_of Q.left Q.failed from.old from.new in
+    ensures { let read : Taking = taking_of Q.left Q.failed script_source.old script_source.new in
         let took : Taking = taking_of R.left R.failed source.old source.new in
         let put : Putting = putting_of W.taken W.begun W.mark W.failed sink.old sink.new in
         LeavesEdited params.now program_caps count read took put result }
 {
-    edit(alloc, params, limits(), count, from, source, sink)
+    edit(alloc, params, limits(), count, script_source, source, sink)
 }
 
 /// Does a job with its files, within the limits of the program. The job is done once its DEST was
@@ -120,10 +120,16 @@ fn run<F: Files>(rt: &F, alloc: Global, job: Job) -> Result<Done, Failure>
     let mut sink = DestSink::new(rt, dest);
     match action {
         Action::Edit { script, count } => {
-            let mut from = FileSource::new(rt, script);
-            act_by_script(alloc, &params, count, &mut from, &mut source, &mut sink).map_err(
-                Failure::Edit,
-            )?;
+            let mut script_source = FileSource::new(rt, script);
+            act_by_script(
+                alloc,
+                &params,
+                count,
+                &mut script_source,
+                &mut source,
+                &mut sink,
+            )
+            .map_err(Failure::Edit)?;
         }
         action => act(alloc, &params, action, &mut source, &mut sink).map_err(Failure::Fault)?,
     }

@@ -43,6 +43,7 @@ pub(crate) struct Retrying<T> {
 impl<T> Retrying<T> {
     ghost use Rattle.std.specs.Prelude.{◌≡◌};
 
+    /// Returns the file whose calls are repeated.
     pub(crate) fn new(file: T) -> Retrying<T>
         ensures { result.file ≡ file }
     {
