@@ -7,7 +7,7 @@ use Rattle.clap.specs.Walk.{Text, rows_of}
 use Rattle.clap.specs.declared.parser.matches.Found.{Found}
 use Rattle.clap.specs.declared.error.kind.ErrorKind.{ErrorKind}
 use Rattle.clap.specs.declared.error.kind.ErrorKind.TheVariants as kind
-use Rattle.aec_cli.specs.declared.again.SyncAnswer.{SyncAnswer}
+use Rattle.aec_cli.specs.declared.retrying.SyncAnswer.{SyncAnswer}
 use Rattle.aec_cli.specs.declared.done.Done.{Done}
 use Rattle.aec_cli.specs.declared.ending.End.{End}
 use Rattle.aec_cli.specs.declared.ending.End.TheVariants as end

@@ -4,7 +4,7 @@ ghost use Rattle.std.specs.Prelude.{◌≡◌, ◌⊎◌, ◌↔◌, Some, None,
 ghost use Rattle.aec_params.specs.declared.fault.Fault.TheVariants.{Write as WriteFault};
 ghost use Rattle.aec_cli.specs.Ends.{IsWrittenOut};
 
-use crate::again::{Again, SyncAnswer};
+use crate::retrying::{Retrying, SyncAnswer};
 use aec_params::Fault;
 use std::fs::OpenFile;
 use std::io::ErrorKind;
@@ -41,8 +41,9 @@ impl Done {
     }
 }
 
-// Returns whether an error of this kind says that the file can't be synced, like a pipe or a
-// terminal. Such a file is written out all the same. Every other kind is a failure of the file.
+/// Returns whether an error of this kind says that the file can't be synced, as a pipe or a
+/// terminal can't. Such a file counts as written out. An error of any other kind is a failure of
+/// the file.
 fn cant_be_synced(kind: ErrorKind) -> bool
     ensures { IsTrue result
         ↔ ((kind ≡ ErrorKind.InvalidInput) ⊎ (kind ≡ ErrorKind.Unsupported)) }
@@ -50,7 +51,7 @@ fn cant_be_synced(kind: ErrorKind) -> bool
     matches!(kind, ErrorKind::InvalidInput | ErrorKind::Unsupported)
 }
 
-// Returns whether the result of its sync shows that a file is written out.
+/// Returns whether the result of its sync shows that a file is written out.
 fn is_written_out(answer: &SyncAnswer) -> bool
     ensures { IsTrue result ↔ IsWrittenOut answer.now }
 {
@@ -60,7 +61,7 @@ fn is_written_out(answer: &SyncAnswer) -> bool
     }
 }
 
-// Fails with `Write` unless `is_written_out(answer)`.
+/// Fails with `Write` unless `is_written_out(answer)`.
 fn judged(answer: SyncAnswer) -> Result<Synced, Fault>
     ensures done { IsOk result ↔ IsWrittenOut answer }
     ensures answer { IfOk result (λ synced. synced.answer ≡ answer) }
@@ -74,7 +75,7 @@ fn judged(answer: SyncAnswer) -> Result<Synced, Fault>
 }
 
 /// Makes the system write out an open file.
-pub(crate) fn write_out<T: OpenFile>(file: &Again<T>) -> Result<Synced, Fault>
+pub(crate) fn write_out<T: OpenFile>(file: &Retrying<T>) -> Result<Synced, Fault>
     ensures done { IfOk result (λ synced. IsWrittenOut synced.answer) }
     ensures fault { IfErr result (λ e. e ≡ WriteFault) }
 {

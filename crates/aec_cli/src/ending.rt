@@ -4,7 +4,7 @@ ghost use Rattle.std.specs.Prelude.{◌≡◌};
 ghost use Rattle.aec_cli.specs.Ends.{end_status};
 
 use crate::done::Done;
-use crate::failure::{Failure, status};
+use crate::failure::Failure;
 
 /// How the program ended.
 #[derive(Debug, PartialEq, Eq, Drop)]
@@ -26,7 +26,7 @@ impl End {
         match self {
             End::Unstarted { status } => *status,
             End::Done(_done) => 0,
-            End::Failed(failure) => status(failure),
+            End::Failed(failure) => failure.status(),
         }
     }
 }

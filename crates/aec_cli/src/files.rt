@@ -7,14 +7,14 @@ ghost use Rattle.aec_bits.specs.Devices.{FailsOnce};
 ghost use Rattle.aec_cli.specs.Ends.{HasSynced};
 ghost use Rattle.aec_cli.specs.Openings.{is_closed, is_open, is_unopened, is_unopened_reading, IsTried, IsTriedReading};
 
-use crate::again::Again;
 use crate::done::{Done, write_out};
+use crate::retrying::Retrying;
 use aec_bits::{ReadSource, Sink, Source, WriteSink};
 use aec_params::Fault;
 use std::fs;
 use std::rt::Files;
 
-// The state of a source's file. The file is closed once its end was read.
+/// The state of a source's file. The file is closed once its end was read.
 #[derive(Drop)]
 enum Reading<T: Drop> {
     Unopened,
@@ -23,7 +23,7 @@ enum Reading<T: Drop> {
     Failed,
 }
 
-// The state of a sink's file.
+/// The state of a sink's file.
 #[derive(Drop)]
 enum Opening<T: Drop> {
     Unopened,
@@ -31,22 +31,23 @@ enum Opening<T: Drop> {
     Failed,
 }
 
-// Opens a file: then it is open and has not failed, or it can't be opened.
-fn opened<F: Files>(rt: &F, path: &str) -> Reading<ReadSource<Again<F::File>>>
-    ensures { IsTriedReading ⟦<ReadSource<Again<F::File>> as Source>⟧.failed result }
+/// Opens a file: then it is open and has not failed, or it can't be opened.
+fn opened<F: Files>(rt: &F, path: &str) -> Reading<ReadSource<Retrying<F::File>>>
+    ensures { IsTriedReading ⟦<ReadSource<Retrying<F::File>> as Source>⟧.failed result }
 {
     match fs::open(rt, path) {
-        Ok(file) => Reading::Open(ReadSource::new(Again::new(file))),
+        Ok(file) => Reading::Open(ReadSource::new(Retrying::new(file))),
         Err(_) => Reading::Failed,
     }
 }
 
-// Does the same as `opened` for a file that is created, or emptied if it exists.
-fn created<F: Files>(rt: &F, path: &str) -> Opening<WriteSink<Again<F::File>>>
-    ensures { IsTried ⟦<WriteSink<Again<F::File>> as Sink>⟧.failed result }
+/// Creates a file, or empties it if it exists: then it is open and has not failed, or it can't be
+/// created.
+fn created<F: Files>(rt: &F, path: &str) -> Opening<WriteSink<Retrying<F::File>>>
+    ensures { IsTried ⟦<WriteSink<Retrying<F::File>> as Sink>⟧.failed result }
 {
     match fs::create(rt, path) {
-        Ok(file) => Opening::Open(WriteSink::new(Again::new(file))),
+        Ok(file) => Opening::Open(WriteSink::new(Retrying::new(file))),
         Err(_) => Opening::Failed,
     }
 }
@@ -59,7 +60,7 @@ fn created<F: Files>(rt: &F, path: &str) -> Opening<WriteSink<Again<F::File>>>
 pub struct FileSource<'a, F: Files> {
     rt: &'a F,
     path: String,
-    file: Reading<ReadSource<Again<F::File>>>,
+    file: Reading<ReadSource<Retrying<F::File>>>,
 }
 
 impl<'a, F: Files> FileSource<'a, F> {
@@ -79,9 +80,9 @@ impl<'a, F: Files> FileSource<'a, F> {
 impl<'a, F: Files> Source for FileSource<'a, F> {
     ghost use Rattle.aec_cli.specs.Openings.{bytes_unread, failures_read};
 
-    ghost left = { λ s. bytes_unread ⟦<ReadSource<Again<F::File>> as Source>⟧.left s.file };
+    ghost left = { λ s. bytes_unread ⟦<ReadSource<Retrying<F::File>> as Source>⟧.left s.file };
 
-    ghost failed = { λ s. failures_read ⟦<ReadSource<Again<F::File>> as Source>⟧.failed s.file };
+    ghost failed = { λ s. failures_read ⟦<ReadSource<Retrying<F::File>> as Source>⟧.failed s.file };
 
     fn take(&mut self, buf: &mut [u8]) -> Result<usize, Fault>
         ensures bound { IfOk result (λ k. k ≤ length buf.new) }
@@ -128,7 +129,7 @@ impl<'a, F: Files> Source for FileSource<'a, F> {
 pub struct DestSink<'a, F: Files> {
     rt: &'a F,
     path: String,
-    file: Opening<WriteSink<Again<F::File>>>,
+    file: Opening<WriteSink<Retrying<F::File>>>,
     begins: u64,
     ghost unbegun: { begins ≡ 0 → is_open file ≡ false },
     ghost begun: { 0 < begins → is_unopened file ≡ false },
@@ -175,9 +176,9 @@ impl<'a, F: Files> DestSink<'a, F> {
 impl<'a, F: Files> Sink for DestSink<'a, F> {
     ghost use Rattle.aec_cli.specs.Openings.{bytes_known, failures_of};
 
-    ghost taken = { λ s. bytes_known ⟦<WriteSink<Again<F::File>> as Sink>⟧.taken s.file };
+    ghost taken = { λ s. bytes_known ⟦<WriteSink<Retrying<F::File>> as Sink>⟧.taken s.file };
 
-    ghost failed = { λ s. failures_of ⟦<WriteSink<Again<F::File>> as Sink>⟧.failed s.file };
+    ghost failed = { λ s. failures_of ⟦<WriteSink<Retrying<F::File>> as Sink>⟧.failed s.file };
 
     ghost begun = { λ s. s.begins };
 

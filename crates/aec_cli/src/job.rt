@@ -9,34 +9,34 @@ ghost use Rattle.aec_cli.specs.Jobs.{work_of, work_asked, action_refusal};
 ghost use Rattle.aec_cli.specs.Asked.{work_meant};
 
 use crate::usage::Usage;
-use aec_engine::range_in;
+use aec_engine::parse_range;
 use aec_params::{Params, Settings};
 use clap::ArgMatches;
 use std::alloc::{AllocError, Global};
 
-/// What is done with the source.
+/// What a run does with its source.
 #[derive(Debug, PartialEq, Eq, Drop)]
 pub enum Action {
-    /// Codes its samples.
+    /// Codes the samples of the source.
     Encode,
-    /// Decodes it: the first `count` samples, or all without a count.
+    /// Decodes the source: the first `count` samples, or all without a count.
     Decode {
         count: Option<u64>,
     },
-    /// Decodes it, and keeps `len` of these samples, from place `first` on.
+    /// Decodes the source, and keeps `len` of these samples, from place `first` on.
     Range {
         first: u64,
         len: u64,
         count: Option<u64>,
     },
-    /// Decodes it, and codes the samples that the edits of the file `script` leave.
+    /// Decodes the source, and codes the samples that the edits of the file `script` leave.
     Edit {
         script: String,
         count: Option<u64>,
     },
 }
 
-// What is done, before a name is copied.
+/// An action whose script's name isn't copied yet.
 #[derive(Drop)]
 enum Asked<'a> {
     Encode,
@@ -67,7 +67,7 @@ pub struct Job {
 /// Returns the job that the matches of a parse ask for. The refusals in their order: `Jobs`,
 /// `Count` and `Range`, which concern the action; `Setting`; and `Memory` only if there is no
 /// other.
-pub fn settings(alloc: Global, matches: &ArgMatches<'_>) -> Result<Job, Usage>
+pub fn read_job(alloc: Global, matches: &ArgMatches<'_>) -> Result<Job, Usage>
     ensures ok { IfOk result (λ job. job_of (found_of matches.now) ≡ Ok (task_of job)) }
     ensures refuses { IfErr (job_of (found_of matches.now)) (λ usage. result ≡ Err usage) }
     ensures memory { IfErr result
@@ -86,7 +86,7 @@ pub fn settings(alloc: Global, matches: &ArgMatches<'_>) -> Result<Job, Usage>
     })
 }
 
-// Returns the settings, each with its default if it is not given.
+/// Returns the settings, each with its default if it is not given.
 #[tactic(auto, unfolding(crate::specs::Jobs::settings_of))]
 fn asked_settings(matches: &ArgMatches<'_>) -> Settings
     ensures { result ≡ settings_of (found_of matches.now) }
@@ -105,7 +105,7 @@ fn asked_settings(matches: &ArgMatches<'_>) -> Settings
     }
 }
 
-// Returns what is done. Fails with the first rule of actions that is broken.
+/// Returns the action that the words ask for. Fails with the first rule of actions that is broken.
 #[tactic(auto, unfolding(crate::specs::Jobs::work_asked, crate::specs::Jobs::action_refusal, crate::specs::Jobs::actions_given, crate::specs::Jobs::range_of))]
 fn asked_action<'a>(matches: &'a ArgMatches<'_>) -> Result<Asked<'a>, Usage>
     ensures ok { IfOk result (λ asked. work_meant asked ≡ work_asked (found_of matches.now)) }
@@ -119,7 +119,7 @@ fn asked_action<'a>(matches: &'a ArgMatches<'_>) -> Result<Asked<'a>, Usage>
     ) {
         (true, None, None) => Ok(Asked::Decode { count }),
         (false, Some(text), None) => {
-            let (first, len) = range_in(text).ok_or(Usage::Range)?;
+            let (first, len) = parse_range(text).ok_or(Usage::Range)?;
             Ok(Asked::Range { first, len, count })
         }
         (false, None, Some(script)) => Ok(Asked::Edit { script, count }),
@@ -129,7 +129,8 @@ fn asked_action<'a>(matches: &'a ArgMatches<'_>) -> Result<Asked<'a>, Usage>
     }
 }
 
-// Returns what is asked for, with a copy of a script's name.
+/// Returns the action `asked`, with a copy of its script's name if it is an edit. Fails if the
+/// allocation fails.
 fn kept_action(alloc: Global, asked: Asked<'_>) -> Result<Action, AllocError>
     ensures { IfOk result (λ action. work_of action ≡ work_meant asked.entry) }
 {
@@ -144,6 +145,7 @@ fn kept_action(alloc: Global, asked: Asked<'_>) -> Result<Action, AllocError>
     })
 }
 
+/// Returns whether the flag `id` is given.
 #[tactic(auto, unfolding(crate::specs::Jobs::is_given))]
 fn has_flag(matches: &ArgMatches<'_>, id: &str) -> bool
     ensures { result ≡ is_given id.now (found_of matches.now) }
@@ -154,18 +156,21 @@ fn has_flag(matches: &ArgMatches<'_>, id: &str) -> bool
     }
 }
 
+/// Returns the number of the option `id`, or `default` if it isn't given.
 fn number(matches: &ArgMatches<'_>, id: &str, default: u32) -> u32
     ensures { result ≡ word_of default id.now (found_of matches.now) }
 {
     matches.get_one::<u32>(id).unwrap_or(default)
 }
 
+/// Returns the number of `--count`, if it is given.
 fn sample_count(matches: &ArgMatches<'_>) -> Option<u64>
     ensures { result ≡ count_of (found_of matches.now) }
 {
     matches.get_one::<u64>("count")
 }
 
+/// Returns a copy of the name of the file `id`. Fails if the allocation fails.
 #[tactic(auto, unfolding(crate::specs::Jobs::file_of))]
 fn file_name(alloc: Global, matches: &ArgMatches<'_>, id: &str) -> Result<String, AllocError>
     ensures { IfOk result (λ name. string_bytes name ≡ file_of id.now (found_of matches.now)) }

@@ -2,26 +2,23 @@
 //! whole run.
 #![tactic(auto)]
 
-mod again;
 mod done;
 mod ending;
 mod failure;
 mod files;
 mod job;
 mod program;
+mod retrying;
 mod start;
 mod usage;
 mod words;
 
-pub use aec_engine::{
-    Decoded, EditFault, Script, carry_out, decode, decode_bytes, decode_edited, edit, edit_over,
-    encode, encode_bytes, laws, range, script,
-};
+pub use aec_engine::{EditFault, decode, encode, range};
 pub use done::Done;
 pub use ending::End;
-pub use failure::{Failure, status};
+pub use failure::Failure;
 pub use files::{DestSink, FileSource};
-pub use job::{Action, Job, settings};
+pub use job::{Action, Job, read_job};
 pub use program::perform;
 pub use start::{StartFault, fill_if_closed, process_words};
 pub use usage::Usage;

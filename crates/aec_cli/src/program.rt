@@ -15,7 +15,7 @@ use crate::done::Done;
 use crate::ending::End;
 use crate::failure::Failure;
 use crate::files::{DestSink, FileSource};
-use crate::job::{Action, Job, settings};
+use crate::job::{Action, Job, read_job};
 use crate::usage::Usage;
 use crate::words::parse;
 use aec_bits::{Sink, Source};
@@ -45,14 +45,14 @@ pub fn perform<F: Files, O: Write, E: Write>(
         Ok(matches) => matches,
         Err(error) => return unparsed(&error, out, err),
     };
-    let job = match settings(alloc, &matches) {
+    let job = match read_job(alloc, &matches) {
         Ok(job) => job,
         Err(usage) => return failed(Failure::Usage(usage), err),
     };
     ended(run(rt, alloc, job), err)
 }
 
-// The limits of the program: 2^32 samples, and 2^35 bytes of coded data.
+/// The limits of the program: 2^32 samples, and 2^35 bytes of coded data.
 fn limits() -> Limits
     ensures { result ≡ program_caps }
 {
@@ -62,8 +62,8 @@ fn limits() -> Limits
     }
 }
 
-// Does an action without a script on a source, within the limits of the program, and writes its
-// answer to a sink.
+/// Does an action without a script on a source, within the limits of the program, and writes its
+/// answer to a sink.
 fn act<R: Source, W: Sink>(
     alloc: Global,
     params: &Params,
@@ -87,25 +87,25 @@ fn act<R: Source, W: Sink>(
     }
 }
 
-// Edits the samples of a source by the script of another, within the limits of the program.
+/// Edits the samples of a source by the script of another, within the limits of the program.
 fn act_by_script<Q: Source, R: Source, W: Sink>(
     alloc: Global,
     params: &Params,
     count: Option<u64>,
-    from: &mut Q,
+    script_source: &mut Q,
     source: &mut R,
     sink: &mut W,
 ) -> Result<(), EditFault>
-    ensures { let read : Taking = taking_of Q.left Q.failed from.old from.new in
+    ensures { let read : Taking = taking_of Q.left Q.failed script_source.old script_source.new in
         let took : Taking = taking_of R.left R.failed source.old source.new in
         let put : Putting = putting_of W.taken W.begun W.mark W.failed sink.old sink.new in
         LeavesEdited params.now program_caps count read took put result }
 {
-    edit(alloc, params, limits(), count, from, source, sink)
+    edit(alloc, params, limits(), count, script_source, source, sink)
 }
 
-// Does a job with its files, within the limits of the program. The job is done once its DEST was
-// begun and finished without a fault.
+/// Does a job with its files, within the limits of the program. The job is done once its DEST was
+/// begun and finished without a fault.
 fn run<F: Files>(rt: &F, alloc: Global, job: Job) -> Result<Done, Failure>
     ensures done { IfOk result (λ done. HasSynced done) }
     ensures fault { IfErr result (λ failure. ConcernsJob failure) }
@@ -120,17 +120,23 @@ fn run<F: Files>(rt: &F, alloc: Global, job: Job) -> Result<Done, Failure>
     let mut sink = DestSink::new(rt, dest);
     match action {
         Action::Edit { script, count } => {
-            let mut from = FileSource::new(rt, script);
-            act_by_script(alloc, &params, count, &mut from, &mut source, &mut sink).map_err(
-                Failure::Edit,
-            )?;
+            let mut script_source = FileSource::new(rt, script);
+            act_by_script(
+                alloc,
+                &params,
+                count,
+                &mut script_source,
+                &mut source,
+                &mut sink,
+            )
+            .map_err(Failure::Edit)?;
         }
         action => act(alloc, &params, action, &mut source, &mut sink).map_err(Failure::Fault)?,
     }
     sink.finish().map_err(Failure::Fault)
 }
 
-// Returns how the program ends, by the result of a run. Prints a failure.
+/// Returns how the program ends, by the result of a run. Prints a failure.
 fn ended<E: Write>(run: Result<Done, Failure>, err: &mut E) -> End
     ensures { result ≡ end_of_run run }
 {
@@ -140,7 +146,7 @@ fn ended<E: Write>(run: Result<Done, Failure>, err: &mut E) -> End
     }
 }
 
-// Prints the line of a failure, and returns this end of the program.
+/// Prints the line of a failure, and returns this end of the program.
 fn failed<E: Write>(failure: Failure, err: &mut E) -> End
     ensures { result ≡ End.Failed failure }
 {
@@ -148,8 +154,8 @@ fn failed<E: Write>(failure: Failure, err: &mut E) -> End
     End::Failed(failure)
 }
 
-// Prints what a parse returned instead of matches: help, the version, a mistake in the words, or
-// the lack of memory. Returns this end of the program.
+/// Prints what a parse returned instead of matches: help, the version, a mistake in the words, or
+/// the lack of memory. Returns this end of the program.
 fn unparsed<O: Write, E: Write>(error: &clap::Error, out: &mut O, err: &mut E) -> End
     ensures { result ≡ end_of_parse (kind_of error.now) }
 {

@@ -39,11 +39,11 @@ impl StartFault {
     }
 }
 
-// The error number of a call with a descriptor that isn't open (EBADF).
+/// The error number of a call with a descriptor that isn't open (EBADF).
 const BAD_DESCRIPTOR: i32 = 9;
 
-// Returns whether the descriptor of a stream isn't open. A descriptor that is open but can't be
-// duplicated, since no number is free, isn't closed.
+/// Returns whether the descriptor of a stream isn't open. A descriptor that is open but can't be
+/// duplicated, since no number is free, isn't closed.
 fn is_closed<S: AsFd>(stream: &S) -> bool {
     match stream.as_fd().try_clone_to_owned() {
         Ok(_) => false,

@@ -46,7 +46,7 @@ pub fn parse<'a>(alloc: Global, words: &'a [String]) -> Result<ArgMatches<'a>, E
     command.try_get_matches_from(words)
 }
 
-// Adds the numbers of the format.
+/// Adds the numbers of the format.
 fn with_numbers<'a>(alloc: Global, command: Command<'a>) -> Result<Command<'a>, AllocError>
     ensures { IfOk result (λ c. app_of c ≡ with_rules (app_of command.entry) number_rules) }
 {
@@ -77,7 +77,7 @@ fn with_numbers<'a>(alloc: Global, command: Command<'a>) -> Result<Command<'a>, 
     command.arg(bits)?.arg(block_size)?.arg(interval)
 }
 
-// Adds the options of coding.
+/// Adds the options of coding.
 fn with_coding<'a>(alloc: Global, command: Command<'a>) -> Result<Command<'a>, AllocError>
     ensures { IfOk result (λ c. app_of c ≡ with_rules (app_of command.entry) coding_rules) }
 {
@@ -112,7 +112,7 @@ fn with_coding<'a>(alloc: Global, command: Command<'a>) -> Result<Command<'a>, A
         .arg(restricted)
 }
 
-// Adds the options of storage.
+/// Adds the options of storage.
 fn with_storage<'a>(alloc: Global, command: Command<'a>) -> Result<Command<'a>, AllocError>
     ensures { IfOk result (λ c. app_of c ≡ with_rules (app_of command.entry) storage_rules) }
 {
@@ -132,7 +132,7 @@ fn with_storage<'a>(alloc: Global, command: Command<'a>) -> Result<Command<'a>, 
     command.arg(signed)?.arg(msb_first)?.arg(three_byte)
 }
 
-// Adds the options of the action.
+/// Adds the options of the action.
 fn with_work<'a>(alloc: Global, command: Command<'a>) -> Result<Command<'a>, AllocError>
     ensures { IfOk result (λ c. app_of c ≡ with_rules (app_of command.entry) work_rules) }
 {
@@ -173,7 +173,7 @@ fn with_work<'a>(alloc: Global, command: Command<'a>) -> Result<Command<'a>, All
         .arg(buffer)
 }
 
-// Adds the two files.
+/// Adds the two files.
 fn with_files<'a>(alloc: Global, command: Command<'a>) -> Result<Command<'a>, AllocError>
     ensures { IfOk result (λ c. app_of c ≡ with_rules (app_of command.entry) file_rules) }
 {
@@ -186,7 +186,7 @@ fn with_files<'a>(alloc: Global, command: Command<'a>) -> Result<Command<'a>, Al
     command.arg(source)?.arg(dest)
 }
 
-// Returns an option of one letter that takes no value.
+/// Returns an option of one letter that takes no value.
 fn flag<'a>(alloc: Global, id: &'a str, letter: char, help: &'a str) -> Arg<'a>
     ensures rule { rule_of result ≡ flag_rule id.entry.now letter }
     ensures local { result.global ≡ false }
@@ -197,7 +197,7 @@ fn flag<'a>(alloc: Global, id: &'a str, letter: char, help: &'a str) -> Arg<'a>
         .help(help)
 }
 
-// Returns an option with a long name that takes no value.
+/// Returns an option with a long name that takes no value.
 fn long_flag<'a>(alloc: Global, name: &'a str, help: &'a str) -> Arg<'a>
     ensures rule { rule_of result ≡ long_flag_rule name.entry.now }
     ensures local { result.global ≡ false }
@@ -206,7 +206,7 @@ fn long_flag<'a>(alloc: Global, name: &'a str, help: &'a str) -> Arg<'a>
     switch.long(name).help(help)
 }
 
-// Returns an option of one letter that takes a number, which the parser judges.
+/// Returns an option of one letter that takes a number, which the parser judges.
 fn number<'a>(
     alloc: Global,
     id: &'a str,
@@ -225,7 +225,7 @@ fn number<'a>(
         .help(help)
 }
 
-// Returns an option with a long name that takes a number, which the parser judges.
+/// Returns an option with a long name that takes a number, which the parser judges.
 fn long_number<'a>(
     alloc: Global,
     name: &'a str,
@@ -243,7 +243,7 @@ fn long_number<'a>(
         .help(help)
 }
 
-// Returns an option with a long name that takes a text.
+/// Returns an option with a long name that takes a text.
 fn long_text<'a>(alloc: Global, name: &'a str, value: &'a str, help: &'a str) -> Arg<'a>
     ensures rule { rule_of result ≡ long_text_rule name.entry.now }
     ensures local { result.global ≡ false }
@@ -254,7 +254,7 @@ fn long_text<'a>(alloc: Global, name: &'a str, value: &'a str, help: &'a str) ->
         .help(help)
 }
 
-// Returns a file, which must be named.
+/// Returns a file, which must be named.
 fn file<'a>(alloc: Global, id: &'a str, help: &'a str) -> Arg<'a>
     ensures rule { rule_of result ≡ file_rule id.entry.now }
     ensures local { result.global ≡ false }

@@ -16,7 +16,7 @@ text_ahead ahead = option_map (λ text. text.now) ahead.rest
 -- the listing of the planned overwrites, and of its lines
 abbrev pub behind : EditsAhead → Listing
 behind ahead = planned_in (drop ahead.taken ahead.window.now)
-    (listing_from (ahead.number + 1) (lines_left (text_ahead ahead)))
+    (listing_from (ahead.lines_read + 1) (lines_left (text_ahead ahead)))
 
 -- a listing, with an edit before it
 abbrev pub with_next : Option NextEdit → Listing → Listing
@@ -30,7 +30,7 @@ left_in ahead = with_next ahead.next (behind ahead)
 -- the lines that are not read again yet have been judged, and can be counted
 pub record AreKnown (ahead : EditsAhead) : Type 0 where
   pub sound : (behind ahead).bad ≡ None
-  pub few : ahead.number + text_left (text_ahead ahead) ≤ 2 ^ 63
+  pub few : ahead.lines_read + text_left (text_ahead ahead) ≤ 2 ^ 63
 
 -- a listing of nothing
 abbrev pub no_edits : Listing

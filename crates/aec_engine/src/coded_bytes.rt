@@ -13,21 +13,19 @@ use aec_interval::StreamCoder;
 use aec_params::{Fault, Limits, Params};
 use std::alloc::Global;
 
-/// Room for the code is made in advance for at most this many bytes of samples. Longer code grows
-/// while it is made.
-const SHORT: usize = 65536;
+/// The code of at most this many bytes of samples gets its room in advance. Longer code grows while
+/// it is made.
+const MAX_SHORT_INPUT_BYTES: usize = 65536;
 
-/// Returns an empty list with room for the code of `len` bytes of samples, or of `SHORT` bytes if
-/// that is less: code seldom takes more than nine bits a byte. If the allocation fails, it has no
-/// room.
+/// Returns an empty list with room for the code of `len` bytes of samples, or of
+/// `MAX_SHORT_INPUT_BYTES` if that is less: code seldom takes more than nine bits a byte. If the
+/// allocation fails, it has no room.
 fn roomy_bits(alloc: Global, len: usize) -> BitBuf
     ensures { result.list ≡ [] }
 {
     let mut bits = BitBuf::new(alloc);
-    match bits.reserve(9 * len.min(SHORT) as u64 + 64) {
-        Ok(()) => bits,
-        Err(_refused) => bits,
-    }
+    let _ = bits.reserve(9 * len.min(MAX_SHORT_INPUT_BYTES) as u64 + 64);
+    bits
 }
 
 /// Returns the code of stored samples.
@@ -98,8 +96,6 @@ pub fn encode_into(
     ensures { FillsOne (OrMemory (IsEncoded params.now limits (input_of bytes.now false)))
         out.old out.new result }
 {
-    match coded_bits(alloc, params, limits, bytes) {
-        Ok(bits) => Ok(put_front(&bits, out)),
-        Err(fault) => Err(fault),
-    }
+    let code = coded_bits(alloc, params, limits, bytes)?;
+    Ok(put_front(&code, out))
 }

@@ -10,13 +10,14 @@ use aec_params::{Fault, Limits, Params};
 use std::alloc::Global;
 use std::io::Read;
 
-// Bytes in memory as a source, which never fails.
+/// Bytes in memory as a source, which never fails.
 #[derive(Drop)]
 pub(crate) struct SliceSource<'a> {
     rest: &'a [u8],
 }
 
 impl<'a> SliceSource<'a> {
+    /// Returns a source of these bytes.
     pub(crate) fn new(bytes: &'a [u8]) -> SliceSource<'a>
         ensures { ⟦<SliceSource<'a> as Source>⟧.left result ≡ Some bytes.now }
     {
@@ -38,7 +39,7 @@ impl<'a> Source for SliceSource<'a> {
     }
 }
 
-// Returns `Memory` for `Write`: a write to a vector fails only for lack of memory.
+/// Returns `Memory` for `Write`: a write to a vector fails only for lack of memory.
 pub(crate) fn refusal(fault: Fault) -> Fault
     ensures memory { fault ≡ WriteFault → result ≡ Memory }
     ensures other { (result ≡ fault) ⊎ (fault ≡ WriteFault) }

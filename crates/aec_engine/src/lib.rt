@@ -22,6 +22,6 @@ pub use coded_bytes::{encode_bytes, encode_into};
 pub use edited_streams::{Decoded, decode_edited};
 pub use engine::{carry_out, decode, decode_into, edit, edit_over, encode, range, range_into};
 pub use in_memory::decode_bytes;
-pub use numerals::range_in;
-pub use script_reading::script;
+pub use numerals::parse_range;
+pub use script_reading::parse_script;
 pub use scripts::{EditFault, Script};

@@ -7,27 +7,27 @@ ghost use Rattle.aec_engine.specs.ScriptLines.{text_left};
 ghost use Rattle.aec_engine.specs.Planning.{listing_in, text_behind};
 ghost use Rattle.aec_engine.specs.EditsAhead.{AreAhead, AreKnown, behind, left_in, no_edits, unread};
 
-use crate::script_lines::{Line, parsed_line};
+use crate::script_lines::{Line, parse_line};
 use crate::script_plan::{Plan, Planned};
 use crate::script_reading::{cut_line, edit_on_line};
 use aec_params::{Edit, Fault};
 use std::alloc::Global;
 
-/// Fails with `Script`, which names the line's number, if `script` doesn't read the line.
+/// Fails with `Script` and the line's number if `parse_script` doesn't read the line.
 fn judge_line(number: u64, text: &[u8]) -> Result<(), Fault>
     ensures ok { IfOk result (λ _. meaning_of text.now ≢ unknown) }
     ensures refuses { IfErr result (λ e.
         (meaning_of text.now ≡ unknown) × (e ≡ ScriptFault number)) }
 {
-    match parsed_line(text) {
+    match parse_line(text) {
         Line::Unknown => Err(Fault::Script { line: number }),
         _ => Ok(()),
     }
 }
 
+/// Judges the lines of a script, and keeps nothing. Fails with `Script` and the number of the first
+/// line that `parse_script` doesn't read.
 #[tactic(auto, using(crate::proofs::ScriptLineLemmas::listed_known))]
-/// Judges the lines of a script, and keeps nothing. `Script` names the first line that `script`
-/// doesn't read.
 pub(crate) fn judge_script(bytes: &[u8]) -> Result<(), Fault>
     ensures ok { IfOk result (λ _. (listing_of bytes.now).bad ≡ None) }
     ensures refuses { IfErr result (λ e.
@@ -59,7 +59,7 @@ pub(crate) struct EditsAhead<'p, 'a> {
     pub(crate) next: Option<NextEdit>,
     window: &'p [Planned<'a>],
     taken: usize,
-    number: u64,
+    lines_read: u64,
     rest: Option<&'a [u8]>,
 }
 
@@ -67,7 +67,7 @@ impl<'p, 'a> EditsAhead<'p, 'a> {
     /// Begins with all edits of a script ahead.
     pub(crate) fn new(alloc: Global, plan: &'p Plan<'a>) -> Result<EditsAhead<'p, 'a>, Fault>
         requires sound { (listing_in plan.now).bad ≡ None }
-        requires few { plan.now.number + text_left (text_behind plan.now) ≤ 2 ^ 63 }
+        requires few { plan.now.lines_read + text_left (text_behind plan.now) ≤ 2 ^ 63 }
         ensures all { IfOk result (λ ahead. left_in ahead ≡ listing_in plan.now) }
         ensures ahead { IfOk result (λ ahead. AreAhead ahead) }
         ensures fault { IfErr result (λ e. e ≡ Memory) }
@@ -76,7 +76,7 @@ impl<'p, 'a> EditsAhead<'p, 'a> {
             next: None,
             window: plan.window.as_slice(),
             taken: 0,
-            number: plan.number,
+            lines_read: plan.lines_read,
             rest: plan.rest,
         };
         ahead.advance(alloc)?;
@@ -99,9 +99,9 @@ impl<'p, 'a> EditsAhead<'p, 'a> {
         }
         let text = self.rest?;
         let (line, after) = cut_line(text);
-        self.number += 1;
+        self.lines_read += 1;
         self.rest = after;
-        Some((self.number, line))
+        Some((self.lines_read, line))
     }
 
     /// Drops the next edit, and reads lines up to the edit after it.

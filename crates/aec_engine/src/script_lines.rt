@@ -6,7 +6,7 @@ ghost use Rattle.aec_params.specs.declared.edit.Edit.{Edit};
 ghost use Rattle.aec_engine.specs.Scripts.{nothing, unknown, meaning_of, meaning_of_words, change_if, append_in, overwrite_in, truncate_in, insert_in, remove_in, words_of, values_in};
 ghost use Rattle.aec_engine.specs.ScriptLines.{said, kept, IsJudged, are_values};
 
-use crate::script_words::{next_word, number_of, value_of};
+use crate::script_words::{next_word, parse_number, parse_value};
 use aec_params::{Edit, Fault, Samples};
 use std::alloc::Global;
 
@@ -24,14 +24,14 @@ pub(crate) enum Line<'a> {
 }
 
 /// Returns whether each word of a text is a value. A text is read twice, here and in `values_of`,
-/// by the same `next_word` and `value_of`: a script is judged whole before a value is kept, so that
-/// a bad line fails with `Script` even if memory is lacking.
+/// by the same `next_word` and `parse_value`: a script is judged whole before a value is kept, so
+/// that a bad line fails with `Script` even if memory is lacking.
 fn are_values(text: &[u8]) -> bool
     ensures { result ≡ are_values text.now }
 {
     let mut rest = text;
     while let Some((word, after)) = next_word(rest) {
-        if value_of(word).is_none() {
+        if parse_value(word).is_none() {
             return false;
         }
         rest = after;
@@ -47,7 +47,7 @@ fn overwrite_line(words: &[u8]) -> Line<'_>
     let Some((first, values)) = next_word(words) else {
         return Line::Unknown;
     };
-    match number_of(first) {
+    match parse_number(first) {
         Some(first) if are_values(values) => Line::Overwrite { first, values },
         _ => Line::Unknown,
     }
@@ -73,7 +73,7 @@ fn truncate_line<'a>(words: &[u8]) -> Line<'a>
     let Some((count, rest)) = next_word(words) else {
         return Line::Unknown;
     };
-    match (number_of(count), next_word(rest)) {
+    match (parse_number(count), next_word(rest)) {
         (Some(count), None) => Line::Truncate { count },
         _ => Line::Unknown,
     }
@@ -87,7 +87,7 @@ fn insert_line(words: &[u8]) -> Line<'_>
     let Some((first, values)) = next_word(words) else {
         return Line::Unknown;
     };
-    match number_of(first) {
+    match parse_number(first) {
         Some(first) if are_values(values) => Line::Insert { first, values },
         _ => Line::Unknown,
     }
@@ -104,7 +104,7 @@ fn remove_line<'a>(words: &[u8]) -> Line<'a>
     let Some((len, rest)) = next_word(rest) else {
         return Line::Unknown;
     };
-    match (number_of(first), number_of(len), next_word(rest)) {
+    match (parse_number(first), parse_number(len), next_word(rest)) {
         (Some(first), Some(len), None) => Line::Remove { first, len },
         _ => Line::Unknown,
     }
@@ -138,7 +138,7 @@ fn named_line<'a>(name: &[u8], words: &'a [u8]) -> Line<'a>
 }
 
 /// Returns what a line says.
-pub(crate) fn parsed_line(text: &[u8]) -> Line<'_>
+pub(crate) fn parse_line(text: &[u8]) -> Line<'_>
     ensures says { said result ≡ meaning_of text.now }
     ensures judged { IsJudged result }
 {
@@ -158,7 +158,7 @@ fn values_of(alloc: Global, text: &[u8]) -> Result<Samples, Fault>
     let mut values = Vec::new(alloc);
     let mut rest = text;
     while let Some((word, after)) = next_word(rest) {
-        match value_of(word) {
+        match parse_value(word) {
             Some(x) => values.push(x)?,
             None => unreachable!(),
         }

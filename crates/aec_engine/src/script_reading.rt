@@ -5,7 +5,7 @@ ghost use Rattle.aec_params.specs.declared.fault.Fault.TheVariants.{Memory, Scri
 ghost use Rattle.aec_engine.specs.Scripts.{Listing, listed, listing_of, meaning_of};
 ghost use Rattle.aec_engine.specs.ScriptLines.{after_listed, kept, lines_of, lines_left, text_left, RefusesLine, RefusesListing};
 
-use crate::script_lines::{Line, edit_of, parsed_line};
+use crate::script_lines::{Line, edit_of, parse_line};
 use crate::scripts::Script;
 use aec_params::{Edit, Fault};
 use std::alloc::Global;
@@ -24,12 +24,13 @@ pub(crate) fn cut_line(text: &[u8]) -> (&[u8], Option<&[u8]>)
     (text, None)
 }
 
-/// Returns the edit of a line; `None` if it says nothing. `Script` names `number`.
+/// Returns the edit of a line, or `None` if the line says nothing. Fails with `Script` and the
+/// line's `number` if `parse_line` doesn't know the line, and with `Memory`.
 pub(crate) fn edit_on_line(alloc: Global, number: u64, text: &[u8]) -> Result<Option<Edit>, Fault>
     ensures ok { IfOk result (λ edit. kept edit ≡ meaning_of text.now) }
     ensures refuses { IfErr result (λ e. RefusesLine (meaning_of text.now) number e) }
 {
-    let line = parsed_line(text);
+    let line = parse_line(text);
     if let Line::Unknown = line {
         return Err(Fault::Script { line: number });
     }
@@ -50,8 +51,8 @@ fn put_edit(read: &mut Script, edit: Option<Edit>, number: u64) -> Result<(), Fa
     Ok(())
 }
 
-#[tactic(auto, using(crate::proofs::ScriptLineLemmas::refused_line))]
 /// Reads a line, and appends its edit, if there is one, and its number to a script.
+#[tactic(auto, using(crate::proofs::ScriptLineLemmas::refused_line))]
 fn take_line(alloc: Global, number: u64, text: &[u8], read: &mut Script) -> Result<(), Fault>
     ensures ok { IfOk result (λ _. (rest : Listing) →
         after_listed read.old.edits.items read.old.lines.items
@@ -73,7 +74,7 @@ fn take_line(alloc: Global, number: u64, text: &[u8], read: &mut Script) -> Resu
 ///
 /// Fails with `Script` at the first line that is none of these, counted from 1 among all lines.
 /// Fails with `Memory` only if there is an edit before that line. Takes time linear in the length.
-pub fn script(alloc: Global, bytes: &[u8]) -> Result<Script, Fault>
+pub fn parse_script(alloc: Global, bytes: &[u8]) -> Result<Script, Fault>
     ensures ok { let read : Listing = listing_of bytes.now in
         IfOk result (λ s. (read.bad ≡ None) × (s.edits.items ≡ read.edits)
         × (s.lines.items ≡ read.lines)) }

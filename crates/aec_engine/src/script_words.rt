@@ -6,7 +6,7 @@ ghost use Rattle.std.specs.Str.{IsUtf8};
 ghost use Rattle.aec_engine.specs.Numerals.{decimal_in};
 ghost use Rattle.aec_engine.specs.Scripts.{is_blank, words_of, value_in};
 
-use crate::numerals::{decimal_in, signed_decimal_in};
+use crate::numerals::{parse_decimal, parse_signed};
 use std::str;
 
 /// Returns whether a byte separates words: a space or a tab.
@@ -65,22 +65,16 @@ fn text_of(word: &[u8]) -> Option<&str>
 
 /// Parses a word of decimal digits alone as a number of 64 bits.
 #[tactic(auto, using(crate::proofs::ScriptNumberLemmas::no_number))]
-pub(crate) fn number_of(word: &[u8]) -> Option<u64>
+pub(crate) fn parse_number(word: &[u8]) -> Option<u64>
     ensures { result ≡ decimal_in 64 word.now }
 {
-    match text_of(word) {
-        Some(text) => decimal_in(text),
-        None => None,
-    }
+    parse_decimal(text_of(word)?)
 }
 
 /// Parses a word of decimal digits, after a minus or nothing, as a signed number of 64 bits.
 #[tactic(auto, using(crate::proofs::ScriptNumberLemmas::no_value))]
-pub(crate) fn value_of(word: &[u8]) -> Option<i64>
+pub(crate) fn parse_value(word: &[u8]) -> Option<i64>
     ensures { result ≡ value_in word.now }
 {
-    match text_of(word) {
-        Some(text) => signed_decimal_in(text),
-        None => None,
-    }
+    parse_signed(text_of(word)?)
 }

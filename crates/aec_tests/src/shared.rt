@@ -1,7 +1,7 @@
 //! What the tests share: jobs, and runs of an engine or of the program.
 
 use aec_bits::{Sink, Source};
-use aec_cli::{Action, Job, Usage, command, decode, encode, perform, range, settings};
+use aec_cli::{Action, Job, Usage, command, decode, encode, perform, range, read_job};
 use aec_engine_tests::devices::{Basin, Pieces};
 use aec_params::{Fault, Limits, Params, Settings};
 use std::alloc::{AllocError, Global};
@@ -16,7 +16,7 @@ pub(crate) const DEFAULTS: Settings = Settings::USUAL;
 pub(crate) fn job_by(alloc: Global, words: &[&str]) -> Result<Result<Job, Usage>, Fail> {
     let command = command(alloc)?;
     let matches = command.try_get_matches_from(words)?;
-    Ok(settings(alloc, &matches))
+    Ok(read_job(alloc, &matches))
 }
 
 /// Returns the same for the words of a text, which don't begin with that name.

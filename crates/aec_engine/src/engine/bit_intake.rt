@@ -5,7 +5,7 @@ ghost use Rattle.aec_params.specs.declared.fault.Fault.TheVariants.{Memory};
 ghost use Rattle.aec_engine.specs.ReadingTwice.{GaveBits, GaveWhole};
 ghost use Rattle.aec_engine.specs.Transfers.{RefusesIntake, Taking, taking_of};
 
-use crate::engine::intake::PIECE;
+use crate::engine::intake::PIECE_BYTES;
 use aec_bits::{BitBuf, Source};
 use aec_params::Fault;
 use std::alloc::Global;
@@ -22,7 +22,7 @@ fn read_bits_past<R: Source>(
     ensures fault { IfErr result (λ e. e ≡ Memory) }
 {
     let mut bits = BitBuf::new(alloc);
-    let mut piece = [0u8; PIECE];
+    let mut piece = [0u8; PIECE_BYTES];
     while bits.byte_len() <= limit {
         match source.take(&mut piece) {
             Ok(0) => return Ok((bits, false)),

@@ -6,7 +6,7 @@ ghost use Rattle.aec_engine.specs.Transfers.{Taking, taking_of, Putting, putting
 ghost use Rattle.aec_engine.specs.Output.{IsEncoded, are_refused};
 ghost use Rattle.aec_engine.specs.Delivering.{Delivers};
 
-use crate::engine::intake::PIECE;
+use crate::engine::intake::PIECE_BYTES;
 use aec_bits::{BitBuf, Sink, Source};
 use aec_interval::StreamCoder;
 use aec_params::{Fault, Limits, Params};
@@ -41,7 +41,7 @@ pub fn encode<R: Source, W: Sink>(
     params.known_allowed();
     let mut coder = StreamCoder::new(alloc, *params, limits.samples());
     let mut bits = BitBuf::new(alloc);
-    let mut piece = [0u8; PIECE];
+    let mut piece = [0u8; PIECE_BYTES];
     loop {
         let count = source.take(&mut piece)?;
         if count == 0 {

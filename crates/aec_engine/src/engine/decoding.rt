@@ -11,30 +11,32 @@ ghost use Rattle.aec_engine.specs.ReadingTwice.{AreFewKept, GrowsForFew, KeepsFr
 
 use crate::engine::bit_intake::read_bits;
 use crate::engine::two_readings::{
-    Part, WAITING, append_stored, buffers, deliver_range, judge_all, judge_from, samples_within,
+    Part, WAITING_BYTES, append_stored, buffers, deliver_range, judge_all, judge_from,
+    samples_within,
 };
 use aec_bits::{Sink, Source};
 use aec_interval::StreamReader;
 use aec_params::{Fault, Limits, Params};
 use std::alloc::Global;
 
-/// The most bytes that are kept if that takes more memory than every decoding does.
-const KEPT: usize = 1 << 24;
+/// The most bytes that are kept once they no longer fit into the memory that every decoding
+/// allocates.
+const MAX_KEPT_BYTES: usize = 1 << 24;
 
-/// The most bytes of a block for which more memory is allocated: reading longer blocks twice takes
-/// less time than allocating memory for their bytes.
-const SHORT: usize = 32;
+/// The most bytes of a block for which more memory is allocated to keep its bytes. Reading a longer
+/// block twice takes less time than this allocation.
+const MAX_SHORT_BLOCK_BYTES: usize = 32;
 
 /// Returns the most bytes that may be kept before more room is made: one for each bit that was
-/// read, or none if a block has more than `SHORT` bytes. So a short stream takes little memory,
-/// however many samples it codes.
+/// read, or none if a block has more than `MAX_SHORT_BLOCK_BYTES`. So a short stream takes little
+/// memory, however many samples it codes.
 fn most_kept(params: &Params, reader: &StreamReader) -> u64
     ensures bits { result ≤ reader.now.bit }
     ensures long { 32 < storage_len params.now * params.now.block_size → result ≡ 0 }
     ensures reached { IsPlace reader.now }
 {
     let read = reader.place().bit;
-    if params.storage() * params.block_size() as usize > SHORT {
+    if params.storage() * params.block_size() as usize > MAX_SHORT_BLOCK_BYTES {
         return 0;
     }
     read
@@ -43,10 +45,10 @@ fn most_kept(params: &Params, reader: &StreamReader) -> u64
 /// Returns the length up to which `bytes` may be filled. If `more` bytes don't fit after those in
 /// `bytes`, the length is less than the sum of both.
 ///
-/// As long as `bytes` contains at most `WAITING` bytes, the function allocates nothing: they and
-/// `more` fit into the buffer of every decoding. After that it doubles the room, up to `KEPT`
-/// bytes. It returns 0 if `bytes` contains more than `most` bytes, if `KEPT` bytes are too few, or
-/// if the allocation fails.
+/// As long as `bytes` contains at most `WAITING_BYTES`, the function allocates nothing: they
+/// and `more` fit into the buffer of every decoding. After that it doubles the room, up to
+/// `MAX_KEPT_BYTES`. It returns 0 if `bytes` contains more than `most` bytes, if `MAX_KEPT_BYTES`
+/// are too few, or if the allocation fails.
 fn make_room(bytes: &mut Vec<u8>, more: usize, most: u64) -> usize
     ensures there { result ≤ vec_capacity bytes.new }
     ensures few { AreFewKept result more most }
@@ -56,10 +58,10 @@ fn make_room(bytes: &mut Vec<u8>, more: usize, most: u64) -> usize
     ensures same { KeepsItems bytes.old bytes.new }
 {
     let len = bytes.len();
-    if len <= WAITING {
-        return bytes.capacity().min(more.saturating_add(WAITING));
+    if len <= WAITING_BYTES {
+        return bytes.capacity().min(more.saturating_add(WAITING_BYTES));
     }
-    let Some(left) = KEPT.checked_sub(len) else {
+    let Some(left) = MAX_KEPT_BYTES.checked_sub(len) else {
         return 0;
     };
     if len as u64 > most || more > left {

@@ -30,21 +30,27 @@ use aec_params::{Fault, Limits, Params};
 use std::alloc::Global;
 
 /// Reads the text of a script from a source, and judges its lines.
-fn read_script<Q: Source>(alloc: Global, limits: Limits, from: &mut Q) -> Result<Vec<u8>, Fault>
-    ensures ok { let took : Taking = taking_of Q.left Q.failed from.old from.new in
+fn read_script<Q: Source>(
+    alloc: Global,
+    limits: Limits,
+    script_source: &mut Q,
+) -> Result<Vec<u8>, Fault>
+    ensures ok { let took : Taking
+        = taking_of Q.left Q.failed script_source.old script_source.new in
         IfOk result (λ text. GaveScript took limits.bytes (listing_of text.items)) }
     ensures known { IfOk result (λ text. (listing_of text.items).bad ≡ None) }
-    ensures refuses { let took : Taking = taking_of Q.left Q.failed from.old from.new in
+    ensures refuses { let took : Taking
+        = taking_of Q.left Q.failed script_source.old script_source.new in
         IfErr result (λ fault. RefusesScript took limits.bytes fault) }
 {
-    let text = read_whole(alloc, from, limits.bytes())?;
+    let text = read_whole(alloc, script_source, limits.bytes())?;
     judge_script(&text)?;
     Ok(text)
 }
 
 /// Makes the edits that are ahead, up to the first that is refused: the edits before it are made,
-/// and the fault names its line. Fails with plain `Memory` if there is none for the values of the
-/// next edit.
+/// and the fault names its line. Fails with plain `Memory` if the allocation for the values of the
+/// next edit fails.
 fn carry_rest<C: Codec>(
     alloc: Global,
     workspace: &mut Workspace<C>,
@@ -133,13 +139,14 @@ pub fn edit_over<C: Codec + Drop, Q: Source, R: Source, W: Sink>(
     params: &Params,
     limits: Limits,
     count: Option<u64>,
-    from: &mut Q,
+    script_source: &mut Q,
     source: &mut R,
     sink: &mut W,
 ) -> Result<Workspace<C>, EditFault>
     requires format { C.format codec ≡ interval_format params.now }
     requires fresh { C.called codec ≡ 0 }
-    ensures leaves { let read : Taking = taking_of Q.left Q.failed from.old from.new in
+    ensures leaves { let read : Taking
+        = taking_of Q.left Q.failed script_source.old script_source.new in
         let took : Taking = taking_of R.left R.failed source.old source.new in
         let put : Putting = putting_of W.taken W.begun W.mark W.failed sink.old sink.new in
         LeavesRecoded params.now limits count read took put
@@ -150,7 +157,7 @@ pub fn edit_over<C: Codec + Drop, Q: Source, R: Source, W: Sink>(
     ensures format { IfOk result (λ w. C.format w.codec ≡ interval_format params.now) }
     ensures limit { IfOk result (λ w. w.limit ≡ limits.samples) }
 {
-    let script = read_script(alloc, limits, from)?;
+    let script = read_script(alloc, limits, script_source)?;
     let bits = read_bits(alloc, source, limits.bytes())?;
     let workspace = edit_bits(alloc, codec, params, limits, count, &bits, &script)?;
     deliver_code(&workspace, sink)?;
@@ -173,20 +180,27 @@ pub fn edit<Q: Source, R: Source, W: Sink>(
     params: &Params,
     limits: Limits,
     count: Option<u64>,
-    from: &mut Q,
+    script_source: &mut Q,
     source: &mut R,
     sink: &mut W,
 ) -> Result<(), EditFault>
-    ensures { let read : Taking = taking_of Q.left Q.failed from.old from.new in
+    ensures { let read : Taking = taking_of Q.left Q.failed script_source.old script_source.new in
         let took : Taking = taking_of R.left R.failed source.old source.new in
         let put : Putting = putting_of W.taken W.begun W.mark W.failed sink.old sink.new in
         LeavesEdited params.now limits count read took put result }
 {
     let codec = AecCodec::new(alloc, *params);
-    match edit_over(alloc, codec, params, limits, count, from, source, sink) {
-        Ok(_workspace) => Ok(()),
-        Err(fault) => Err(fault),
-    }
+    edit_over(
+        alloc,
+        codec,
+        params,
+        limits,
+        count,
+        script_source,
+        source,
+        sink,
+    )?;
+    Ok(())
 }
 
 /// Returns the line of the edit at a place of a script.

@@ -8,8 +8,8 @@ use aec_bits::Source;
 use aec_params::Fault;
 use std::alloc::Global;
 
-/// At most so many bytes are taken from a source at a time: few enough for the stack.
-pub(crate) const PIECE: usize = 8192;
+/// The most bytes that are taken from a source at a time: few enough for the stack.
+pub(crate) const PIECE_BYTES: usize = 8192;
 
 /// Returns the bytes of a source up to its end, up to its failure, or past `limit` bytes, and
 /// whether it failed. Fails only with `Memory`.
@@ -24,7 +24,7 @@ pub(crate) fn read_past<R: Source>(
     ensures fault { IfErr result (λ e. e ≡ Memory) }
 {
     let mut bytes = Vec::new(alloc);
-    let mut piece = [0u8; PIECE];
+    let mut piece = [0u8; PIECE_BYTES];
     while bytes.len() as u64 <= limit {
         match source.take(&mut piece) {
             Ok(0) => return Ok((bytes, false)),

@@ -17,7 +17,7 @@ ghost use Rattle.aec_engine.specs.Buffers.{FillsOne, OrMemory};
 use crate::engine::decoding::keep_more;
 use crate::engine::ranging::judge_range;
 use crate::engine::two_readings::{
-    Part, WAITING, append_stored, judge_from, judge_samples, part_of, room_at_once,
+    Part, WAITING_BYTES, append_stored, judge_from, judge_samples, part_of, room_at_once,
 };
 use aec_bits::BitBuf;
 use aec_interval::StreamReader;
@@ -140,14 +140,14 @@ fn put_kept(
 }
 
 /// The first reading reads at most this many samples, or one interval if that is longer.
-const FIRST: u64 = 4096;
+const MAX_FIRST_SAMPLES: u64 = 4096;
 
 /// Returns for how many samples room is made at first: for the blocks of the samples asked for, but
-/// at most for `FIRST` samples, or for one longer interval.
+/// at most for `MAX_FIRST_SAMPLES`, or for one longer interval.
 fn first_samples(params: &Params, count: Option<u64>) -> usize
     ensures { result ≤ max 4096 (interval_len params.now) }
 {
-    let most = params.interval_len().max(FIRST);
+    let most = params.interval_len().max(MAX_FIRST_SAMPLES);
     let asked = count.unwrap_or(most).min(most);
     let blocks = asked.div_ceil(u64::from(params.block_size()));
     (blocks * u64::from(params.block_size())).min(most) as usize
@@ -171,8 +171,8 @@ fn are_all(count: Option<u64>, samples: usize) -> bool
     }
 }
 
-/// Reads samples from the first bit on with one call of `next_few`: at most `FIRST` samples, or one
-/// interval if it is longer. The refusals are those of judging.
+/// Reads samples from the first bit on with one call of `next_few`: at most `MAX_FIRST_SAMPLES`, or
+/// one interval if it is longer. The refusals are those of judging.
 fn read_first(
     params: &Params,
     reader: &mut StreamReader,
@@ -190,7 +190,7 @@ fn read_first(
         RefusesReading old.settings old.count old.limit old.bits 0 0 fault) }
 {
     params.known_allowed();
-    let _more = reader.next_few(FIRST, samples)?;
+    let _more = reader.next_few(MAX_FIRST_SAMPLES, samples)?;
     Ok(())
 }
 
@@ -210,8 +210,8 @@ fn put_first(params: &Params, samples: &[i64], out: &mut [u8]) -> u64
 }
 
 /// Returns the bytes of the samples that were read first, in a list whose whole room is for the
-/// bytes of an interval and for `WAITING` bytes, or for the bytes of `places` samples if these are
-/// few. So a short answer takes little memory.
+/// bytes of an interval and for `WAITING_BYTES`, or for the bytes of `places` samples if these
+/// are few. So a short answer takes little memory.
 fn first_bytes(
     alloc: Global,
     params: &Params,
@@ -225,10 +225,10 @@ fn first_bytes(
     ensures fault { IfErr result (λ e. e ≡ Memory) }
 {
     let interval = params.interval_len() as usize;
-    let kept = if places < FIRST as usize {
+    let kept = if places < MAX_FIRST_SAMPLES as usize {
         4 * places
     } else {
-        WAITING
+        WAITING_BYTES
     };
     let room = (kept + 4 * interval).max(4 * samples.len());
     let mut bytes = Vec::with_capacity(alloc, room)?;

@@ -16,7 +16,7 @@ ghost use Rattle.aec_engine.specs.Judging.{HasRoomOfRead, IsJudgedReader, IsUnre
 ghost use Rattle.aec_engine.specs.EditsAhead.{AreAhead, left_in, StopsAt};
 ghost use Rattle.aec_engine.specs.EarlyEdits.{CarriesEarly, IsEmptyFor, IsEmptyOver, LoadsAll, StopsEarly, StopsLoading};
 
-use crate::engine::two_readings::{AT_ONCE, Judged, judge_all};
+use crate::engine::two_readings::{Judged, SAMPLES_AT_ONCE, judge_all};
 use crate::script_edits::EditsAhead;
 use crate::scripts::EditFault;
 use aec_bits::{BitBuf, Codec};
@@ -26,8 +26,8 @@ use aec_params::{Edit, Fault, Limits, Params};
 use std::alloc::Global;
 
 /// Replaces `samples` by those of the next interval, and appends those of more intervals while they
-/// are at most `AT_ONCE` in all. Returns false if no samples are left. Each interval after the
-/// first is read into `spare` first.
+/// are at most `SAMPLES_AT_ONCE` in all. Returns false if no samples are left. Each interval after
+/// the first is read into `spare` first.
 ///
 /// Fails only with `Memory` if the bits have been judged.
 fn next_intervals(
@@ -48,7 +48,7 @@ fn next_intervals(
     ensures ends { OnOk result (is_wanted_at reader.new ≡ true
         → reader.new.block % reader.new.settings.interval ≡ 0) }
 {
-    let last = AT_ONCE.saturating_sub(params.interval_len() as usize);
+    let last = SAMPLES_AT_ONCE.saturating_sub(params.interval_len() as usize);
     if !reader.next(samples)? {
         return Ok(false);
     }
@@ -67,9 +67,9 @@ fn append_behind(samples: &mut Vec<i64>, more: &[i64]) -> Result<(), Fault>
     Ok(())
 }
 
-/// After this many calls of the coder no edit is made before all samples are loaded. Until then
-/// enough calls are surely left for an edit, so far below `u64::MAX`.
-const CALLS: u64 = 1 << 62;
+/// Once the coder has been called this many times, no edit is made before all samples are loaded.
+/// The number is far below `u64::MAX`, so that each edit made before has enough calls left.
+const MAX_EARLY_CALLS: u64 = 1 << 62;
 
 /// Returns whether an edit only overwrites places among the first `count`.
 fn is_inside(edit: &Edit, count: u64) -> bool
@@ -88,9 +88,9 @@ fn is_inside(edit: &Edit, count: u64) -> bool
 /// Makes the edits of a script that overwrite samples already loaded, up to the first other edit,
 /// and leaves the others ahead.
 ///
-/// These edits leave the same, whatever samples are loaded after them. If an edit is refused, the
-/// fault names its line. Fails with plain `Memory` if there is none for the values of the next
-/// edit. Makes no edit once the coder was called `2^62` times.
+/// These edits have the same result, whatever samples are loaded after them. If an edit is refused,
+/// the fault names its line. Fails with plain `Memory` if the allocation for the values of the next
+/// edit fails. Makes no edit once the coder was called `2^62` times.
 fn carry_early<C: Codec>(
     alloc: Global,
     workspace: &mut Workspace<C>,
@@ -110,7 +110,7 @@ fn carry_early<C: Codec>(
     ensures rules { KeepsRules C.format workspace.old workspace.new }
 {
     while let Some(next) = &ahead.next {
-        if workspace.calls() >= CALLS || !is_inside(&next.edit, workspace.count()) {
+        if workspace.calls() >= MAX_EARLY_CALLS || !is_inside(&next.edit, workspace.count()) {
             return Ok(());
         }
         if let Err(fault) = workspace.apply(&next.edit) {
@@ -202,7 +202,7 @@ impl Room {
 }
 
 /// Returns an empty workspace with at least this room. Fails with `Memory` if an allocation fails
-/// or there would be more than 2^62 bits, but not if `room` is none.
+/// or there would be more than 2^62 bits, but not if `room` is for 0 bits and 0 intervals.
 pub(crate) fn roomy_workspace<C: Codec + Drop>(
     alloc: Global,
     codec: C,

@@ -35,7 +35,7 @@ fn last_begin(noted: Begin, here: Begin, first: u64) -> Begin
 }
 
 /// Goes back to a place. Returns the bit where the reader was until then.
-fn come_back(reader: &mut StreamReader, place: ReachedPlace) -> u64
+fn seek_from(reader: &mut StreamReader, place: ReachedPlace) -> u64
     requires reached { let old = reader.old in
         IsPlace (place_at old.settings old.count old.limit old.bits place.block place.bit) }
     ensures bit { result ≡ reader.old.bit }
@@ -90,7 +90,7 @@ pub(crate) fn judge_from(
         };
         begin = last_begin(begin, here, first);
     }
-    let bits = come_back(reader, begin.place);
+    let bits = seek_from(reader, begin.place);
     Ok(Judged {
         total,
         before: begin.before,
@@ -98,7 +98,7 @@ pub(crate) fn judge_from(
     })
 }
 
-/// Does the same from the first bit on.
+/// Does what `judge_from` does, from the first bit on.
 pub(crate) fn judge_samples(
     params: &Params,
     reader: &mut StreamReader,
@@ -155,9 +155,9 @@ pub(crate) fn samples_within(bytes: usize) -> u64
     bytes as u64 / 4
 }
 
-/// The number of samples whose bytes are appended at once: few enough to be cleared and then filled
-/// in the nearest memory.
-const STORED_AT_ONCE: usize = 256;
+/// The most samples whose bytes are appended at once: so few that the processor's nearest memory
+/// holds their cleared bytes until these are filled.
+const SAMPLES_STORED_AT_ONCE: usize = 256;
 
 /// Appends the bytes of samples. Allocates nothing.
 pub(crate) fn append_stored(params: &Params, samples: &[i64], bytes: &mut Vec<u8>)
@@ -168,7 +168,7 @@ pub(crate) fn append_stored(params: &Params, samples: &[i64], bytes: &mut Vec<u8
 {
     let mut left = samples;
     while !left.is_empty() {
-        let (part, behind) = left.split_at(left.len().min(STORED_AT_ONCE));
+        let (part, behind) = left.split_at(left.len().min(SAMPLES_STORED_AT_ONCE));
         append_part(params, part, bytes);
         left = behind;
     }
@@ -188,11 +188,11 @@ fn append_part(params: &Params, samples: &[i64], bytes: &mut Vec<u8>)
     put_samples(params, samples, &mut bytes[start..]);
 }
 
-/// The samples of short intervals are read together, up to this number.
-pub(crate) const AT_ONCE: usize = 2048;
+/// The most samples of short intervals that are read together.
+pub(crate) const SAMPLES_AT_ONCE: usize = 2048;
 
-/// At most this many bytes wait before they are put.
-pub(crate) const WAITING: usize = 65536;
+/// Once this many bytes wait in memory, they are put to the sink.
+pub(crate) const WAITING_BYTES: usize = 65536;
 
 /// Puts all bytes that wait to the sink, and empties `bytes`.
 fn put_waiting<W: Sink>(bytes: &mut Vec<u8>, sink: &mut W) -> Result<(), Fault>
@@ -227,7 +227,7 @@ fn put_part<W: Sink>(
     ensures capacity { vec_capacity bytes.old ≤ vec_capacity bytes.new }
 {
     append_stored(params, samples, bytes);
-    if bytes.len() >= WAITING {
+    if bytes.len() >= WAITING_BYTES {
         put_waiting(bytes, sink)?;
     }
     Ok(())
@@ -299,19 +299,19 @@ pub(crate) fn deliver_range<W: Sink>(
     put_range(params, reader, part, samples, bytes, sink)
 }
 
-/// Returns room for `AT_ONCE` samples, or for those of an interval if they are more.
+/// Returns room for `SAMPLES_AT_ONCE`, or for those of an interval if they are more.
 pub(crate) fn room_at_once(alloc: Global, params: &Params) -> Result<Vec<i64>, Fault>
     ensures allowed { IsAllowed params.now }
     ensures room { IfOk result
         (λ samples. vec_capacity samples ≡ max 2048 (interval_len params.now)) }
     ensures fault { IfErr result (λ e. e ≡ Memory) }
 {
-    let samples = Vec::with_capacity(alloc, AT_ONCE.max(params.interval_len() as usize))?;
+    let samples = Vec::with_capacity(alloc, SAMPLES_AT_ONCE.max(params.interval_len() as usize))?;
     Ok(samples)
 }
 
 /// Returns room for the samples that are read at once, and room for the bytes of an interval after
-/// a piece of `WAITING` bytes, no more.
+/// a piece of `WAITING_BYTES`, no more.
 pub(crate) fn buffers(alloc: Global, params: &Params) -> Result<(Vec<i64>, Vec<u8>), Fault>
     ensures allowed { IsAllowed params.now }
     ensures room { IfOk result (λ made. interval_len params.now ≤ vec_capacity made.0) }
@@ -323,7 +323,7 @@ pub(crate) fn buffers(alloc: Global, params: &Params) -> Result<(Vec<i64>, Vec<u
     ensures fault { IfErr result (λ e. e ≡ Memory) }
 {
     let samples = room_at_once(alloc, params)?;
-    let bytes = Vec::with_capacity(alloc, WAITING + 4 * params.interval_len() as usize)?;
+    let bytes = Vec::with_capacity(alloc, WAITING_BYTES + 4 * params.interval_len() as usize)?;
     Ok((samples, bytes))
 }
 

@@ -20,14 +20,14 @@ returns-in-Err-clause-refusals g c sound =
     rw c.as_slice.ensures.value at c.in-Err.ensures.kinds in
     ends_by_memory _ c.in-Err.error c.unparsed.result (rw sound at has) c.unparsed.ensures
 
-pub returns-in-Err-settings-clause-refusals : goal.returns-in-Err-settings-clause-refusals
-returns-in-Err-settings-clause-refusals g c sound =
+pub returns-in-Err-read_job-clause-refusals : goal.returns-in-Err-read_job-clause-refusals
+returns-in-Err-read_job-clause-refusals g c sound =
     let finds : IsFoundIn (map string_bytes c.args.words.items) (found_of c.in-Ok.matches) = rw c.as_slice.ensures.value at c.in-Ok.ensures.entries in
-    ends_by_usage _ (found_of c.in-Ok.matches) c.settings.result c.in-Err-settings.usage c.failed.result finds c.in-Err-settings.is
-    c.settings.ensures.refuses c.settings.ensures.memory c.failed.ensures
+    ends_by_usage _ (found_of c.in-Ok.matches) c.read_job.result c.in-Err-read_job.usage c.failed.result finds c.in-Err-read_job.is
+    c.read_job.ensures.refuses c.read_job.ensures.memory c.failed.ensures
 
 pub returns-clause-refusals : goal.returns-clause-refusals
 returns-clause-refusals g c sound =
     let finds : IsFoundIn (map string_bytes c.args.words.items) (found_of c.in-Ok.matches) = rw c.as_slice.ensures.value at c.in-Ok.ensures.entries in
-    ends_by_job _ (found_of c.in-Ok.matches) _ _ finds c.in-Ok-settings.ensures.ok
+    ends_by_job _ (found_of c.in-Ok.matches) _ _ finds c.in-Ok-read_job.ensures.ok
     (ends_job c.run.result c.ended.result c.ended.ensures c.run.ensures.done c.run.ensures.fault)

@@ -5,11 +5,11 @@ use Rattle.aec_engine.proofs.script_lines.values_of.Goals as goal
 
 pub loop-word-preserved : goal.loop-word-preserved
 loop-word-preserved c =
-    let fits : FitsSigned w64 c.in-Some-value_of.x = search rules in
-    let pushed : c.push.new.self.items ≡ c.loop-word.values.items ++ c.in-Some-value_of.x ∷ [] =
-    simp to_z-of_z at c.in_ok-push-in-Some-value_of.ensures.items in
-    values_in-next _ c.loop-word.values.items _ c.in-Some.word.now (words_of c.in-Some.after.now) c.in-Some-value_of.x
+    let fits : FitsSigned w64 c.in-Some-parse_value.x = search rules in
+    let pushed : c.push.new.self.items ≡ c.loop-word.values.items ++ c.in-Some-parse_value.x ∷ [] =
+    simp to_z-of_z at c.in_ok-push-in-Some-parse_value.ensures.items in
+    values_in-next _ c.loop-word.values.items _ c.in-Some.word.now (words_of c.in-Some.after.now) c.in-Some-parse_value.x
     (rw c.in-Some.ensures.words at c.loop-word.invariant.0)
     (rw c.in-Some.ensures.words at c.loop-word.invariant.1)
-    (sym c.value_of.ensures ∙ c.in-Some-value_of.is)
+    (sym c.parse_value.ensures ∙ c.in-Some-parse_value.is)
     pushed

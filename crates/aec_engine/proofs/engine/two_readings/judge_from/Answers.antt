@@ -43,8 +43,8 @@ loop-len-preserved c =
           c.place-in-Some.ensures.bit);
     }
 
-pub come_back-bits-requires : goal.come_back-bits-requires
-come_back-bits-requires c = record {
+pub seek_from-bits-requires : goal.seek_from-bits-requires
+seek_from-bits-requires c = record {
   reached = noted_place c.args.reader.now c.loop-len.reader c.skip.new.self _ _ _ c.args.first c.loop-len.invariant.counts.same
       (c.in_ok-len.ensures.done (ap is_some c.in_default.is)) c.loop-len.invariant.noted;
 }
@@ -55,6 +55,6 @@ returns-clause-ok c =
     c.loop-len.invariant.counts (sym c.in_ok-len.ensures.more ∙ ap is_some c.in_default.is)
 
 pub returns-clause-bits : goal.returns-clause-bits
-returns-clause-bits c = ends_at c.args.reader.now c.loop-len.reader c.loop-len.total c.come_back-bits.result c.loop-len.invariant.counts
+returns-clause-bits c = ends_at c.args.reader.now c.loop-len.reader c.loop-len.total c.seek_from-bits.result c.loop-len.invariant.counts
     (sym c.in_ok-len.ensures.more ∙ ap is_some c.in_default.is)
-    (c.come_back-bits.ensures.bit ∙ ap (λ (p : Place). p.bit) (c.in_ok-len.ensures.done (ap is_some c.in_default.is)))
+    (c.seek_from-bits.ensures.bit ∙ ap (λ (p : Place). p.bit) (c.in_ok-len.ensures.done (ap is_some c.in_default.is)))

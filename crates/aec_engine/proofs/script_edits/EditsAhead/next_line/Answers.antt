@@ -11,13 +11,13 @@ returns-in-Some-clause-known c =
     let ahead = c.args.self.now in
     let p = c.in-Some.planned.now in
     let found = c.in-Some.ensures.lookup in
-    let cut = next-planned ahead.window.now ahead.taken p (listing_from (ahead.number + 1) (lines_left (text_ahead ahead))) found.3.0 found.1 in
+    let cut = next-planned ahead.window.now ahead.taken p (listing_from (ahead.lines_read + 1) (lines_left (text_ahead ahead))) found.3.0 found.1 in
     record { sound = listed_sound p.line (meaning_of p.text.now) _ (sym (ap (λ l. l.bad) cut) ∙ c.requires.sound); few = c.requires.few }
 
 pub returns-clause-known : goal.returns-clause-known
 returns-clause-known c =
     let ahead = c.args.self.now in
-    let n = ahead.number + 1 in
+    let n = ahead.lines_read + 1 in
     let after = listing_from (n + 1) (lines_left (option_map (λ text. text.now) c.cut_line.result.1)) in
     let past = c.in_default.ensures.lookup.3 in
     let cut : behind ahead ≡ listed n (meaning_of c.cut_line.result.0.now) after =

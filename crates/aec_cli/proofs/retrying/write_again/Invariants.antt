@@ -1,6 +1,6 @@
 -- An interrupted write appends nothing.
 use Rattle.std.specs.Io.KnownBytes.{Keeps}
-use Rattle.aec_cli.proofs.again.write_again.Given as goal
+use Rattle.aec_cli.proofs.retrying.write_again.Given as goal
 
 abbrev pub invariant-loop : goal.invariant-loop
 invariant-loop g l = Keeps (g.W.Write.contents l.initial.writer) (g.W.Write.contents l.writer)

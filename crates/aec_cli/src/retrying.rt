@@ -9,14 +9,14 @@ use std::fs::OpenFile;
 use std::io;
 use std::io::{Error, ErrorKind, Read, Write};
 
-// Returns whether a call failed because a signal interrupted it.
+/// Returns whether a call failed because a signal interrupted it.
 fn is_interrupted(error: &Error) -> bool
     ensures { IsTrue result ↔ (error_kind error.now ≡ ErrorKind.Interrupted) }
 {
     error.kind() == ErrorKind::Interrupted
 }
 
-// Returns the kind of a call's error; none if the call succeeded.
+/// Returns the kind of a call's error; none if the call succeeded.
 fn error_of(answer: io::Result<()>) -> Option<ErrorKind>
     ensures { MatchResult answer (λ _. result ≡ None) (λ e. result ≡ Some (error_kind e)) }
 {
@@ -26,7 +26,7 @@ fn error_of(answer: io::Result<()>) -> Option<ErrorKind>
     }
 }
 
-// Returns the error for a call that was interrupted `u64::MAX` times.
+/// Returns the error for a call that was interrupted `u64::MAX` times.
 fn too_many_tries() -> Error
     ensures { error_kind result ≡ ErrorKind.TimedOut }
 {
@@ -36,22 +36,23 @@ fn too_many_tries() -> Error
 /// A file that repeats each call while a signal interrupts it, at most `u64::MAX` times. A call
 /// returns what the last try did; after too many tries it fails with `TimedOut`.
 #[derive(Drop)]
-pub(crate) struct Again<T> {
+pub(crate) struct Retrying<T> {
     file: T,
 }
 
-impl<T> Again<T> {
+impl<T> Retrying<T> {
     ghost use Rattle.std.specs.Prelude.{◌≡◌};
 
-    pub(crate) fn new(file: T) -> Again<T>
+    /// Returns the file whose calls are repeated.
+    pub(crate) fn new(file: T) -> Retrying<T>
         ensures { result.file ≡ file }
     {
-        Again { file }
+        Retrying { file }
     }
 }
 
-/// The result of a sync's last try: the kind of its error, if it failed. Only `Again::sync` makes
-/// one.
+/// The result of a sync's last try: the kind of its error, if it failed. Only `Retrying::sync`
+/// makes one.
 #[derive(Debug, PartialEq, Eq, Drop)]
 pub(crate) struct SyncAnswer {
     error: Option<ErrorKind>,
@@ -68,7 +69,7 @@ impl SyncAnswer {
     }
 }
 
-impl<T: OpenFile> Again<T> {
+impl<T: OpenFile> Retrying<T> {
     /// Makes the system write out what was written to the file.
     pub(crate) fn sync(&self) -> SyncAnswer
         ensures again { result.error ≢ Some ErrorKind.Interrupted }
@@ -85,7 +86,7 @@ impl<T: OpenFile> Again<T> {
     }
 }
 
-impl<T: Read> Read for Again<T> {
+impl<T: Read> Read for Retrying<T> {
     ghost remaining = { λ s. T.remaining s.file };
 
     fn read(&mut self, buf: &mut [u8]) -> io::Result<usize>
@@ -98,7 +99,7 @@ impl<T: Read> Read for Again<T> {
     }
 }
 
-impl<T: Write> Write for Again<T> {
+impl<T: Write> Write for Retrying<T> {
     ghost contents = { λ s. T.contents s.file };
 
     fn write(&mut self, buf: &[u8]) -> io::Result<usize>
@@ -118,7 +119,7 @@ impl<T: Write> Write for Again<T> {
     }
 }
 
-// Reads once, and again while a signal interrupts it.
+/// Reads once, and again while a signal interrupts it.
 fn read_again<R: Read>(reader: &mut R, buf: &mut [u8]) -> io::Result<usize>
     ensures bound { ReadsAtMost result buf.new }
     ensures bytes { ReadConsumes (R.remaining reader.old) (R.remaining reader.new) result buf.new }
@@ -137,7 +138,7 @@ fn read_again<R: Read>(reader: &mut R, buf: &mut [u8]) -> io::Result<usize>
     Err(too_many_tries())
 }
 
-// Writes once, and again while a signal interrupts it.
+/// Writes once, and again while a signal interrupts it.
 fn write_again<W: Write>(writer: &mut W, buf: &[u8]) -> io::Result<usize>
     ensures bound { WritesAtMost result buf.now }
     ensures bytes { WriteAppends (W.contents writer.old) (W.contents writer.new) result buf.now }
@@ -156,7 +157,7 @@ fn write_again<W: Write>(writer: &mut W, buf: &[u8]) -> io::Result<usize>
     Err(too_many_tries())
 }
 
-// Flushes once, and again while a signal interrupts it.
+/// Flushes once, and again while a signal interrupts it.
 fn flush_again<W: Write>(writer: &mut W) -> io::Result<()>
     ensures bytes { Keeps (W.contents writer.old) (W.contents writer.new) }
     ensures again { IfErr result (λ e. error_kind e ≢ ErrorKind.Interrupted) }
