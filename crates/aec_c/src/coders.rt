@@ -39,19 +39,19 @@ fn fresh_coder(alloc: Global, options: &Options) -> Result<Box<OpenCoder>, Fault
 }
 
 /// Frees the coder that a handle holds.
-pub(crate) fn coder_closed(alloc: Global, handle: &mut CoderHandle)
+pub(crate) fn close_coder(alloc: Global, handle: &mut CoderHandle)
     ensures { handle.new.value ≡ None }
 {
     let _held = mem::replace(handle, CoderHandle::empty()).into_box(alloc);
 }
 
 /// Replaces what a handle holds by a coder that was fed nothing.
-pub(crate) fn coder_opened(alloc: Global, options: &Options, handle: &mut CoderHandle) -> Reply
+pub(crate) fn open_coder(alloc: Global, options: &Options, handle: &mut CoderHandle) -> Reply
     ensures { OpensCoder (settings_of options.now) handle.old.value handle.new.value result }
 {
     match fresh_coder(alloc, options) {
         Ok(made) => {
-            coder_closed(alloc, handle);
+            close_coder(alloc, handle);
             *handle = CoderHandle::of(made);
             answered(0)
         }
@@ -138,7 +138,7 @@ fn take_open(alloc: Global, made: &mut OpenCoder, out: &mut [u8]) -> Reply
 }
 
 /// Feeds a piece of stored samples to the coder that a handle holds.
-pub(crate) fn fed(alloc: Global, handle: &mut CoderHandle, piece: &[u8]) -> Reply
+pub(crate) fn feed(alloc: Global, handle: &mut CoderHandle, piece: &[u8]) -> Reply
     ensures { OnHandle (FeedsPiece piece.now) handle.old.value handle.new.value result }
 {
     match mem::replace(handle, CoderHandle::empty()).into_box(alloc) {
@@ -152,7 +152,7 @@ pub(crate) fn fed(alloc: Global, handle: &mut CoderHandle, piece: &[u8]) -> Repl
 }
 
 /// Ends the stream of the coder that a handle holds.
-pub(crate) fn finished(alloc: Global, handle: &mut CoderHandle) -> Reply
+pub(crate) fn finish(alloc: Global, handle: &mut CoderHandle) -> Reply
     ensures { OnHandle FinishesStream handle.old.value handle.new.value result }
 {
     match mem::replace(handle, CoderHandle::empty()).into_box(alloc) {
@@ -166,7 +166,7 @@ pub(crate) fn finished(alloc: Global, handle: &mut CoderHandle) -> Reply
 }
 
 /// Moves the whole bytes of a handle's code into a buffer, as `take_open` does.
-pub(crate) fn taken(alloc: Global, handle: &mut CoderHandle, out: &mut [u8]) -> Reply
+pub(crate) fn take(alloc: Global, handle: &mut CoderHandle, out: &mut [u8]) -> Reply
     ensures { TakesOut handle.old.value handle.new.value out.old out.new result }
 {
     match mem::replace(handle, CoderHandle::empty()).into_box(alloc) {

@@ -7,10 +7,10 @@ ghost use Rattle.aec_c.specs.Bounds.{bound_of, Suffices};
 ghost use Rattle.aec_c.specs.StreamEdits.{IsEditing, RepliesEdit};
 ghost use Rattle.aec_c.specs.Texts.{PutsText};
 
-use crate::answers::{coded, decoded, ranged};
-use crate::bound::bound;
+use crate::answers::{decode_with, encode_with, range_with};
+use crate::bound::bound_of;
 use crate::options::Options;
-use crate::reply::{Reply, told};
+use crate::reply::{Reply, reply_of};
 use crate::stream_edits::{EditReply, edited_stream, settle_edited};
 use crate::text::{put_text, text_of};
 use std::alloc::Global;
@@ -39,8 +39,8 @@ pub extern "C" fn aecp_encode(
     ensures number { result ≡ reply.new.fault }
 {
     let room = out.len();
-    let answer = coded(alloc, options, samples, out);
-    *reply = told(answer, room);
+    let answer = encode_with(alloc, options, samples, out);
+    *reply = reply_of(answer, room);
     reply.fault
 }
 
@@ -60,8 +60,8 @@ pub extern "C" fn aecp_decode(
     ensures number { result ≡ reply.new.fault }
 {
     let room = out.len();
-    let answer = decoded(alloc, options, count, bytes, out);
-    *reply = told(answer, room);
+    let answer = decode_with(alloc, options, count, bytes, out);
+    *reply = reply_of(answer, room);
     reply.fault
 }
 
@@ -84,8 +84,8 @@ pub extern "C" fn aecp_range(
     ensures number { result ≡ reply.new.fault }
 {
     let room = out.len();
-    let answer = ranged(alloc, options, count, first, len, bytes, out);
-    *reply = told(answer, room);
+    let answer = range_with(alloc, options, count, first, len, bytes, out);
+    *reply = reply_of(answer, room);
     reply.fault
 }
 
@@ -118,7 +118,7 @@ pub extern "C" fn aecp_bound(options: &Options, samples: u64) -> u64
     ensures number { result ≡ bound_of (settings_of options.now) samples }
     ensures suffices { Suffices (settings_of options.now) samples result }
 {
-    bound(options, samples)
+    bound_of(options, samples)
 }
 
 /// Puts as much of a reply's text as fits into a buffer, and a zero after it. Returns the text's

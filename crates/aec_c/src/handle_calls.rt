@@ -8,9 +8,11 @@ ghost use Rattle.aec_c.specs.HandleLoads.{Loads};
 ghost use Rattle.aec_c.specs.HandleReads.{Opens, size_in, calls_in, WritesOut, ReadsOut};
 
 use crate::handle::Handle;
-use crate::handle_edits::{appended, edited, inserted, overwritten};
-use crate::handle_loads::loaded;
-use crate::handle_reads::{called, closed, counted, opened, read, written};
+use crate::handle_edits::{append, apply_edit, insert, overwrite};
+use crate::handle_loads::load;
+use crate::handle_reads::{
+    call_count, close_workspace, open_workspace, read_range, sample_count, write_code,
+};
 use crate::options::Options;
 use crate::reply::Reply;
 use aec_params::Edit;
@@ -28,7 +30,7 @@ pub extern "C" fn aecp_append(
         handle.old.value handle.new.value reply.new }
     ensures number { result ≡ reply.new.fault }
 {
-    *reply = appended(alloc, handle, values);
+    *reply = append(alloc, handle, values);
     reply.fault
 }
 
@@ -44,7 +46,7 @@ pub extern "C" fn aecp_truncate(
         handle.old.value handle.new.value reply.new }
     ensures number { result ≡ reply.new.fault }
 {
-    *reply = edited(alloc, handle, &Edit::Truncate { count });
+    *reply = apply_edit(alloc, handle, &Edit::Truncate { count });
     reply.fault
 }
 
@@ -61,7 +63,7 @@ pub extern "C" fn aecp_remove(
         handle.old.value handle.new.value reply.new }
     ensures number { result ≡ reply.new.fault }
 {
-    *reply = edited(alloc, handle, &Edit::Remove { first, len });
+    *reply = apply_edit(alloc, handle, &Edit::Remove { first, len });
     reply.fault
 }
 
@@ -78,7 +80,7 @@ pub extern "C" fn aecp_overwrite(
         handle.old.value handle.new.value reply.new }
     ensures number { result ≡ reply.new.fault }
 {
-    *reply = overwritten(alloc, handle, first, values);
+    *reply = overwrite(alloc, handle, first, values);
     reply.fault
 }
 
@@ -95,7 +97,7 @@ pub extern "C" fn aecp_insert(
         handle.old.value handle.new.value reply.new }
     ensures number { result ≡ reply.new.fault }
 {
-    *reply = inserted(alloc, handle, first, values);
+    *reply = insert(alloc, handle, first, values);
     reply.fault
 }
 
@@ -111,7 +113,7 @@ pub extern "C" fn aecp_open(
     ensures opens { Opens (settings_of options.now) handle.old.value handle.new.value reply.new }
     ensures number { result ≡ reply.new.fault }
 {
-    *reply = opened(alloc, options, handle);
+    *reply = open_workspace(alloc, options, handle);
     reply.fault
 }
 
@@ -130,7 +132,7 @@ pub extern "C" fn aecp_load(
         handle.old.value handle.new.value reply.new }
     ensures number { result ≡ reply.new.fault }
 {
-    *reply = loaded(alloc, options, count, bytes, handle);
+    *reply = load(alloc, options, count, bytes, handle);
     reply.fault
 }
 
@@ -139,7 +141,7 @@ pub extern "C" fn aecp_load(
 pub extern "C" fn aecp_close(alloc: Global, handle: &mut Handle)
     ensures { handle.new.value ≡ None }
 {
-    closed(alloc, handle);
+    close_workspace(alloc, handle);
 }
 
 /// Returns the number of samples.
@@ -148,7 +150,7 @@ pub extern "C" fn aecp_size(alloc: Global, handle: &mut Handle) -> u64
     ensures size { result ≡ size_in handle.old.value }
     ensures same { handle.new.value ≡ handle.old.value }
 {
-    counted(alloc, handle)
+    sample_count(alloc, handle)
 }
 
 /// Returns how many intervals the coder has coded.
@@ -157,7 +159,7 @@ pub extern "C" fn aecp_calls(alloc: Global, handle: &mut Handle) -> u64
     ensures calls { result ≡ calls_in handle.old.value }
     ensures same { handle.new.value ≡ handle.old.value }
 {
-    called(alloc, handle)
+    call_count(alloc, handle)
 }
 
 /// Puts the bytes of the code of all samples into a buffer.
@@ -171,7 +173,7 @@ pub extern "C" fn aecp_write(
     ensures writes { WritesOut handle.old.value handle.new.value out.old out.new reply.new }
     ensures number { result ≡ reply.new.fault }
 {
-    *reply = written(alloc, handle, out);
+    *reply = write_code(alloc, handle, out);
     reply.fault
 }
 
@@ -188,6 +190,6 @@ pub extern "C" fn aecp_read(
     ensures reads { ReadsOut first len handle.old.value handle.new.value out.old out.new reply.new }
     ensures number { result ≡ reply.new.fault }
 {
-    *reply = read(alloc, handle, first, len, out);
+    *reply = read_range(alloc, handle, first, len, out);
     reply.fault
 }

@@ -13,7 +13,7 @@ ghost use Rattle.aec_c.specs.HandleReads.{IsFresh, Opens, size_in, calls_in, Wri
 
 use crate::handle::{Handle, OpenWorkspace};
 use crate::handle_edits::not_open;
-use crate::options::{MOST_SAMPLES, Options, asked};
+use crate::options::{MOST_SAMPLES, Options, settings_of};
 use crate::reply::{Reply, answered, refused, too_long};
 use crate::settling::settle;
 use aec_bits::WriteSink;
@@ -24,12 +24,12 @@ use std::alloc::Global;
 use std::mem;
 
 /// Returns an empty workspace.
-pub(crate) fn fresh(alloc: Global, options: &Options) -> Result<Box<OpenWorkspace>, Fault>
+pub(crate) fn fresh_workspace(alloc: Global, options: &Options) -> Result<Box<OpenWorkspace>, Fault>
     ensures ok { IfOk result (λ work. IsFresh (settings_of options.now) work.value) }
     ensures refuses { IfErr result
         (λ fault. CannotBegin (settings_of options.now) fault) }
 {
-    let params = Params::new(asked(options))?;
+    let params = Params::new(settings_of(options))?;
     let workspace = Workspace::new(alloc, AecCodec::new(alloc, params), MOST_SAMPLES);
     match Box::new(alloc, OpenWorkspace { workspace }) {
         Ok(work) => Ok(work),
@@ -38,19 +38,19 @@ pub(crate) fn fresh(alloc: Global, options: &Options) -> Result<Box<OpenWorkspac
 }
 
 /// Frees what a handle holds.
-pub(crate) fn closed(alloc: Global, handle: &mut Handle)
+pub(crate) fn close_workspace(alloc: Global, handle: &mut Handle)
     ensures { handle.new.value ≡ None }
 {
     let _held = mem::replace(handle, Handle::empty()).into_box(alloc);
 }
 
 /// Replaces what a handle holds by an empty workspace.
-pub(crate) fn opened(alloc: Global, options: &Options, handle: &mut Handle) -> Reply
+pub(crate) fn open_workspace(alloc: Global, options: &Options, handle: &mut Handle) -> Reply
     ensures { Opens (settings_of options.now) handle.old.value handle.new.value result }
 {
-    match fresh(alloc, options) {
+    match fresh_workspace(alloc, options) {
         Ok(work) => {
-            closed(alloc, handle);
+            close_workspace(alloc, handle);
             *handle = Handle::of(work);
             answered(0)
         }
@@ -59,7 +59,7 @@ pub(crate) fn opened(alloc: Global, options: &Options, handle: &mut Handle) -> R
 }
 
 /// Returns the number of samples.
-pub(crate) fn counted(alloc: Global, handle: &mut Handle) -> u64
+pub(crate) fn sample_count(alloc: Global, handle: &mut Handle) -> u64
     ensures size { result ≡ size_in handle.old.value }
     ensures same { handle.new.value ≡ handle.old.value }
 {
@@ -74,7 +74,7 @@ pub(crate) fn counted(alloc: Global, handle: &mut Handle) -> u64
 }
 
 /// Returns how many intervals the coder has coded.
-pub(crate) fn called(alloc: Global, handle: &mut Handle) -> u64
+pub(crate) fn call_count(alloc: Global, handle: &mut Handle) -> u64
     ensures calls { result ≡ calls_in handle.old.value }
     ensures same { handle.new.value ≡ handle.old.value }
 {
@@ -102,7 +102,7 @@ fn code_bytes(alloc: Global, work: &OpenWorkspace) -> Result<Vec<u8>, Fault>
 }
 
 /// Puts the bytes of the code of all samples into a buffer.
-pub(crate) fn written(alloc: Global, handle: &mut Handle, out: &mut [u8]) -> Reply
+pub(crate) fn write_code(alloc: Global, handle: &mut Handle, out: &mut [u8]) -> Reply
     ensures { WritesOut handle.old.value handle.new.value out.old out.new result }
 {
     match mem::replace(handle, Handle::empty()).into_box(alloc) {
@@ -150,7 +150,7 @@ fn settle_samples(answer: Result<Vec<i64>, Fault>, out: &mut [i64]) -> Reply
 }
 
 /// Puts the `len` samples from place `first` on into a buffer.
-pub(crate) fn read(
+pub(crate) fn read_range(
     alloc: Global,
     handle: &mut Handle,
     first: u64,

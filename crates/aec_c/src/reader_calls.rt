@@ -7,7 +7,7 @@ ghost use Rattle.aec_c.specs.Readers.{OpensReader, PutsNext, GoesTo};
 
 use crate::options::Options;
 use crate::reader_handle::ReaderHandle;
-use crate::readers::{gone_to, put_next, reader_closed, reader_opened};
+use crate::readers::{close_reader, go_to, open_reader, put_next};
 use crate::reply::Reply;
 use std::alloc::Global;
 
@@ -26,7 +26,7 @@ pub extern "C" fn aecp_reader_open(
         reader.old.value reader.new.value reply.new }
     ensures number { result ≡ reply.new.fault }
 {
-    *reply = reader_opened(alloc, options, count, coded, reader);
+    *reply = open_reader(alloc, options, count, coded, reader);
     reply.fault
 }
 
@@ -56,7 +56,7 @@ pub extern "C" fn aecp_reader_go_to(
     ensures goes { OnHandle (GoesTo interval) reader.old.value reader.new.value reply.new }
     ensures number { result ≡ reply.new.fault }
 {
-    *reply = gone_to(alloc, reader, interval);
+    *reply = go_to(alloc, reader, interval);
     reply.fault
 }
 
@@ -65,5 +65,5 @@ pub extern "C" fn aecp_reader_go_to(
 pub extern "C" fn aecp_reader_close(alloc: Global, reader: &mut ReaderHandle)
     ensures { reader.new.value ≡ None }
 {
-    reader_closed(alloc, reader);
+    close_reader(alloc, reader);
 }

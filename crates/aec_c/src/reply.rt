@@ -71,7 +71,7 @@ pub(crate) fn refused(fault: Fault) -> Reply
 }
 
 /// Returns the reply for an answer of so many bytes, or for a refusal, by the room there is.
-pub(crate) fn told(answer: Result<u64, Fault>, room: usize) -> Reply
+pub(crate) fn reply_of(answer: Result<u64, Fault>, room: usize) -> Reply
     ensures { result ≡ reply_of answer room }
 {
     match answer {

@@ -11,7 +11,7 @@ ghost use Rattle.aec_c.specs.Replies.{refused_for, reply_to};
 ghost use Rattle.aec_c.specs.StreamEdits.{IsEditing, CodesSoMany, plain_answer, fault_in, line_in, line_of};
 
 use crate::answers::{limits, params_of};
-use crate::options::{Options, counted};
+use crate::options::{Options, count_of};
 use crate::reply::{Reply, refused};
 use crate::settling::settle_bytes;
 use aec_bits::{Source, WriteSink};
@@ -130,7 +130,7 @@ pub(crate) fn edited_stream(
         script.now bytes.now (Err fault)) }
 {
     match params_of(options) {
-        Ok(params) => edited_bytes(alloc, &params, counted(count), script, bytes),
+        Ok(params) => edited_bytes(alloc, &params, count_of(count), script, bytes),
         Err(fault) => Err(EditFault::Plain(fault)),
     }
 }
