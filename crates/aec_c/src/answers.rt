@@ -40,10 +40,8 @@ pub(crate) fn encode_with(
 ) -> Result<u64, Fault>
     ensures { FillsOne (IsCoding (settings_of options.now) samples.now) out.old out.new result }
 {
-    match params_of(options) {
-        Ok(params) => encode_into(alloc, &params, limits(), samples, out),
-        Err(fault) => Err(fault),
-    }
+    let params = params_of(options)?;
+    encode_into(alloc, &params, limits(), samples, out)
 }
 
 /// Decodes the first `front` coded bytes as `count` samples, as `decode_into` does. Returns `None`
@@ -105,13 +103,9 @@ pub(crate) fn decode_with(
     ensures { FillsOne (IsDecoding (settings_of options.now) (count_of count) bytes.now) out.old
         out.new result }
 {
-    match params_of(options) {
-        Ok(params) => {
-            let bound = bound_of(options, count);
-            decode_within_bound(alloc, &params, count_of(count), bound, bytes, out)
-        }
-        Err(fault) => Err(fault),
-    }
+    let params = params_of(options)?;
+    let bound = bound_of(options, count);
+    decode_within_bound(alloc, &params, count_of(count), bound, bytes, out)
 }
 
 /// Decodes a range of the first `front` coded bytes, read as `count` samples, as `range_into` does.
@@ -167,7 +161,8 @@ fn range_within_bound(
     range_into(alloc, params, limits(), count, first, len, bytes, out)
 }
 
-/// Does the same as `decode_with` for a range of the stored samples.
+/// Puts a range of the stored samples of coded bytes into a buffer if there is room for it. Returns
+/// how many bytes it takes.
 pub(crate) fn range_with(
     alloc: Global,
     options: &Options,
@@ -180,12 +175,8 @@ pub(crate) fn range_with(
     ensures { FillsOne (IsRanging (settings_of options.now) (count_of count) first len bytes.now)
         out.old out.new result }
 {
-    match params_of(options) {
-        Ok(params) => {
-            let bound = bound_of(options, count);
-            let count = count_of(count);
-            range_within_bound(alloc, &params, count, first, len, bound, bytes, out)
-        }
-        Err(fault) => Err(fault),
-    }
+    let params = params_of(options)?;
+    let bound = bound_of(options, count);
+    let count = count_of(count);
+    range_within_bound(alloc, &params, count, first, len, bound, bytes, out)
 }

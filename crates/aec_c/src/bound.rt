@@ -19,6 +19,8 @@ fn bound_within(params: &Params, samples: u64) -> u64
     bits.div_ceil(8) + blocks.div_ceil(u64::from(params.interval()))
 }
 
+/// Returns how many bytes always suffice for the code of this many samples; 0 if the options are
+/// refused or the samples are more than 2^32.
 pub(crate) fn bound_of(options: &Options, samples: u64) -> u64
     ensures { result ≡ bound_of (settings_of options.now) samples }
 {

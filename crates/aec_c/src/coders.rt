@@ -11,9 +11,8 @@ ghost use Rattle.aec_c.specs.Coders.{OpensCoder, FeedsPiece, FinishesStream, Tak
 
 use crate::answers::params_of;
 use crate::coder_handle::{CoderHandle, OpenCoder};
-use crate::handle_edits::not_open;
 use crate::options::{MOST_SAMPLES, Options};
-use crate::reply::{Reply, answered, refused};
+use crate::reply::{Reply, answered, not_open, refused};
 use crate::settling::settle_bytes;
 use aec_bits::{BitBuf, WriteSink};
 use aec_interval::StreamCoder;
@@ -32,10 +31,7 @@ fn fresh_coder(alloc: Global, options: &Options) -> Result<Box<OpenCoder>, Fault
     let params = params_of(options)?;
     let coder = Some(StreamCoder::new(alloc, params, MOST_SAMPLES));
     let bits = BitBuf::new(alloc);
-    match Box::new(alloc, OpenCoder { coder, bits }) {
-        Ok(made) => Ok(made),
-        Err(_) => Err(Fault::Memory),
-    }
+    Ok(Box::new(alloc, OpenCoder { coder, bits })?)
 }
 
 /// Frees the coder that a handle holds.
@@ -115,10 +111,7 @@ fn remove_front(alloc: Global, bits: &mut BitBuf, len: u64)
     ensures { bits.new.list ≡ drop len bits.old.list }
 {
     let none = BitBuf::new(alloc);
-    match bits.splice(0, len, &none) {
-        Ok(()) => (),
-        Err(_) => (),
-    }
+    bits.splice(0, len, &none).unwrap();
 }
 
 /// Moves the whole bytes of the code into a buffer if there is room for all of them.

@@ -3,26 +3,13 @@
 ghost use Rattle.std.specs.Prelude.{◌≡◌, IfOk, IfErr};
 ghost use Rattle.aec_params.specs.declared.fault.Fault.TheVariants.{Memory};
 ghost use Rattle.aec_params.specs.declared.edit.Edit.TheVariants.{Overwrite, Append, Insert};
-ghost use Rattle.aec_c.specs.HandleCalls.{OnHandle, MakesEdit, MakesCopiedEdit, edit_reply, not_open};
+ghost use Rattle.aec_c.specs.HandleCalls.{OnHandle, MakesEdit, MakesCopiedEdit, edit_reply};
 
 use crate::handle::Handle;
-use crate::reply::{Reply, answered, refused};
+use crate::reply::{Reply, answered, not_open, refused};
 use aec_params::{Edit, Fault, Samples};
 use std::alloc::Global;
 use std::mem;
-
-/// The number of the reply to a call on a handle, coder or reader that isn't open.
-pub(crate) const NOT_OPEN: u32 = 19;
-
-pub(crate) fn not_open() -> Reply
-    ensures { result ≡ not_open }
-{
-    Reply {
-        fault: NOT_OPEN,
-        place: 0,
-        len: 0,
-    }
-}
 
 /// Returns the reply to an edit: how many intervals it coded, or its refusal.
 fn edit_reply(answer: Result<u64, Fault>) -> Reply
@@ -39,10 +26,7 @@ pub(crate) fn copy_values(alloc: Global, values: &[i64]) -> Result<Samples, Faul
     ensures ok { IfOk result (λ samples. samples ≡ values.now) }
     ensures fault { IfErr result (λ fault. fault ≡ Memory) }
 {
-    match Vec::from_slice(alloc, values) {
-        Ok(items) => Ok(Samples::new(items)),
-        Err(_) => Err(Fault::Memory),
-    }
+    Ok(Samples::new(Vec::from_slice(alloc, values)?))
 }
 
 /// Makes an edit of the workspace that a handle holds.
@@ -59,7 +43,7 @@ pub(crate) fn apply_edit(alloc: Global, handle: &mut Handle, edit: &Edit) -> Rep
     }
 }
 
-/// Does the same as `apply_edit`, and drops the edit.
+/// Makes an edit of the workspace that a handle holds, as `apply_edit` does, and drops the edit.
 fn apply_and_drop(alloc: Global, handle: &mut Handle, edit: Edit) -> Reply
     ensures { OnHandle (MakesEdit edit) handle.old.value handle.new.value result }
 {

@@ -12,9 +12,8 @@ ghost use Rattle.aec_c.specs.Replies.{over_front, reply_to};
 ghost use Rattle.aec_c.specs.HandleReads.{IsFresh, Opens, size_in, calls_in, WritesOut, ReadsOut};
 
 use crate::handle::{Handle, OpenWorkspace};
-use crate::handle_edits::not_open;
 use crate::options::{MOST_SAMPLES, Options, settings_of};
-use crate::reply::{Reply, answered, refused, too_long};
+use crate::reply::{Reply, answered, not_open, refused, too_long};
 use crate::settling::settle;
 use aec_bits::WriteSink;
 use aec_edit::Workspace;
@@ -31,10 +30,7 @@ pub(crate) fn fresh_workspace(alloc: Global, options: &Options) -> Result<Box<Op
 {
     let params = Params::new(settings_of(options))?;
     let workspace = Workspace::new(alloc, AecCodec::new(alloc, params), MOST_SAMPLES);
-    match Box::new(alloc, OpenWorkspace { workspace }) {
-        Ok(work) => Ok(work),
-        Err(_) => Err(Fault::Memory),
-    }
+    Ok(Box::new(alloc, OpenWorkspace { workspace })?)
 }
 
 /// Frees what a handle holds.
@@ -137,7 +133,8 @@ fn settle_all(answer: &[i64], out: &mut [i64]) -> Reply
     }
 }
 
-/// Does the same for samples or a refusal. A refusal leaves the buffer unchanged.
+/// Puts samples at the front of a buffer as `settle_all` does, or returns the reply for a refusal,
+/// which leaves the buffer unchanged.
 fn settle_samples(answer: Result<Vec<i64>, Fault>, out: &mut [i64]) -> Reply
     ensures left { out.new ≡ left_of (answer_by (λ samples. samples.items) answer) out.old }
     ensures reply { result ≡ reply_to (answer_by

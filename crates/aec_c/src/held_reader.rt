@@ -175,8 +175,9 @@ impl HeldReader {
         };
     }
 
-    /// Returns from where an interval is looked for, and how many intervals lie between: from here,
-    /// unless the interval begins before.
+    /// Returns the place at which the search for `interval` starts, and how many intervals to skip
+    /// from there. The search starts at the present place, or at the first bit if the interval
+    /// begins before the present place.
     fn start_of_search(&self, interval: u64) -> (Stand, u64)
         ensures standing { IsStanding (standing_in self.now.place result.0) }
         ensures way { IsOnWay interval result.1 (standing_in self.now.place result.0).place }

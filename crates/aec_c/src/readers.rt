@@ -11,12 +11,11 @@ ghost use Rattle.aec_c.specs.Standing.{standing_at};
 ghost use Rattle.aec_c.specs.Readers.{OpensReader, ReadsNext, PutsNext, GoesTo};
 
 use crate::answers::params_of;
-use crate::handle_edits::not_open;
 use crate::held_reader::HeldReader;
 use crate::open_reader::OpenReader;
 use crate::options::{Options, count_of};
 use crate::reader_handle::ReaderHandle;
-use crate::reply::{Reply, answered, refused, too_long};
+use crate::reply::{Reply, answered, not_open, refused, too_long};
 use aec_params::{Fault, Params, put_samples};
 use std::alloc::Global;
 use std::mem;
@@ -35,10 +34,7 @@ fn fresh_reader(
 {
     let reader = HeldReader::new(alloc, params, count, coded)?;
     let samples = Vec::with_capacity(alloc, params.interval_len() as usize)?;
-    match Box::new(alloc, OpenReader { reader, samples }) {
-        Ok(made) => Ok(made),
-        Err(_) => Err(Fault::Memory),
-    }
+    Ok(Box::new(alloc, OpenReader { reader, samples })?)
 }
 
 /// Returns how many bytes the samples of a whole interval take.

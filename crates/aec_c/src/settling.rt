@@ -30,7 +30,8 @@ pub(crate) fn settle_bytes(answer: &[u8], out: &mut [u8]) -> Reply
     }
 }
 
-/// Does the same for an answer or a refusal. A refusal leaves the buffer unchanged.
+/// Puts an answer at the front of a buffer as `settle_bytes` does, or returns the reply for a
+/// refusal, which leaves the buffer unchanged.
 pub(crate) fn settle(answer: Result<Vec<u8>, Fault>, out: &mut [u8]) -> Reply
     ensures left { out.new ≡ left_of (answer_by (λ bytes. bytes.items) answer) out.old }
     ensures reply { result ≡ reply_to (answer_by (λ bytes. bytes.items) answer) (length out.old) }

@@ -45,6 +45,7 @@ struct ByteSource<'a> {
 }
 
 impl<'a> ByteSource<'a> {
+    /// Returns a source of these bytes.
     fn new(bytes: &'a [u8]) -> ByteSource<'a>
         ensures { ⟦<ByteSource<'a> as Source>⟧.left result ≡ Some bytes.now }
     {
@@ -114,7 +115,7 @@ fn edited_bytes(
     }
 }
 
-/// Does the same by C's options.
+/// Edits coded bytes by a script and C's options, as `edited_bytes` does.
 pub(crate) fn edited_stream(
     alloc: Global,
     options: &Options,
