@@ -13,7 +13,7 @@ use crate::answers::params_of;
 use crate::coder_handle::{CoderHandle, OpenCoder};
 use crate::options::{MOST_SAMPLES, Options};
 use crate::reply::{Reply, answered, not_open, refused};
-use crate::settling::settle_bytes;
+use crate::settling::settle_slice;
 use aec_bits::{BitBuf, WriteSink};
 use aec_interval::StreamCoder;
 use aec_params::Fault;
@@ -123,7 +123,7 @@ fn take_open(alloc: Global, made: &mut OpenCoder, out: &mut [u8]) -> Reply
     };
     let ready = made.bits.len() / 8;
     let room = out.len() as u64;
-    let reply = settle_bytes(&bytes[..ready as usize], out);
+    let reply = settle_slice(&bytes[..ready as usize], out);
     if ready <= room {
         remove_front(alloc, &mut made.bits, 8 * ready);
     }

@@ -1,19 +1,16 @@
 //! Opens and closes a handle, and reads from the workspace that it holds.
 
-ghost use Rattle.std.specs.Prelude.{◌≡◌, ◌≤◌, None, Some, Ok, length, IfOk, IfErr};
+ghost use Rattle.std.specs.Prelude.{◌≡◌, None, IfOk, IfErr};
 ghost use Rattle.aec_params.specs.declared.fault.Fault.TheVariants.{Memory};
 ghost use Rattle.aec_params.specs.Codewords.{bytes_of};
 ghost use Rattle.aec_bits.specs.Codec.{code_of};
-ghost use Rattle.aec_engine.specs.Transfers.{answer_by};
-ghost use Rattle.aec_engine.specs.Buffers.{left_of};
 ghost use Rattle.aec_c.specs.Calls.{settings_of, CannotBegin};
 ghost use Rattle.aec_c.specs.HandleCalls.{format_of};
-ghost use Rattle.aec_c.specs.Replies.{over_front, reply_to};
 ghost use Rattle.aec_c.specs.HandleReads.{IsFresh, Opens, size_in, calls_in, WritesOut, ReadsOut};
 
 use crate::handle::{Handle, OpenWorkspace};
 use crate::options::{MOST_SAMPLES, Options, settings_of};
-use crate::reply::{Reply, answered, not_open, refused, too_long};
+use crate::reply::{Reply, answered, not_open, refused};
 use crate::settling::settle;
 use aec_bits::WriteSink;
 use aec_edit::Workspace;
@@ -111,41 +108,6 @@ pub(crate) fn write_code(alloc: Global, handle: &mut Handle, out: &mut [u8]) -> 
     }
 }
 
-/// Puts samples at the front of a buffer that has room for them.
-fn put_samples(answer: &[i64], out: &mut [i64])
-    requires { length answer.now ≤ length out.old }
-    ensures { out.new ≡ over_front answer.now out.old }
-{
-    out[..answer.len()].copy_from_slice(answer);
-}
-
-/// Puts samples at the front of a buffer if there is room for all of them, and returns the reply.
-fn settle_all(answer: &[i64], out: &mut [i64]) -> Reply
-    ensures left { out.new ≡ left_of (Ok answer.now) out.old }
-    ensures reply { result ≡ reply_to (Ok answer.now) (length out.old) }
-{
-    let len = answer.len();
-    if len <= out.len() {
-        put_samples(answer, out);
-        answered(len as u64)
-    } else {
-        too_long(len as u64)
-    }
-}
-
-/// Puts samples at the front of a buffer as `settle_all` does, or returns the reply for a refusal,
-/// which leaves the buffer unchanged.
-fn settle_samples(answer: Result<Vec<i64>, Fault>, out: &mut [i64]) -> Reply
-    ensures left { out.new ≡ left_of (answer_by (λ samples. samples.items) answer) out.old }
-    ensures reply { result ≡ reply_to (answer_by
-        (λ samples. samples.items) answer) (length out.old) }
-{
-    match answer {
-        Ok(samples) => settle_all(&samples, out),
-        Err(fault) => refused(fault),
-    }
-}
-
 /// Puts the `len` samples from place `first` on into a buffer.
 pub(crate) fn read_range(
     alloc: Global,
@@ -160,7 +122,7 @@ pub(crate) fn read_range(
         Some(mut work) => {
             let answer = work.workspace.range(alloc, first, len);
             *handle = Handle::of(work);
-            settle_samples(answer, out)
+            settle(answer, out)
         }
         None => not_open(),
     }

@@ -13,7 +13,7 @@ ghost use Rattle.aec_c.specs.StreamEdits.{IsEditing, CodesSoMany, plain_answer, 
 use crate::answers::{limits, params_of};
 use crate::options::{Options, count_of};
 use crate::reply::{Reply, refused};
-use crate::settling::settle_bytes;
+use crate::settling::settle_slice;
 use aec_bits::{Source, WriteSink};
 use aec_engine::{EditFault, edit_over};
 use aec_interval::AecCodec;
@@ -166,7 +166,7 @@ pub(crate) fn settle_edited(answer: Result<EditedStream, EditFault>, out: &mut [
 {
     match answer {
         Ok(made) => EditReply {
-            reply: settle_bytes(&made.bytes, out),
+            reply: settle_slice(&made.bytes, out),
             line: 0,
             samples: made.samples,
         },

@@ -10,4 +10,4 @@ returns-in-Some c =
     (was_in (λ h. h.value) _ c.replace.result c.in-Some.work.value w c.replace.ensures.value c.in-Some.ensures c.deref_mut.ensures.value) c.of.ensures
     (record { samples = says.read.samples; limit = says.read.limit; calls = says.read.calls; format = says.read.format })
     (range_answer w.workspace.samples c.args.first c.args.len (λ v. v.items) c.range-answer.result says.ok says.within says.refuses)
-    c.settle_samples.ensures.left c.settle_samples.ensures.reply
+    c.settle.ensures.left c.settle.ensures.reply
