@@ -11,8 +11,8 @@ use crate::options::Options;
 use crate::reply::Reply;
 use std::alloc::Global;
 
-/// Opens a coder that was fed nothing. On success the coder that the handle held is freed; on an
-/// error the handle is unchanged.
+/// Opens a coder that was fed nothing. On success the coder that the handle held is freed, and
+/// `len` is 0; on an error the handle is unchanged.
 #[unsafe(no_mangle)]
 pub extern "C" fn aecp_coder_open(
     alloc: Global,
@@ -58,7 +58,8 @@ pub extern "C" fn aecp_coder_finish(
     reply.fault
 }
 
-/// Puts all whole bytes of the code that weren't taken yet into a buffer.
+/// Moves all whole bytes of the code that weren't taken yet into a buffer. Replies how many bytes
+/// these are.
 #[unsafe(no_mangle)]
 pub extern "C" fn aecp_coder_take(
     alloc: Global,

@@ -24,7 +24,7 @@ pub extern "C" fn aecp_version() -> u32
     10000
 }
 
-/// Codes stored samples.
+/// Codes stored samples. Replies how many bytes the code takes.
 #[tactic(auto, using(crate::proofs::ReplyLemmas::replied))]
 #[unsafe(no_mangle)]
 pub extern "C" fn aecp_encode(
@@ -44,7 +44,8 @@ pub extern "C" fn aecp_encode(
     reply.fault
 }
 
-/// Decodes coded bytes: the first `count` samples, or all if `count` is 2^64 - 1.
+/// Decodes coded bytes: the first `count` samples, or all if `count` is 2^64 - 1. Replies how many
+/// bytes the stored samples take.
 #[tactic(auto, using(crate::proofs::ReplyLemmas::replied))]
 #[unsafe(no_mangle)]
 pub extern "C" fn aecp_decode(
@@ -65,7 +66,7 @@ pub extern "C" fn aecp_decode(
     reply.fault
 }
 
-/// Decodes `len` samples from place `first` on.
+/// Decodes `len` samples from place `first` on. Replies how many bytes the stored samples take.
 #[tactic(auto, using(crate::proofs::ReplyLemmas::replied))]
 #[unsafe(no_mangle)]
 pub extern "C" fn aecp_range(
@@ -90,7 +91,8 @@ pub extern "C" fn aecp_range(
 }
 
 /// Edits a stream by a script: codes the samples that the script leaves of the first `count`, or of
-/// all if `count` is 2^64 - 1.
+/// all if `count` is 2^64 - 1. Replies how many bytes the edited stream takes, and how many samples
+/// it codes.
 #[unsafe(no_mangle)]
 pub extern "C" fn aecp_edit(
     alloc: Global,

@@ -18,7 +18,7 @@ use crate::reply::Reply;
 use aec_params::Edit;
 use std::alloc::Global;
 
-/// Appends values to the samples.
+/// Appends values to the samples. Replies how many intervals were coded.
 #[unsafe(no_mangle)]
 pub extern "C" fn aecp_append(
     alloc: Global,
@@ -34,7 +34,7 @@ pub extern "C" fn aecp_append(
     reply.fault
 }
 
-/// Keeps the first `count` samples.
+/// Keeps the first `count` samples. Replies how many intervals were coded.
 #[unsafe(no_mangle)]
 pub extern "C" fn aecp_truncate(
     alloc: Global,
@@ -50,7 +50,7 @@ pub extern "C" fn aecp_truncate(
     reply.fault
 }
 
-/// Removes the `len` samples from place `first` on.
+/// Removes the `len` samples from place `first` on. Replies how many intervals were coded.
 #[unsafe(no_mangle)]
 pub extern "C" fn aecp_remove(
     alloc: Global,
@@ -67,7 +67,8 @@ pub extern "C" fn aecp_remove(
     reply.fault
 }
 
-/// Overwrites the samples from place `first` on with the values.
+/// Overwrites the samples from place `first` on with the values. Replies how many intervals were
+/// coded.
 #[unsafe(no_mangle)]
 pub extern "C" fn aecp_overwrite(
     alloc: Global,
@@ -84,7 +85,8 @@ pub extern "C" fn aecp_overwrite(
     reply.fault
 }
 
-/// Inserts values before the sample at place `first`, or after the last one.
+/// Inserts values before the sample at place `first`, or after the last one. Replies how many
+/// intervals were coded.
 #[unsafe(no_mangle)]
 pub extern "C" fn aecp_insert(
     alloc: Global,
@@ -101,8 +103,8 @@ pub extern "C" fn aecp_insert(
     reply.fault
 }
 
-/// Opens an empty workspace. On success the workspace that the handle held is freed; on an error
-/// the handle is unchanged.
+/// Opens an empty workspace. On success the workspace that the handle held is freed, and `len` is
+/// 0; on an error the handle is unchanged.
 #[unsafe(no_mangle)]
 pub extern "C" fn aecp_open(
     alloc: Global,
@@ -117,8 +119,8 @@ pub extern "C" fn aecp_open(
     reply.fault
 }
 
-/// Opens a workspace with the samples that a stream is read as. On success the workspace that the
-/// handle held is freed; on an error the handle is unchanged.
+/// Opens a workspace with the samples that a stream is read as. Replies how many samples these are.
+/// On success the workspace that the handle held is freed; on an error the handle is unchanged.
 #[unsafe(no_mangle)]
 pub extern "C" fn aecp_load(
     alloc: Global,
@@ -162,7 +164,7 @@ pub extern "C" fn aecp_calls(alloc: Global, handle: &mut Handle) -> u64
     call_count(alloc, handle)
 }
 
-/// Puts the bytes of the code of all samples into a buffer.
+/// Puts the bytes of the code of all samples into a buffer. Replies how many bytes these are.
 #[unsafe(no_mangle)]
 pub extern "C" fn aecp_write(
     alloc: Global,
@@ -177,7 +179,7 @@ pub extern "C" fn aecp_write(
     reply.fault
 }
 
-/// Puts the `len` samples from place `first` on into a buffer.
+/// Puts the `len` samples from place `first` on into a buffer. Replies how many samples these are.
 #[unsafe(no_mangle)]
 pub extern "C" fn aecp_read(
     alloc: Global,

@@ -11,8 +11,9 @@ use crate::readers::{close_reader, go_to, open_reader, put_next};
 use crate::reply::Reply;
 use std::alloc::Global;
 
-/// Opens a reader at the first sample of a stream, of which it keeps a copy. On success the reader
-/// that the handle held is freed; on an error the handle is unchanged.
+/// Opens a reader at the first sample of a stream, of which it keeps a copy. Replies how many bytes
+/// the stored samples of a whole interval take. On success the reader that the handle held is
+/// freed; on an error the handle is unchanged.
 #[unsafe(no_mangle)]
 pub extern "C" fn aecp_reader_open(
     alloc: Global,
@@ -30,7 +31,8 @@ pub extern "C" fn aecp_reader_open(
     reply.fault
 }
 
-/// Puts the stored samples of the next interval into a buffer, and goes on after them.
+/// Puts the stored samples of the next interval into a buffer, and goes on after them. Replies how
+/// many bytes they take; 0 if all samples were read.
 #[unsafe(no_mangle)]
 pub extern "C" fn aecp_reader_next(
     alloc: Global,
