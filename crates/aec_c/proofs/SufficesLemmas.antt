@@ -12,7 +12,7 @@ use Rattle.aec_params.specs.Streams.{stream_of}
 use Rattle.aec_params.proofs.ByteLaws.{length-bytes_of}
 use Rattle.aec_interval.proofs.TakingLemmas.{length-samples_of_bytes}
 use Rattle.aec_c.specs.Calls.{IsCoding, coded, not_allowed, not_coded, lacks_memory}
-use Rattle.aec_c.specs.Bounds.{blocks_of, most_bytes, bound_of, Suffices}
+use Rattle.aec_c.specs.Bounds.{block_count_of, most_bytes, bound_of, Suffices}
 use Rattle.aec_c.proofs.CodeLengthLemmas.{block_most, stream-most}
 
 no_rule_broken : (a b c d : Bool) (w x y z : Option Fault) → IsTrue a → IsTrue b → IsTrue c → IsTrue (not d)
@@ -39,7 +39,7 @@ in_bytes bits most intervals within = omega arith
 
 code-most : (s : Settings) (samples : List ℤ) → IsAllowed s → length (bytes_of (stream_of s samples)) ≤ most_bytes s (length samples)
 code-most s samples allowed =
-    let blocks = blocks_of s (length samples) in
+    let blocks = block_count_of s (length samples) in
     omega (
       arith,
       length-bytes_of (stream_of s samples),

@@ -6,13 +6,13 @@ use Rattle.aec_params.specs.Params.{settings_fault, storage_len}
 use Rattle.aec_c.specs.Calls.{IsCoding}
 
 -- how many blocks a number of samples takes
-abbrev pub blocks_of : Settings → ℕ → ℕ
-blocks_of s samples = div_ceil samples s.block_size
+abbrev pub block_count_of : Settings → ℕ → ℕ
+block_count_of s samples = div_ceil samples s.block_size
 
 -- five bits and the plain samples for each block, and a byte for each interval
 abbrev pub most_bytes : Settings → ℕ → ℕ
-most_bytes s samples = div_ceil (blocks_of s samples * (5 + s.block_size * s.bits)) 8 + div_ceil
-    (blocks_of s samples) s.interval
+most_bytes s samples = div_ceil (block_count_of s samples * (5 + s.block_size * s.bits)) 8 + div_ceil
+    (block_count_of s samples) s.interval
 
 -- a number of bytes that no code of `samples` samples exceeds; 0 if there is no code, since the
 -- settings break a rule or there are more than 2^32 samples (`aecp_bound`)

@@ -8,8 +8,8 @@ ghost use Rattle.aec_engine.specs.Output.{IsDecoded, IsRanged};
 ghost use Rattle.aec_engine.specs.Buffers.{FillsOne, OrMemory};
 ghost use Rattle.aec_c.specs.Calls.{settings_of, count_of, most, IsCoding, IsDecoding, IsRanging};
 
-use crate::bound::bound;
-use crate::options::{MOST_CODED_BYTES, MOST_SAMPLES, Options, asked, counted};
+use crate::bound::bound_of;
+use crate::options::{MOST_CODED_BYTES, MOST_SAMPLES, Options, count_of, settings_of};
 use aec_engine::{decode_into, encode_into, range_into};
 use aec_params::{Fault, Limits, Params};
 use std::alloc::Global;
@@ -27,12 +27,12 @@ pub(crate) fn params_of(options: &Options) -> Result<Params, Fault>
     ensures allowed { IfOk result (λ params. IsAllowed params) }
     ensures refuses { result_err result ≡ settings_fault (settings_of options.now) }
 {
-    Params::new(asked(options))
+    Params::new(settings_of(options))
 }
 
 /// Puts the code of stored samples into a buffer if there is room for all of it. Returns how many
 /// bytes it takes.
-pub(crate) fn coded(
+pub(crate) fn encode_with(
     alloc: Global,
     options: &Options,
     samples: &[u8],
@@ -40,15 +40,13 @@ pub(crate) fn coded(
 ) -> Result<u64, Fault>
     ensures { FillsOne (IsCoding (settings_of options.now) samples.now) out.old out.new result }
 {
-    match params_of(options) {
-        Ok(params) => encode_into(alloc, &params, limits(), samples, out),
-        Err(fault) => Err(fault),
-    }
+    let params = params_of(options)?;
+    encode_into(alloc, &params, limits(), samples, out)
 }
 
 /// Decodes the first `front` coded bytes as `count` samples, as `decode_into` does. Returns `None`
 /// if that fails; the buffer is unchanged then.
-fn decoded_front(
+fn decode_front(
     alloc: Global,
     params: &Params,
     count: u64,
@@ -69,12 +67,12 @@ fn decoded_front(
 }
 
 /// Puts the stored samples of coded bytes into a buffer if there is room for all of them. With a
-/// count it first reads only `suffice` bytes, which always suffice for a code of so many samples.
-fn decoded_shortly(
+/// count it first reads only `bound` bytes, which always suffice for a code of so many samples.
+fn decode_within_bound(
     alloc: Global,
     params: &Params,
     count: Option<u64>,
-    suffice: u64,
+    bound: u64,
     bytes: &[u8],
     out: &mut [u8],
 ) -> Result<u64, Fault>
@@ -82,11 +80,11 @@ fn decoded_shortly(
         out.old out.new result }
 {
     let whole = bytes.len() as u64;
-    if suffice < whole
+    if bound < whole
         && whole <= MOST_CODED_BYTES
         && let Some(count) = count
     {
-        if let Some(len) = decoded_front(alloc, params, count, suffice as usize, bytes, out) {
+        if let Some(len) = decode_front(alloc, params, count, bound as usize, bytes, out) {
             return Ok(len);
         }
     }
@@ -95,7 +93,7 @@ fn decoded_shortly(
 
 /// Puts the stored samples of coded bytes into a buffer if there is room for all of them. Returns
 /// how many bytes they take.
-pub(crate) fn decoded(
+pub(crate) fn decode_with(
     alloc: Global,
     options: &Options,
     count: u64,
@@ -105,18 +103,14 @@ pub(crate) fn decoded(
     ensures { FillsOne (IsDecoding (settings_of options.now) (count_of count) bytes.now) out.old
         out.new result }
 {
-    match params_of(options) {
-        Ok(params) => {
-            let suffice = bound(options, count);
-            decoded_shortly(alloc, &params, counted(count), suffice, bytes, out)
-        }
-        Err(fault) => Err(fault),
-    }
+    let params = params_of(options)?;
+    let bound = bound_of(options, count);
+    decode_within_bound(alloc, &params, count_of(count), bound, bytes, out)
 }
 
 /// Decodes a range of the first `front` coded bytes, read as `count` samples, as `range_into` does.
 /// Returns `None` if that fails; the buffer is unchanged then.
-fn ranged_front(
+fn range_front(
     alloc: Global,
     params: &Params,
     count: u64,
@@ -140,14 +134,14 @@ fn ranged_front(
 }
 
 /// Puts a range of the stored samples of coded bytes into a buffer if there is room for it. With a
-/// count it first reads only `suffice` bytes, which always suffice for a code of so many samples.
-fn ranged_shortly(
+/// count it first reads only `bound` bytes, which always suffice for a code of so many samples.
+fn range_within_bound(
     alloc: Global,
     params: &Params,
     count: Option<u64>,
     first: u64,
     len: u64,
-    suffice: u64,
+    bound: u64,
     bytes: &[u8],
     out: &mut [u8],
 ) -> Result<u64, Fault>
@@ -155,20 +149,21 @@ fn ranged_shortly(
         (input_of bytes.now false))) out.old out.new result }
 {
     let whole = bytes.len() as u64;
-    if suffice < whole
+    if bound < whole
         && whole <= MOST_CODED_BYTES
         && let Some(count) = count
     {
-        let front = suffice as usize;
-        if let Some(put) = ranged_front(alloc, params, count, first, len, front, bytes, out) {
+        let front = bound as usize;
+        if let Some(put) = range_front(alloc, params, count, first, len, front, bytes, out) {
             return Ok(put);
         }
     }
     range_into(alloc, params, limits(), count, first, len, bytes, out)
 }
 
-/// Does the same as `decoded` for a range of the stored samples.
-pub(crate) fn ranged(
+/// Puts a range of the stored samples of coded bytes into a buffer if there is room for it. Returns
+/// how many bytes it takes.
+pub(crate) fn range_with(
     alloc: Global,
     options: &Options,
     count: u64,
@@ -180,12 +175,8 @@ pub(crate) fn ranged(
     ensures { FillsOne (IsRanging (settings_of options.now) (count_of count) first len bytes.now)
         out.old out.new result }
 {
-    match params_of(options) {
-        Ok(params) => {
-            let suffice = bound(options, count);
-            let count = counted(count);
-            ranged_shortly(alloc, &params, count, first, len, suffice, bytes, out)
-        }
-        Err(fault) => Err(fault),
-    }
+    let params = params_of(options)?;
+    let bound = bound_of(options, count);
+    let count = count_of(count);
+    range_within_bound(alloc, &params, count, first, len, bound, bytes, out)
 }

@@ -4,7 +4,7 @@ ghost use Rattle.std.specs.Prelude.{◌≡◌, ◌≤◌, ◌^◌};
 ghost use Rattle.aec_c.specs.Calls.{settings_of};
 ghost use Rattle.aec_c.specs.Bounds.{bound_of, most_bytes};
 
-use crate::options::{MOST_SAMPLES, Options, asked};
+use crate::options::{MOST_SAMPLES, Options, settings_of};
 use aec_params::Params;
 
 /// Returns the bound for allowed settings: five bits and the plain samples for each block, and a
@@ -19,10 +19,12 @@ fn bound_within(params: &Params, samples: u64) -> u64
     bits.div_ceil(8) + blocks.div_ceil(u64::from(params.interval()))
 }
 
-pub(crate) fn bound(options: &Options, samples: u64) -> u64
+/// Returns how many bytes always suffice for the code of this many samples; 0 if the options are
+/// refused or the samples are more than 2^32.
+pub(crate) fn bound_of(options: &Options, samples: u64) -> u64
     ensures { result ≡ bound_of (settings_of options.now) samples }
 {
-    match Params::new(asked(options)) {
+    match Params::new(settings_of(options)) {
         Ok(params) if samples <= MOST_SAMPLES => bound_within(&params, samples),
         _ => 0,
     }

@@ -6,13 +6,13 @@ ghost use Rattle.aec_c.specs.HandleCalls.{OnHandle};
 ghost use Rattle.aec_c.specs.Coders.{OpensCoder, FeedsPiece, FinishesStream, TakesOut};
 
 use crate::coder_handle::CoderHandle;
-use crate::coders::{coder_closed, coder_opened, fed, finished, taken};
+use crate::coders::{close_coder, feed, finish, open_coder, take};
 use crate::options::Options;
 use crate::reply::Reply;
 use std::alloc::Global;
 
-/// Opens a coder that was fed nothing. On success the coder that the handle held is freed; on an
-/// error the handle is unchanged.
+/// Opens a coder that was fed nothing. On success the coder that the handle held is freed, and
+/// `len` is 0; on an error the handle is unchanged.
 #[unsafe(no_mangle)]
 pub extern "C" fn aecp_coder_open(
     alloc: Global,
@@ -23,7 +23,7 @@ pub extern "C" fn aecp_coder_open(
     ensures opens { OpensCoder (settings_of options.now) coder.old.value coder.new.value reply.new }
     ensures number { result ≡ reply.new.fault }
 {
-    *reply = coder_opened(alloc, options, coder);
+    *reply = open_coder(alloc, options, coder);
     reply.fault
 }
 
@@ -39,7 +39,7 @@ pub extern "C" fn aecp_coder_feed(
     ensures feeds { OnHandle (FeedsPiece samples.now) coder.old.value coder.new.value reply.new }
     ensures number { result ≡ reply.new.fault }
 {
-    *reply = fed(alloc, coder, samples);
+    *reply = feed(alloc, coder, samples);
     reply.fault
 }
 
@@ -54,11 +54,12 @@ pub extern "C" fn aecp_coder_finish(
     ensures finishes { OnHandle FinishesStream coder.old.value coder.new.value reply.new }
     ensures number { result ≡ reply.new.fault }
 {
-    *reply = finished(alloc, coder);
+    *reply = finish(alloc, coder);
     reply.fault
 }
 
-/// Puts all whole bytes of the code that weren't taken yet into a buffer.
+/// Moves all whole bytes of the code that weren't taken yet into a buffer. Replies how many bytes
+/// these are.
 #[unsafe(no_mangle)]
 pub extern "C" fn aecp_coder_take(
     alloc: Global,
@@ -69,7 +70,7 @@ pub extern "C" fn aecp_coder_take(
     ensures takes { TakesOut coder.old.value coder.new.value out.old out.new reply.new }
     ensures number { result ≡ reply.new.fault }
 {
-    *reply = taken(alloc, coder, out);
+    *reply = take(alloc, coder, out);
     reply.fault
 }
 
@@ -78,5 +79,5 @@ pub extern "C" fn aecp_coder_take(
 pub extern "C" fn aecp_coder_close(alloc: Global, coder: &mut CoderHandle)
     ensures { coder.new.value ≡ None }
 {
-    coder_closed(alloc, coder);
+    close_coder(alloc, coder);
 }

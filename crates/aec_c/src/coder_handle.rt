@@ -33,6 +33,7 @@ impl Model for CoderHandle {
 }
 
 impl CoderHandle {
+    /// Returns a handle that holds no coder.
     pub(crate) fn empty() -> CoderHandle
         ensures { result.value ≡ None }
     {
@@ -42,6 +43,7 @@ impl CoderHandle {
         }
     }
 
+    /// Returns the handle that owns the coder at a loose pointer. Allocates nothing.
     fn of_loose(loose: Loose<OpenCoder, Global>) -> CoderHandle
         ensures { result.value ≡ Some loose.value }
     {
@@ -52,6 +54,7 @@ impl CoderHandle {
         }
     }
 
+    /// Returns the pointer to the coder that a handle holds, with the ownership of it.
     fn into_loose(self, alloc: Global) -> Option<Loose<OpenCoder, Global>>
         ensures { self.value ≡ option_map (λ loose. loose.value) result }
     {

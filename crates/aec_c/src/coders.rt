@@ -11,10 +11,9 @@ ghost use Rattle.aec_c.specs.Coders.{OpensCoder, FeedsPiece, FinishesStream, Tak
 
 use crate::answers::params_of;
 use crate::coder_handle::{CoderHandle, OpenCoder};
-use crate::handle_edits::not_open;
 use crate::options::{MOST_SAMPLES, Options};
-use crate::reply::{Reply, answered, refused};
-use crate::settling::settle_bytes;
+use crate::reply::{Reply, answered, not_open, refused};
+use crate::settling::settle_slice;
 use aec_bits::{BitBuf, WriteSink};
 use aec_interval::StreamCoder;
 use aec_params::Fault;
@@ -32,26 +31,23 @@ fn fresh_coder(alloc: Global, options: &Options) -> Result<Box<OpenCoder>, Fault
     let params = params_of(options)?;
     let coder = Some(StreamCoder::new(alloc, params, MOST_SAMPLES));
     let bits = BitBuf::new(alloc);
-    match Box::new(alloc, OpenCoder { coder, bits }) {
-        Ok(made) => Ok(made),
-        Err(_) => Err(Fault::Memory),
-    }
+    Ok(Box::new(alloc, OpenCoder { coder, bits })?)
 }
 
 /// Frees the coder that a handle holds.
-pub(crate) fn coder_closed(alloc: Global, handle: &mut CoderHandle)
+pub(crate) fn close_coder(alloc: Global, handle: &mut CoderHandle)
     ensures { handle.new.value ≡ None }
 {
     let _held = mem::replace(handle, CoderHandle::empty()).into_box(alloc);
 }
 
 /// Replaces what a handle holds by a coder that was fed nothing.
-pub(crate) fn coder_opened(alloc: Global, options: &Options, handle: &mut CoderHandle) -> Reply
+pub(crate) fn open_coder(alloc: Global, options: &Options, handle: &mut CoderHandle) -> Reply
     ensures { OpensCoder (settings_of options.now) handle.old.value handle.new.value result }
 {
     match fresh_coder(alloc, options) {
         Ok(made) => {
-            coder_closed(alloc, handle);
+            close_coder(alloc, handle);
             *handle = CoderHandle::of(made);
             answered(0)
         }
@@ -115,10 +111,7 @@ fn remove_front(alloc: Global, bits: &mut BitBuf, len: u64)
     ensures { bits.new.list ≡ drop len bits.old.list }
 {
     let none = BitBuf::new(alloc);
-    match bits.splice(0, len, &none) {
-        Ok(()) => (),
-        Err(_) => (),
-    }
+    bits.splice(0, len, &none).unwrap();
 }
 
 /// Moves the whole bytes of the code into a buffer if there is room for all of them.
@@ -130,7 +123,7 @@ fn take_open(alloc: Global, made: &mut OpenCoder, out: &mut [u8]) -> Reply
     };
     let ready = made.bits.len() / 8;
     let room = out.len() as u64;
-    let reply = settle_bytes(&bytes[..ready as usize], out);
+    let reply = settle_slice(&bytes[..ready as usize], out);
     if ready <= room {
         remove_front(alloc, &mut made.bits, 8 * ready);
     }
@@ -138,7 +131,7 @@ fn take_open(alloc: Global, made: &mut OpenCoder, out: &mut [u8]) -> Reply
 }
 
 /// Feeds a piece of stored samples to the coder that a handle holds.
-pub(crate) fn fed(alloc: Global, handle: &mut CoderHandle, piece: &[u8]) -> Reply
+pub(crate) fn feed(alloc: Global, handle: &mut CoderHandle, piece: &[u8]) -> Reply
     ensures { OnHandle (FeedsPiece piece.now) handle.old.value handle.new.value result }
 {
     match mem::replace(handle, CoderHandle::empty()).into_box(alloc) {
@@ -152,7 +145,7 @@ pub(crate) fn fed(alloc: Global, handle: &mut CoderHandle, piece: &[u8]) -> Repl
 }
 
 /// Ends the stream of the coder that a handle holds.
-pub(crate) fn finished(alloc: Global, handle: &mut CoderHandle) -> Reply
+pub(crate) fn finish(alloc: Global, handle: &mut CoderHandle) -> Reply
     ensures { OnHandle FinishesStream handle.old.value handle.new.value result }
 {
     match mem::replace(handle, CoderHandle::empty()).into_box(alloc) {
@@ -166,7 +159,7 @@ pub(crate) fn finished(alloc: Global, handle: &mut CoderHandle) -> Reply
 }
 
 /// Moves the whole bytes of a handle's code into a buffer, as `take_open` does.
-pub(crate) fn taken(alloc: Global, handle: &mut CoderHandle, out: &mut [u8]) -> Reply
+pub(crate) fn take(alloc: Global, handle: &mut CoderHandle, out: &mut [u8]) -> Reply
     ensures { TakesOut handle.old.value handle.new.value out.old out.new result }
 {
     match mem::replace(handle, CoderHandle::empty()).into_box(alloc) {

@@ -7,10 +7,10 @@ ghost use Rattle.aec_c.specs.Bounds.{bound_of, Suffices};
 ghost use Rattle.aec_c.specs.StreamEdits.{IsEditing, RepliesEdit};
 ghost use Rattle.aec_c.specs.Texts.{PutsText};
 
-use crate::answers::{coded, decoded, ranged};
-use crate::bound::bound;
+use crate::answers::{decode_with, encode_with, range_with};
+use crate::bound::bound_of;
 use crate::options::Options;
-use crate::reply::{Reply, told};
+use crate::reply::{Reply, reply_of};
 use crate::stream_edits::{EditReply, edited_stream, settle_edited};
 use crate::text::{put_text, text_of};
 use std::alloc::Global;
@@ -24,7 +24,7 @@ pub extern "C" fn aecp_version() -> u32
     10000
 }
 
-/// Codes stored samples.
+/// Codes stored samples. Replies how many bytes the code takes.
 #[tactic(auto, using(crate::proofs::ReplyLemmas::replied))]
 #[unsafe(no_mangle)]
 pub extern "C" fn aecp_encode(
@@ -39,12 +39,13 @@ pub extern "C" fn aecp_encode(
     ensures number { result ≡ reply.new.fault }
 {
     let room = out.len();
-    let answer = coded(alloc, options, samples, out);
-    *reply = told(answer, room);
+    let answer = encode_with(alloc, options, samples, out);
+    *reply = reply_of(answer, room);
     reply.fault
 }
 
-/// Decodes coded bytes: the first `count` samples, or all if `count` is 2^64 - 1.
+/// Decodes coded bytes: the first `count` samples, or all if `count` is 2^64 - 1. Replies how many
+/// bytes the stored samples take.
 #[tactic(auto, using(crate::proofs::ReplyLemmas::replied))]
 #[unsafe(no_mangle)]
 pub extern "C" fn aecp_decode(
@@ -60,12 +61,12 @@ pub extern "C" fn aecp_decode(
     ensures number { result ≡ reply.new.fault }
 {
     let room = out.len();
-    let answer = decoded(alloc, options, count, bytes, out);
-    *reply = told(answer, room);
+    let answer = decode_with(alloc, options, count, bytes, out);
+    *reply = reply_of(answer, room);
     reply.fault
 }
 
-/// Decodes `len` samples from place `first` on.
+/// Decodes `len` samples from place `first` on. Replies how many bytes the stored samples take.
 #[tactic(auto, using(crate::proofs::ReplyLemmas::replied))]
 #[unsafe(no_mangle)]
 pub extern "C" fn aecp_range(
@@ -84,13 +85,14 @@ pub extern "C" fn aecp_range(
     ensures number { result ≡ reply.new.fault }
 {
     let room = out.len();
-    let answer = ranged(alloc, options, count, first, len, bytes, out);
-    *reply = told(answer, room);
+    let answer = range_with(alloc, options, count, first, len, bytes, out);
+    *reply = reply_of(answer, room);
     reply.fault
 }
 
 /// Edits a stream by a script: codes the samples that the script leaves of the first `count`, or of
-/// all if `count` is 2^64 - 1.
+/// all if `count` is 2^64 - 1. Replies how many bytes the edited stream takes, and how many samples
+/// it codes.
 #[unsafe(no_mangle)]
 pub extern "C" fn aecp_edit(
     alloc: Global,
@@ -118,7 +120,7 @@ pub extern "C" fn aecp_bound(options: &Options, samples: u64) -> u64
     ensures number { result ≡ bound_of (settings_of options.now) samples }
     ensures suffices { Suffices (settings_of options.now) samples result }
 {
-    bound(options, samples)
+    bound_of(options, samples)
 }
 
 /// Puts as much of a reply's text as fits into a buffer, and a zero after it. Returns the text's

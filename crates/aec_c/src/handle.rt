@@ -34,6 +34,7 @@ impl Model for Handle {
 }
 
 impl Handle {
+    /// Returns a handle that holds no workspace.
     pub(crate) fn empty() -> Handle
         ensures { result.value ≡ None }
     {
@@ -43,6 +44,7 @@ impl Handle {
         }
     }
 
+    /// Returns the handle that owns the workspace at a loose pointer. Allocates nothing.
     fn of_loose(loose: Loose<OpenWorkspace, Global>) -> Handle
         ensures { result.value ≡ Some loose.value }
     {
@@ -53,6 +55,7 @@ impl Handle {
         }
     }
 
+    /// Returns the pointer to the workspace that a handle holds, with the ownership of it.
     fn into_loose(self, alloc: Global) -> Option<Loose<OpenWorkspace, Global>>
         ensures { self.value ≡ option_map (λ loose. loose.value) result }
     {

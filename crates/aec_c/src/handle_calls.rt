@@ -8,15 +8,17 @@ ghost use Rattle.aec_c.specs.HandleLoads.{Loads};
 ghost use Rattle.aec_c.specs.HandleReads.{Opens, size_in, calls_in, WritesOut, ReadsOut};
 
 use crate::handle::Handle;
-use crate::handle_edits::{appended, edited, inserted, overwritten};
-use crate::handle_loads::loaded;
-use crate::handle_reads::{called, closed, counted, opened, read, written};
+use crate::handle_edits::{append, apply_edit, insert, overwrite};
+use crate::handle_loads::load;
+use crate::handle_reads::{
+    call_count, close_workspace, open_workspace, read_range, sample_count, write_code,
+};
 use crate::options::Options;
 use crate::reply::Reply;
 use aec_params::Edit;
 use std::alloc::Global;
 
-/// Appends values to the samples.
+/// Appends values to the samples. Replies how many intervals were coded.
 #[unsafe(no_mangle)]
 pub extern "C" fn aecp_append(
     alloc: Global,
@@ -28,11 +30,11 @@ pub extern "C" fn aecp_append(
         handle.old.value handle.new.value reply.new }
     ensures number { result ≡ reply.new.fault }
 {
-    *reply = appended(alloc, handle, values);
+    *reply = append(alloc, handle, values);
     reply.fault
 }
 
-/// Keeps the first `count` samples.
+/// Keeps the first `count` samples. Replies how many intervals were coded.
 #[unsafe(no_mangle)]
 pub extern "C" fn aecp_truncate(
     alloc: Global,
@@ -44,11 +46,11 @@ pub extern "C" fn aecp_truncate(
         handle.old.value handle.new.value reply.new }
     ensures number { result ≡ reply.new.fault }
 {
-    *reply = edited(alloc, handle, &Edit::Truncate { count });
+    *reply = apply_edit(alloc, handle, &Edit::Truncate { count });
     reply.fault
 }
 
-/// Removes the `len` samples from place `first` on.
+/// Removes the `len` samples from place `first` on. Replies how many intervals were coded.
 #[unsafe(no_mangle)]
 pub extern "C" fn aecp_remove(
     alloc: Global,
@@ -61,11 +63,12 @@ pub extern "C" fn aecp_remove(
         handle.old.value handle.new.value reply.new }
     ensures number { result ≡ reply.new.fault }
 {
-    *reply = edited(alloc, handle, &Edit::Remove { first, len });
+    *reply = apply_edit(alloc, handle, &Edit::Remove { first, len });
     reply.fault
 }
 
-/// Overwrites the samples from place `first` on with the values.
+/// Overwrites the samples from place `first` on with the values. Replies how many intervals were
+/// coded.
 #[unsafe(no_mangle)]
 pub extern "C" fn aecp_overwrite(
     alloc: Global,
@@ -78,11 +81,12 @@ pub extern "C" fn aecp_overwrite(
         handle.old.value handle.new.value reply.new }
     ensures number { result ≡ reply.new.fault }
 {
-    *reply = overwritten(alloc, handle, first, values);
+    *reply = overwrite(alloc, handle, first, values);
     reply.fault
 }
 
-/// Inserts values before the sample at place `first`, or after the last one.
+/// Inserts values before the sample at place `first`, or after the last one. Replies how many
+/// intervals were coded.
 #[unsafe(no_mangle)]
 pub extern "C" fn aecp_insert(
     alloc: Global,
@@ -95,12 +99,12 @@ pub extern "C" fn aecp_insert(
         handle.old.value handle.new.value reply.new }
     ensures number { result ≡ reply.new.fault }
 {
-    *reply = inserted(alloc, handle, first, values);
+    *reply = insert(alloc, handle, first, values);
     reply.fault
 }
 
-/// Opens an empty workspace. On success the workspace that the handle held is freed; on an error
-/// the handle is unchanged.
+/// Opens an empty workspace. On success the workspace that the handle held is freed, and `len` is
+/// 0; on an error the handle is unchanged.
 #[unsafe(no_mangle)]
 pub extern "C" fn aecp_open(
     alloc: Global,
@@ -111,12 +115,12 @@ pub extern "C" fn aecp_open(
     ensures opens { Opens (settings_of options.now) handle.old.value handle.new.value reply.new }
     ensures number { result ≡ reply.new.fault }
 {
-    *reply = opened(alloc, options, handle);
+    *reply = open_workspace(alloc, options, handle);
     reply.fault
 }
 
-/// Opens a workspace with the samples that a stream is read as. On success the workspace that the
-/// handle held is freed; on an error the handle is unchanged.
+/// Opens a workspace with the samples that a stream is read as. Replies how many samples these are.
+/// On success the workspace that the handle held is freed; on an error the handle is unchanged.
 #[unsafe(no_mangle)]
 pub extern "C" fn aecp_load(
     alloc: Global,
@@ -130,7 +134,7 @@ pub extern "C" fn aecp_load(
         handle.old.value handle.new.value reply.new }
     ensures number { result ≡ reply.new.fault }
 {
-    *reply = loaded(alloc, options, count, bytes, handle);
+    *reply = load(alloc, options, count, bytes, handle);
     reply.fault
 }
 
@@ -139,7 +143,7 @@ pub extern "C" fn aecp_load(
 pub extern "C" fn aecp_close(alloc: Global, handle: &mut Handle)
     ensures { handle.new.value ≡ None }
 {
-    closed(alloc, handle);
+    close_workspace(alloc, handle);
 }
 
 /// Returns the number of samples.
@@ -148,7 +152,7 @@ pub extern "C" fn aecp_size(alloc: Global, handle: &mut Handle) -> u64
     ensures size { result ≡ size_in handle.old.value }
     ensures same { handle.new.value ≡ handle.old.value }
 {
-    counted(alloc, handle)
+    sample_count(alloc, handle)
 }
 
 /// Returns how many intervals the coder has coded.
@@ -157,10 +161,10 @@ pub extern "C" fn aecp_calls(alloc: Global, handle: &mut Handle) -> u64
     ensures calls { result ≡ calls_in handle.old.value }
     ensures same { handle.new.value ≡ handle.old.value }
 {
-    called(alloc, handle)
+    call_count(alloc, handle)
 }
 
-/// Puts the bytes of the code of all samples into a buffer.
+/// Puts the bytes of the code of all samples into a buffer. Replies how many bytes these are.
 #[unsafe(no_mangle)]
 pub extern "C" fn aecp_write(
     alloc: Global,
@@ -171,11 +175,11 @@ pub extern "C" fn aecp_write(
     ensures writes { WritesOut handle.old.value handle.new.value out.old out.new reply.new }
     ensures number { result ≡ reply.new.fault }
 {
-    *reply = written(alloc, handle, out);
+    *reply = write_code(alloc, handle, out);
     reply.fault
 }
 
-/// Puts the `len` samples from place `first` on into a buffer.
+/// Puts the `len` samples from place `first` on into a buffer. Replies how many samples these are.
 #[unsafe(no_mangle)]
 pub extern "C" fn aecp_read(
     alloc: Global,
@@ -188,6 +192,6 @@ pub extern "C" fn aecp_read(
     ensures reads { ReadsOut first len handle.old.value handle.new.value out.old out.new reply.new }
     ensures number { result ≡ reply.new.fault }
 {
-    *reply = read(alloc, handle, first, len, out);
+    *reply = read_range(alloc, handle, first, len, out);
     reply.fault
 }

@@ -3,26 +3,13 @@
 ghost use Rattle.std.specs.Prelude.{◌≡◌, IfOk, IfErr};
 ghost use Rattle.aec_params.specs.declared.fault.Fault.TheVariants.{Memory};
 ghost use Rattle.aec_params.specs.declared.edit.Edit.TheVariants.{Overwrite, Append, Insert};
-ghost use Rattle.aec_c.specs.HandleCalls.{OnHandle, MakesEdit, MakesCopiedEdit, edit_reply, not_open};
+ghost use Rattle.aec_c.specs.HandleCalls.{OnHandle, MakesEdit, MakesCopiedEdit, edit_reply};
 
 use crate::handle::Handle;
-use crate::reply::{Reply, answered, refused};
+use crate::reply::{Reply, answered, not_open, refused};
 use aec_params::{Edit, Fault, Samples};
 use std::alloc::Global;
 use std::mem;
-
-/// The number of the reply to a call on a handle, coder or reader that isn't open.
-pub(crate) const NOT_OPEN: u32 = 19;
-
-pub(crate) fn not_open() -> Reply
-    ensures { result ≡ not_open }
-{
-    Reply {
-        fault: NOT_OPEN,
-        place: 0,
-        len: 0,
-    }
-}
 
 /// Returns the reply to an edit: how many intervals it coded, or its refusal.
 fn edit_reply(answer: Result<u64, Fault>) -> Reply
@@ -35,18 +22,15 @@ fn edit_reply(answer: Result<u64, Fault>) -> Reply
 }
 
 /// Copies values for an edit. Fails with `Memory` if the allocation fails.
-pub(crate) fn copied(alloc: Global, values: &[i64]) -> Result<Samples, Fault>
+pub(crate) fn copy_values(alloc: Global, values: &[i64]) -> Result<Samples, Fault>
     ensures ok { IfOk result (λ samples. samples ≡ values.now) }
     ensures fault { IfErr result (λ fault. fault ≡ Memory) }
 {
-    match Vec::from_slice(alloc, values) {
-        Ok(items) => Ok(Samples::new(items)),
-        Err(_) => Err(Fault::Memory),
-    }
+    Ok(Samples::new(Vec::from_slice(alloc, values)?))
 }
 
 /// Makes an edit of the workspace that a handle holds.
-pub(crate) fn edited(alloc: Global, handle: &mut Handle, edit: &Edit) -> Reply
+pub(crate) fn apply_edit(alloc: Global, handle: &mut Handle, edit: &Edit) -> Reply
     ensures { OnHandle (MakesEdit edit.now) handle.old.value handle.new.value result }
 {
     match mem::replace(handle, Handle::empty()).into_box(alloc) {
@@ -59,36 +43,36 @@ pub(crate) fn edited(alloc: Global, handle: &mut Handle, edit: &Edit) -> Reply
     }
 }
 
-/// Does the same as `edited`, and drops the edit.
-fn edited_by(alloc: Global, handle: &mut Handle, edit: Edit) -> Reply
+/// Makes an edit of the workspace that a handle holds, as `apply_edit` does, and drops the edit.
+fn apply_and_drop(alloc: Global, handle: &mut Handle, edit: Edit) -> Reply
     ensures { OnHandle (MakesEdit edit) handle.old.value handle.new.value result }
 {
-    edited(alloc, handle, &edit)
+    apply_edit(alloc, handle, &edit)
 }
 
 /// Overwrites the samples from place `first` on with copied values.
-pub(crate) fn overwritten(alloc: Global, handle: &mut Handle, first: u64, values: &[i64]) -> Reply
+pub(crate) fn overwrite(alloc: Global, handle: &mut Handle, first: u64, values: &[i64]) -> Reply
     ensures { MakesCopiedEdit (Overwrite first values.now)
         handle.old.value handle.new.value result }
 {
-    match copied(alloc, values) {
-        Ok(values) => edited_by(alloc, handle, Edit::Overwrite { first, values }),
+    match copy_values(alloc, values) {
+        Ok(values) => apply_and_drop(alloc, handle, Edit::Overwrite { first, values }),
         Err(_) => refused(Fault::Memory),
     }
 }
 
 /// Inserts copied values before the sample at place `first`, or after the last one.
-pub(crate) fn inserted(alloc: Global, handle: &mut Handle, first: u64, values: &[i64]) -> Reply
+pub(crate) fn insert(alloc: Global, handle: &mut Handle, first: u64, values: &[i64]) -> Reply
     ensures { MakesCopiedEdit (Insert first values.now) handle.old.value handle.new.value result }
 {
-    match copied(alloc, values) {
-        Ok(values) => edited_by(alloc, handle, Edit::Insert { first, values }),
+    match copy_values(alloc, values) {
+        Ok(values) => apply_and_drop(alloc, handle, Edit::Insert { first, values }),
         Err(_) => refused(Fault::Memory),
     }
 }
 
 /// Appends values to the samples of the workspace that a handle holds, without a copy.
-pub(crate) fn appended(alloc: Global, handle: &mut Handle, values: &[i64]) -> Reply
+pub(crate) fn append(alloc: Global, handle: &mut Handle, values: &[i64]) -> Reply
     ensures { OnHandle (MakesEdit (Append values.now)) handle.old.value handle.new.value result }
 {
     match mem::replace(handle, Handle::empty()).into_box(alloc) {

@@ -5,8 +5,8 @@ ghost use Rattle.aec_c.specs.Calls.{settings_of, count_of};
 ghost use Rattle.aec_c.specs.HandleLoads.{AreRead, CannotRead, Holds, CannotHold, Loads};
 
 use crate::handle::{Handle, OpenWorkspace};
-use crate::handle_reads::{closed, fresh};
-use crate::options::{MOST_SAMPLES, Options, asked, counted};
+use crate::handle_reads::{close_workspace, fresh_workspace};
+use crate::options::{MOST_SAMPLES, Options, count_of, settings_of};
 use crate::reply::{Reply, answered, refused};
 use aec_bits::BitBuf;
 use aec_interval::decode_all;
@@ -20,17 +20,21 @@ fn reading(alloc: Global, options: &Options, count: u64, bytes: &[u8]) -> Result
     ensures refuses { IfErr result
         (λ e. CannotRead (settings_of options.now) (count_of count) bytes.now e) }
 {
-    let params = Params::new(asked(options))?;
+    let params = Params::new(settings_of(options))?;
     let bits = BitBuf::from_bytes(alloc, bytes)?;
-    decode_all(alloc, &params, &bits, counted(count), MOST_SAMPLES)
+    decode_all(alloc, &params, &bits, count_of(count), MOST_SAMPLES)
 }
 
 /// Returns a workspace with these samples.
-fn filled(alloc: Global, options: &Options, samples: &[i64]) -> Result<Box<OpenWorkspace>, Fault>
+fn workspace_with(
+    alloc: Global,
+    options: &Options,
+    samples: &[i64],
+) -> Result<Box<OpenWorkspace>, Fault>
     ensures ok { IfOk result (λ work. Holds (settings_of options.now) samples.now work.value) }
     ensures refuses { IfErr result (λ e. CannotHold (settings_of options.now) samples.now e) }
 {
-    let mut work = fresh(alloc, options)?;
+    let mut work = fresh_workspace(alloc, options)?;
     match work.workspace.append(samples) {
         Ok(_) => Ok(work),
         Err(fault) => Err(fault),
@@ -38,7 +42,7 @@ fn filled(alloc: Global, options: &Options, samples: &[i64]) -> Result<Box<OpenW
 }
 
 /// Replaces what a handle holds by a workspace with the samples of coded bytes.
-pub(crate) fn loaded(
+pub(crate) fn load(
     alloc: Global,
     options: &Options,
     count: u64,
@@ -49,9 +53,9 @@ pub(crate) fn loaded(
         handle.old.value handle.new.value result }
 {
     match reading(alloc, options, count, bytes) {
-        Ok(samples) => match filled(alloc, options, &samples) {
+        Ok(samples) => match workspace_with(alloc, options, &samples) {
             Ok(work) => {
-                closed(alloc, handle);
+                close_workspace(alloc, handle);
                 *handle = Handle::of(work);
                 answered(samples.len() as u64)
             }

@@ -1,20 +1,16 @@
 //! Opens and closes a handle, and reads from the workspace that it holds.
 
-ghost use Rattle.std.specs.Prelude.{◌≡◌, ◌≤◌, None, Some, Ok, length, IfOk, IfErr};
+ghost use Rattle.std.specs.Prelude.{◌≡◌, None, IfOk, IfErr};
 ghost use Rattle.aec_params.specs.declared.fault.Fault.TheVariants.{Memory};
 ghost use Rattle.aec_params.specs.Codewords.{bytes_of};
 ghost use Rattle.aec_bits.specs.Codec.{code_of};
-ghost use Rattle.aec_engine.specs.Transfers.{answer_by};
-ghost use Rattle.aec_engine.specs.Buffers.{left_of};
 ghost use Rattle.aec_c.specs.Calls.{settings_of, CannotBegin};
 ghost use Rattle.aec_c.specs.HandleCalls.{format_of};
-ghost use Rattle.aec_c.specs.Replies.{over_front, reply_to};
 ghost use Rattle.aec_c.specs.HandleReads.{IsFresh, Opens, size_in, calls_in, WritesOut, ReadsOut};
 
 use crate::handle::{Handle, OpenWorkspace};
-use crate::handle_edits::not_open;
-use crate::options::{MOST_SAMPLES, Options, asked};
-use crate::reply::{Reply, answered, refused, too_long};
+use crate::options::{MOST_SAMPLES, Options, settings_of};
+use crate::reply::{Reply, answered, not_open, refused};
 use crate::settling::settle;
 use aec_bits::WriteSink;
 use aec_edit::Workspace;
@@ -24,33 +20,30 @@ use std::alloc::Global;
 use std::mem;
 
 /// Returns an empty workspace.
-pub(crate) fn fresh(alloc: Global, options: &Options) -> Result<Box<OpenWorkspace>, Fault>
+pub(crate) fn fresh_workspace(alloc: Global, options: &Options) -> Result<Box<OpenWorkspace>, Fault>
     ensures ok { IfOk result (λ work. IsFresh (settings_of options.now) work.value) }
     ensures refuses { IfErr result
         (λ fault. CannotBegin (settings_of options.now) fault) }
 {
-    let params = Params::new(asked(options))?;
+    let params = Params::new(settings_of(options))?;
     let workspace = Workspace::new(alloc, AecCodec::new(alloc, params), MOST_SAMPLES);
-    match Box::new(alloc, OpenWorkspace { workspace }) {
-        Ok(work) => Ok(work),
-        Err(_) => Err(Fault::Memory),
-    }
+    Ok(Box::new(alloc, OpenWorkspace { workspace })?)
 }
 
 /// Frees what a handle holds.
-pub(crate) fn closed(alloc: Global, handle: &mut Handle)
+pub(crate) fn close_workspace(alloc: Global, handle: &mut Handle)
     ensures { handle.new.value ≡ None }
 {
     let _held = mem::replace(handle, Handle::empty()).into_box(alloc);
 }
 
 /// Replaces what a handle holds by an empty workspace.
-pub(crate) fn opened(alloc: Global, options: &Options, handle: &mut Handle) -> Reply
+pub(crate) fn open_workspace(alloc: Global, options: &Options, handle: &mut Handle) -> Reply
     ensures { Opens (settings_of options.now) handle.old.value handle.new.value result }
 {
-    match fresh(alloc, options) {
+    match fresh_workspace(alloc, options) {
         Ok(work) => {
-            closed(alloc, handle);
+            close_workspace(alloc, handle);
             *handle = Handle::of(work);
             answered(0)
         }
@@ -59,7 +52,7 @@ pub(crate) fn opened(alloc: Global, options: &Options, handle: &mut Handle) -> R
 }
 
 /// Returns the number of samples.
-pub(crate) fn counted(alloc: Global, handle: &mut Handle) -> u64
+pub(crate) fn sample_count(alloc: Global, handle: &mut Handle) -> u64
     ensures size { result ≡ size_in handle.old.value }
     ensures same { handle.new.value ≡ handle.old.value }
 {
@@ -74,7 +67,7 @@ pub(crate) fn counted(alloc: Global, handle: &mut Handle) -> u64
 }
 
 /// Returns how many intervals the coder has coded.
-pub(crate) fn called(alloc: Global, handle: &mut Handle) -> u64
+pub(crate) fn call_count(alloc: Global, handle: &mut Handle) -> u64
     ensures calls { result ≡ calls_in handle.old.value }
     ensures same { handle.new.value ≡ handle.old.value }
 {
@@ -102,7 +95,7 @@ fn code_bytes(alloc: Global, work: &OpenWorkspace) -> Result<Vec<u8>, Fault>
 }
 
 /// Puts the bytes of the code of all samples into a buffer.
-pub(crate) fn written(alloc: Global, handle: &mut Handle, out: &mut [u8]) -> Reply
+pub(crate) fn write_code(alloc: Global, handle: &mut Handle, out: &mut [u8]) -> Reply
     ensures { WritesOut handle.old.value handle.new.value out.old out.new result }
 {
     match mem::replace(handle, Handle::empty()).into_box(alloc) {
@@ -115,42 +108,8 @@ pub(crate) fn written(alloc: Global, handle: &mut Handle, out: &mut [u8]) -> Rep
     }
 }
 
-/// Puts samples at the front of a buffer that has room for them.
-fn put_samples(answer: &[i64], out: &mut [i64])
-    requires { length answer.now ≤ length out.old }
-    ensures { out.new ≡ over_front answer.now out.old }
-{
-    out[..answer.len()].copy_from_slice(answer);
-}
-
-/// Puts samples at the front of a buffer if there is room for all of them, and returns the reply.
-fn settle_all(answer: &[i64], out: &mut [i64]) -> Reply
-    ensures left { out.new ≡ left_of (Ok answer.now) out.old }
-    ensures reply { result ≡ reply_to (Ok answer.now) (length out.old) }
-{
-    let len = answer.len();
-    if len <= out.len() {
-        put_samples(answer, out);
-        answered(len as u64)
-    } else {
-        too_long(len as u64)
-    }
-}
-
-/// Does the same for samples or a refusal. A refusal leaves the buffer unchanged.
-fn settle_samples(answer: Result<Vec<i64>, Fault>, out: &mut [i64]) -> Reply
-    ensures left { out.new ≡ left_of (answer_by (λ samples. samples.items) answer) out.old }
-    ensures reply { result ≡ reply_to (answer_by
-        (λ samples. samples.items) answer) (length out.old) }
-{
-    match answer {
-        Ok(samples) => settle_all(&samples, out),
-        Err(fault) => refused(fault),
-    }
-}
-
 /// Puts the `len` samples from place `first` on into a buffer.
-pub(crate) fn read(
+pub(crate) fn read_range(
     alloc: Global,
     handle: &mut Handle,
     first: u64,
@@ -163,7 +122,7 @@ pub(crate) fn read(
         Some(mut work) => {
             let answer = work.workspace.range(alloc, first, len);
             *handle = Handle::of(work);
-            settle_samples(answer, out)
+            settle(answer, out)
         }
         None => not_open(),
     }

@@ -41,7 +41,7 @@ impl Model for HeldReader {
 
 /// Skips `intervals` intervals, or all that are left. Returns how many samples lie before the new
 /// place, if `before` lie before the old one.
-fn pass(
+fn skip_intervals(
     params: &Params,
     reader: &mut StreamReader,
     intervals: u64,
@@ -175,9 +175,10 @@ impl HeldReader {
         };
     }
 
-    /// Returns from where an interval is looked for, and how many intervals lie between: from here,
-    /// unless the interval begins before.
-    fn way(&self, interval: u64) -> (Stand, u64)
+    /// Returns the place at which the search for `interval` starts, and how many intervals to skip
+    /// from there. The search starts at the present place, or at the first bit if the interval
+    /// begins before the present place.
+    fn start_of_search(&self, interval: u64) -> (Stand, u64)
         ensures standing { IsStanding (standing_in self.now.place result.0) }
         ensures way { IsOnWay interval result.1 (standing_in self.now.place result.0).place }
     {
@@ -199,15 +200,15 @@ impl HeldReader {
 
     /// Returns where an interval begins, or the end of all samples if there are fewer. Allocates
     /// nothing.
-    fn found(&self, alloc: Global, interval: u64) -> Result<Stand, Fault>
+    fn find(&self, alloc: Global, interval: u64) -> Result<Stand, Fault>
         ensures ok { IfOk result (λ at. IsStanding (standing_in self.now.place at)) }
         ensures begins { IfOk result
             (λ at. BeginsInterval interval (standing_in self.now.place at).place) }
         ensures refuses { IfErr result (IsFaultOnWay interval self.now.place) }
     {
-        let (start, left) = self.way(interval);
+        let (start, left) = self.start_of_search(interval);
         let mut reader = self.reader(alloc, start.place)?;
-        let before = pass(&self.params, &mut reader, left, start.before)?;
+        let before = skip_intervals(&self.params, &mut reader, left, start.before)?;
         Ok(Stand {
             place: reader.place(),
             before,
@@ -224,7 +225,7 @@ impl HeldReader {
         ensures refuses { IfErr result (IsFaultOnWay interval self.old.place) }
         ensures err { OnErr result (self.new ≡ self.old) }
     {
-        self.at = self.found(alloc, interval)?;
+        self.at = self.find(alloc, interval)?;
         Ok(self.at.before)
     }
 }

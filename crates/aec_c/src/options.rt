@@ -28,7 +28,7 @@ pub struct Options {
 }
 
 /// Returns the options as settings.
-pub(crate) fn asked(options: &Options) -> Settings
+pub(crate) fn settings_of(options: &Options) -> Settings
     ensures { result ≡ settings_of options.now }
 {
     Settings {
@@ -46,7 +46,7 @@ pub(crate) fn asked(options: &Options) -> Settings
 }
 
 /// Returns a number as a count, and 2^64 - 1 as none.
-pub(crate) fn counted(count: u64) -> Option<u64>
+pub(crate) fn count_of(count: u64) -> Option<u64>
     ensures { result ≡ count_of count }
 {
     if count == u64::MAX { None } else { Some(count) }

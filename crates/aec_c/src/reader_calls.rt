@@ -7,12 +7,13 @@ ghost use Rattle.aec_c.specs.Readers.{OpensReader, PutsNext, GoesTo};
 
 use crate::options::Options;
 use crate::reader_handle::ReaderHandle;
-use crate::readers::{gone_to, put_next, reader_closed, reader_opened};
+use crate::readers::{close_reader, go_to, open_reader, put_next};
 use crate::reply::Reply;
 use std::alloc::Global;
 
-/// Opens a reader at the first sample of a stream, of which it keeps a copy. On success the reader
-/// that the handle held is freed; on an error the handle is unchanged.
+/// Opens a reader at the first sample of a stream, of which it keeps a copy. Replies how many bytes
+/// the stored samples of a whole interval take. On success the reader that the handle held is
+/// freed; on an error the handle is unchanged.
 #[unsafe(no_mangle)]
 pub extern "C" fn aecp_reader_open(
     alloc: Global,
@@ -26,11 +27,12 @@ pub extern "C" fn aecp_reader_open(
         reader.old.value reader.new.value reply.new }
     ensures number { result ≡ reply.new.fault }
 {
-    *reply = reader_opened(alloc, options, count, coded, reader);
+    *reply = open_reader(alloc, options, count, coded, reader);
     reply.fault
 }
 
-/// Puts the stored samples of the next interval into a buffer, and goes on after them.
+/// Puts the stored samples of the next interval into a buffer, and goes on after them. Replies how
+/// many bytes they take; 0 if all samples were read.
 #[unsafe(no_mangle)]
 pub extern "C" fn aecp_reader_next(
     alloc: Global,
@@ -56,7 +58,7 @@ pub extern "C" fn aecp_reader_go_to(
     ensures goes { OnHandle (GoesTo interval) reader.old.value reader.new.value reply.new }
     ensures number { result ≡ reply.new.fault }
 {
-    *reply = gone_to(alloc, reader, interval);
+    *reply = go_to(alloc, reader, interval);
     reply.fault
 }
 
@@ -65,5 +67,5 @@ pub extern "C" fn aecp_reader_go_to(
 pub extern "C" fn aecp_reader_close(alloc: Global, reader: &mut ReaderHandle)
     ensures { reader.new.value ≡ None }
 {
-    reader_closed(alloc, reader);
+    close_reader(alloc, reader);
 }

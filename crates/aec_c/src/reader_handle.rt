@@ -25,6 +25,7 @@ impl Model for ReaderHandle {
 }
 
 impl ReaderHandle {
+    /// Returns a handle that holds no reader.
     pub(crate) fn empty() -> ReaderHandle
         ensures { result.value ≡ None }
     {
@@ -34,6 +35,7 @@ impl ReaderHandle {
         }
     }
 
+    /// Returns the handle that owns the reader at a loose pointer. Allocates nothing.
     fn of_loose(loose: Loose<OpenReader, Global>) -> ReaderHandle
         ensures { result.value ≡ Some loose.value }
     {
@@ -44,6 +46,7 @@ impl ReaderHandle {
         }
     }
 
+    /// Returns the pointer to the reader that a handle holds, with the ownership of it.
     fn into_loose(self, alloc: Global) -> Option<Loose<OpenReader, Global>>
         ensures { self.value ≡ option_map (λ loose. loose.value) result }
     {

@@ -11,12 +11,11 @@ ghost use Rattle.aec_c.specs.Standing.{standing_at};
 ghost use Rattle.aec_c.specs.Readers.{OpensReader, ReadsNext, PutsNext, GoesTo};
 
 use crate::answers::params_of;
-use crate::handle_edits::not_open;
 use crate::held_reader::HeldReader;
 use crate::open_reader::OpenReader;
-use crate::options::{Options, counted};
+use crate::options::{Options, count_of};
 use crate::reader_handle::ReaderHandle;
-use crate::reply::{Reply, answered, refused, too_long};
+use crate::reply::{Reply, answered, not_open, refused, too_long};
 use aec_params::{Fault, Params, put_samples};
 use std::alloc::Global;
 use std::mem;
@@ -35,10 +34,7 @@ fn fresh_reader(
 {
     let reader = HeldReader::new(alloc, params, count, coded)?;
     let samples = Vec::with_capacity(alloc, params.interval_len() as usize)?;
-    match Box::new(alloc, OpenReader { reader, samples }) {
-        Ok(made) => Ok(made),
-        Err(_) => Err(Fault::Memory),
-    }
+    Ok(Box::new(alloc, OpenReader { reader, samples })?)
 }
 
 /// Returns how many bytes the samples of a whole interval take.
@@ -49,14 +45,14 @@ fn interval_bytes(params: &Params) -> u64
 }
 
 /// Frees the reader that a handle holds.
-pub(crate) fn reader_closed(alloc: Global, handle: &mut ReaderHandle)
+pub(crate) fn close_reader(alloc: Global, handle: &mut ReaderHandle)
     ensures { handle.new.value ≡ None }
 {
     let _held = mem::replace(handle, ReaderHandle::empty()).into_box(alloc);
 }
 
 /// Replaces what a handle holds by a reader at the first bit of coded bytes.
-pub(crate) fn reader_opened(
+pub(crate) fn open_reader(
     alloc: Global,
     options: &Options,
     count: u64,
@@ -70,9 +66,9 @@ pub(crate) fn reader_opened(
         Ok(params) => params,
         Err(fault) => return refused(fault),
     };
-    match fresh_reader(alloc, params, counted(count), coded) {
+    match fresh_reader(alloc, params, count_of(count), coded) {
         Ok(made) => {
-            reader_closed(alloc, handle);
+            close_reader(alloc, handle);
             *handle = ReaderHandle::of(made);
             answered(interval_bytes(&params))
         }
@@ -124,7 +120,7 @@ pub(crate) fn put_next(alloc: Global, handle: &mut ReaderHandle, out: &mut [u8])
 }
 
 /// Goes to where an interval begins, by the reader that a handle holds.
-pub(crate) fn gone_to(alloc: Global, handle: &mut ReaderHandle, interval: u64) -> Reply
+pub(crate) fn go_to(alloc: Global, handle: &mut ReaderHandle, interval: u64) -> Reply
     ensures { OnHandle (GoesTo interval) handle.old.value handle.new.value result }
 {
     match mem::replace(handle, ReaderHandle::empty()).into_box(alloc) {

@@ -1,13 +1,14 @@
 //! The reply of a call from C.
 
 ghost use Rattle.std.specs.Prelude.{◌≡◌};
+ghost use Rattle.aec_c.specs.HandleCalls.{not_open};
 ghost use Rattle.aec_c.specs.Replies.{done, wants_room, refused_for, reply_of};
 
 use aec_params::Fault;
 
-/// How a call ended. If `fault` is 0, the call has succeeded, and says what `len` is; if it is 18,
-/// the answer takes `len` bytes or samples, more than `out` has; else it is the number of a
-/// refusal, with its place.
+/// How a call ended. `fault` 0: success; the call's comment says what `len` counts. 18: `out` is
+/// too short; the result has `len` bytes or samples. Otherwise: the number of a refusal; `place` is
+/// the bit, index, line, count or limit that it names.
 #[repr(C)]
 #[derive(Clone, Copy)]
 pub struct Reply {
@@ -16,9 +17,13 @@ pub struct Reply {
     pub len: u64,
 }
 
-/// The number of a reply whose answer is longer than the buffer.
+/// The number of the reply to a call whose result is longer than the buffer.
 pub(crate) const NO_ROOM: u32 = 18;
 
+/// The number of the reply to a call on a handle, coder or reader that isn't open.
+pub(crate) const NOT_OPEN: u32 = 19;
+
+/// Returns the reply to a call that succeeded.
 pub(crate) fn answered(len: u64) -> Reply
     ensures { result ≡ done len }
 {
@@ -29,6 +34,7 @@ pub(crate) fn answered(len: u64) -> Reply
     }
 }
 
+/// Returns the reply to a call whose result of `len` bytes or samples is longer than the buffer.
 pub(crate) fn too_long(len: u64) -> Reply
     ensures { result ≡ wants_room len }
 {
@@ -36,6 +42,17 @@ pub(crate) fn too_long(len: u64) -> Reply
         fault: NO_ROOM,
         place: 0,
         len,
+    }
+}
+
+/// Returns the reply to a call on a handle, coder or reader that isn't open.
+pub(crate) fn not_open() -> Reply
+    ensures { result ≡ not_open }
+{
+    Reply {
+        fault: NOT_OPEN,
+        place: 0,
+        len: 0,
     }
 }
 
@@ -70,8 +87,9 @@ pub(crate) fn refused(fault: Fault) -> Reply
     }
 }
 
-/// Returns the reply for an answer of so many bytes, or for a refusal, by the room there is.
-pub(crate) fn told(answer: Result<u64, Fault>, room: usize) -> Reply
+/// Returns the reply for a result of so many bytes, or for a refusal. `room` is the length of the
+/// buffer.
+pub(crate) fn reply_of(answer: Result<u64, Fault>, room: usize) -> Reply
     ensures { result ≡ reply_of answer room }
 {
     match answer {

@@ -1,4 +1,4 @@
-//! Puts an answer into a buffer.
+//! Puts an answer of bytes or of samples into a buffer.
 
 ghost use Rattle.std.specs.Prelude.{◌≡◌, ◌≤◌, Ok, length};
 ghost use Rattle.aec_engine.specs.Transfers.{answer_by};
@@ -8,8 +8,8 @@ ghost use Rattle.aec_c.specs.Replies.{over_front, reply_to};
 use crate::reply::{Reply, answered, refused, too_long};
 use aec_params::Fault;
 
-/// Puts bytes at the front of a buffer that has room for them.
-fn put_front(answer: &[u8], out: &mut [u8])
+/// Puts an answer at the front of a buffer that has room for it.
+fn put_front<T: Copy>(answer: &[T], out: &mut [T])
     requires { length answer.now ≤ length out.old }
     ensures { out.new ≡ over_front answer.now out.old }
 {
@@ -17,7 +17,7 @@ fn put_front(answer: &[u8], out: &mut [u8])
 }
 
 /// Puts an answer at the front of a buffer if there is room for all of it, and returns the reply.
-pub(crate) fn settle_bytes(answer: &[u8], out: &mut [u8]) -> Reply
+pub(crate) fn settle_slice<T: Copy>(answer: &[T], out: &mut [T]) -> Reply
     ensures left { out.new ≡ left_of (Ok answer.now) out.old }
     ensures reply { result ≡ reply_to (Ok answer.now) (length out.old) }
 {
@@ -30,13 +30,14 @@ pub(crate) fn settle_bytes(answer: &[u8], out: &mut [u8]) -> Reply
     }
 }
 
-/// Does the same for an answer or a refusal. A refusal leaves the buffer unchanged.
-pub(crate) fn settle(answer: Result<Vec<u8>, Fault>, out: &mut [u8]) -> Reply
-    ensures left { out.new ≡ left_of (answer_by (λ bytes. bytes.items) answer) out.old }
-    ensures reply { result ≡ reply_to (answer_by (λ bytes. bytes.items) answer) (length out.old) }
+/// Puts an answer at the front of a buffer as `settle_slice` does, or returns the reply for a
+/// refusal, which leaves the buffer unchanged.
+pub(crate) fn settle<T: Copy>(answer: Result<Vec<T>, Fault>, out: &mut [T]) -> Reply
+    ensures left { out.new ≡ left_of (answer_by (λ made. made.items) answer) out.old }
+    ensures reply { result ≡ reply_to (answer_by (λ made. made.items) answer) (length out.old) }
 {
     match answer {
-        Ok(bytes) => settle_bytes(&bytes, out),
+        Ok(made) => settle_slice(&made, out),
         Err(fault) => refused(fault),
     }
 }

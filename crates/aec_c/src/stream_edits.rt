@@ -11,9 +11,9 @@ ghost use Rattle.aec_c.specs.Replies.{refused_for, reply_to};
 ghost use Rattle.aec_c.specs.StreamEdits.{IsEditing, CodesSoMany, plain_answer, fault_in, line_in, line_of};
 
 use crate::answers::{limits, params_of};
-use crate::options::{Options, counted};
+use crate::options::{Options, count_of};
 use crate::reply::{Reply, refused};
-use crate::settling::settle_bytes;
+use crate::settling::settle_slice;
 use aec_bits::{Source, WriteSink};
 use aec_engine::{EditFault, edit_over};
 use aec_interval::AecCodec;
@@ -45,6 +45,7 @@ struct ByteSource<'a> {
 }
 
 impl<'a> ByteSource<'a> {
+    /// Returns a source of these bytes.
     fn new(bytes: &'a [u8]) -> ByteSource<'a>
         ensures { ⟦<ByteSource<'a> as Source>⟧.left result ≡ Some bytes.now }
     {
@@ -114,7 +115,7 @@ fn edited_bytes(
     }
 }
 
-/// Does the same by C's options.
+/// Edits coded bytes by a script and C's options, as `edited_bytes` does.
 pub(crate) fn edited_stream(
     alloc: Global,
     options: &Options,
@@ -130,7 +131,7 @@ pub(crate) fn edited_stream(
         script.now bytes.now (Err fault)) }
 {
     match params_of(options) {
-        Ok(params) => edited_bytes(alloc, &params, counted(count), script, bytes),
+        Ok(params) => edited_bytes(alloc, &params, count_of(count), script, bytes),
         Err(fault) => Err(EditFault::Plain(fault)),
     }
 }
@@ -165,7 +166,7 @@ pub(crate) fn settle_edited(answer: Result<EditedStream, EditFault>, out: &mut [
 {
     match answer {
         Ok(made) => EditReply {
-            reply: settle_bytes(&made.bytes, out),
+            reply: settle_slice(&made.bytes, out),
             line: 0,
             samples: made.samples,
         },

@@ -4,8 +4,7 @@ ghost use Rattle.std.specs.Prelude.{◌≡◌, IfSome, length};
 ghost use Rattle.aec_c.specs.Replies.{number_of};
 ghost use Rattle.aec_c.specs.Texts.{PutsText, text_in};
 
-use crate::handle_edits::NOT_OPEN;
-use crate::reply::{NO_ROOM, Reply};
+use crate::reply::{NO_ROOM, NOT_OPEN, Reply};
 use aec_params::Fault;
 use std::alloc::{AllocError, Global};
 

@@ -18,6 +18,7 @@ impl<T, A: Allocator> Model for Loose<T, A> {
 }
 
 impl<T, A: Allocator> Loose<T, A> {
+    /// Returns the pointer to a box's value, with the ownership of it.
     pub(crate) fn of(value: Box<T, A>) -> Loose<T, A>
     where
         T: Drop,
@@ -27,6 +28,7 @@ impl<T, A: Allocator> Loose<T, A> {
         Loose { at, alloc }
     }
 
+    /// Returns the box of the value at the pointer.
     pub(crate) fn into_box(self) -> Box<T, A>
         ensures { result.value ≡ self.value }
     {

@@ -5,8 +5,8 @@ use Rattle.aec_c.proofs.stream_edits.edited_stream.Goals as goal
 
 pub returns-in-Ok-clause-ok : goal.returns-in-Ok-clause-ok
 returns-in-Ok-clause-ok c =
-    editing_as _ c.in-Ok.params _ c.counted.result c.args.script.now c.args.bytes.now (λ made. made.bytes.items) c.edited_bytes.result
-    c.in-Ok.ensures.ok c.counted.ensures c.edited_bytes.ensures.ok
+    editing_as _ c.in-Ok.params _ c.count_of.result c.args.script.now c.args.bytes.now (λ made. made.bytes.items) c.edited_bytes.result
+    c.in-Ok.ensures.ok c.count_of.ensures c.edited_bytes.ensures.ok
 
 pub returns-in-Ok-clause-counted : goal.returns-in-Ok-clause-counted
 returns-in-Ok-clause-counted c =
@@ -14,7 +14,7 @@ returns-in-Ok-clause-counted c =
 
 pub returns-in-Ok-clause-refuses : goal.returns-in-Ok-clause-refuses
 returns-in-Ok-clause-refuses c =
-    refused_as _ c.in-Ok.params _ c.counted.result c.args.script.now c.args.bytes.now c.edited_bytes.result c.in-Ok.ensures.ok c.counted.ensures
+    refused_as _ c.in-Ok.params _ c.count_of.result c.args.script.now c.args.bytes.now c.edited_bytes.result c.in-Ok.ensures.ok c.count_of.ensures
     c.edited_bytes.ensures.refuses
 
 pub returns-in-Err-clause-refuses : goal.returns-in-Err-clause-refuses

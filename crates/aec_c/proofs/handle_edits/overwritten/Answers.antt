@@ -1,9 +1,0 @@
-use Rattle.std.proofs.Common.{inl, subst}
-use Rattle.aec_params.specs.declared.edit.Edit.TheVariants.{Overwrite}
-use Rattle.aec_c.specs.HandleCalls.{OnHandle, MakesEdit}
-use Rattle.aec_c.proofs.handle_edits.overwritten.Goals as goal
-
-pub returns-in-Ok : goal.returns-in-Ok
-returns-in-Ok c =
-    inl (subst (λ v. OnHandle (MakesEdit (Overwrite c.args.first v)) c.args.handle.now.value c.edited_by.new.handle.value c.edited_by.result)
-    c.in-Ok.ensures.ok c.edited_by.ensures)
