@@ -3,8 +3,8 @@ use Rattle.std.specs.Prelude.{◌≡◌, ℕ, ◌+◌, ◌-◌, ◌^◌, min, Li
 use Rattle.std.specs.Io.KnownBytes.{Appends}
 use Rattle.aec_params.specs.declared.fault.Fault.{Fault}
 
--- A call fails with the device's fault exactly if the device has failed before the call ends: the
--- count of failures is then 1. If a call succeeds, the count was 0 and is 0.
+-- A call fails with the device's fault exactly if the device fails now or failed earlier: the count
+-- of failures is then 1. If a call succeeds, the count was 0 and is 0.
 abbrev pub FailsOnce : {X : Type 0} → Fault → ℕ → ℕ → Result X Fault → Type 0
 FailsOnce fault old new result = MatchResult result (λ _. (old ≡ 0) × (new ≡ 0)) (λ e. (e ≡ fault) × (new ≡ 1))
 

@@ -3,7 +3,7 @@ use Rattle.std.specs.Prelude.{ℕ, ◌≡◌, ◌+◌, ◌-◌, ◌*◌, ◌^◌
 use Rattle.std.specs.Int.{div_ceil}
 use Rattle.aec_bits.specs.Words.{bits_of_words}
 
--- whether there are exactly the words that `len` bits need, and every bit past these is a zero
+-- whether there are exactly the words that `len` bits need, with zeros after the first `len` bits
 abbrev pub ArePacked : List ℕ → ℕ → Type 0
 ArePacked words len =
     (length words ≡ div_ceil len 64) × (drop len (bits_of_words words) ≡ replicate (64 * length words - len) false)

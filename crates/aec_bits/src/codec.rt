@@ -14,7 +14,7 @@ pub trait Codec {
     /// samples.
     ghost format: { Self → Format };
 
-    /// The count of coded intervals, plus the count with which the codec was made.
+    /// The count of coded intervals, plus the count that the codec began with.
     ghost called: { Self → ℕ };
 
     /// The count of `decode` calls, at most `u64::MAX`.
@@ -32,7 +32,7 @@ pub trait Codec {
     fn holds(&self, x: i64) -> bool
         ensures { result ≡ (format self.now).holds x };
 
-    /// Returns the count of coded intervals, plus the count with which the codec was made.
+    /// Returns the count of coded intervals, plus the count that the codec began with.
     fn calls(&self) -> u64
         ensures { result ≡ called self.now };
 

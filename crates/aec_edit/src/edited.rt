@@ -34,12 +34,12 @@ pub struct Edited<C: Codec + Drop> {
 
 /// Makes edits, beginning with no samples, and writes the resulting stream.
 ///
-/// Each edit has an outcome that is permitted for the samples and calls that earlier edits left;
-/// the codec counts the calls. The written bytes are, bit for bit, the code of the samples that the
-/// accepted edits leave, and of no other list of the same length. Fails with `Memory` only if there
-/// are edits; nothing is written then. Fails with `Write` only if the sink has failed; the sink has
-/// then taken a prefix of a stream that permitted outcomes leave. Doesn't call `begin`. If the
-/// sink's bytes are unknown, nothing is said about what is written.
+/// Each edit has an outcome that is permitted for the samples that earlier edits left and for the
+/// codec's count of calls then. The written bytes are, bit for bit, the code of the samples that
+/// the accepted edits leave, and of no other list of as many samples. Fails with `Memory` only if
+/// there are edits; nothing is written then. Fails with `Write` only if the sink has failed; the
+/// sink has then taken a prefix of the stream of some permitted outcomes. Doesn't call `begin`. If
+/// the sink's bytes are unknown, nothing is said about what is written.
 pub fn write_edited<C: Codec + Drop, W: Sink>(
     alloc: Global,
     codec: C,

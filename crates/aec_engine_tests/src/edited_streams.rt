@@ -1,6 +1,7 @@
 //! `decode_edited`: edits of an empty stream, coded and decoded.
 
 use crate::asserts::same;
+use aec_bits::Codec;
 use aec_edit::Outcome;
 use aec_engine::decode_edited;
 use aec_params::{Edit, Fault, Params, Samples, Settings};

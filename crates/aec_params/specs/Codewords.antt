@@ -18,8 +18,8 @@ abbrev pub bits_number : List Bool → ℕ
 bits_number [] = 0
 bits_number (b ∷ bits) = cond b (2 ^ length bits) 0 + bits_number bits
 
--- bits filled with zeros up to a byte boundary (§10; a longer list, where the code keeps zeros
--- after the last bit of its words, which `byte` reads)
+-- bits filled with zeros up to a byte boundary (§10; a longer list, where the code reads the zeros
+-- that its words hold past the last bit)
 abbrev pub padded_to_byte : List Bool → List Bool
 padded_to_byte bits = bits ++ replicate (up_to_multiple 8 (length bits)) false
 

@@ -13,8 +13,8 @@ samples_after samples (Truncate count) = take count samples
 samples_after samples (Insert first values) = take first samples ++ (values ++ drop first samples)
 samples_after samples (Remove first len) = take first samples ++ drop (first + len) samples
 
--- the numbers, each once, of the intervals of n samples that contain the `len` places from `first`
--- on (consecutive ones: law `edits_touch_few`)
+-- the numbers, each once, of the intervals of n samples with one of the `len` places from `first`
+-- on (consecutive: law `edits_touch_few`)
 abbrev pub touched_intervals : ℕ → ℕ → ℕ → List ℕ
 touched_intervals n first len = dedup (λ i k. i == k) (map (λ place. place / n) (range_with_len first len))
 
@@ -34,17 +34,17 @@ abbrev pub cut_calls : ℕ → ℕ → ℕ → ℕ
 cut_calls n old count = if count == old then 0 else (if count % n == 0 then 0 else 1)
 
 -- the intervals that are cut anew if len samples are inserted or removed: none if len is 0; if n
--- divides len, those that the places reach, since later samples keep their grouping; otherwise all
--- from the one that contains the first place to the end of the `count` samples
+-- divides len, those in `reached_intervals`, since later samples keep their grouping; otherwise all
+-- from that of the first place to the last of `count` samples
 abbrev pub moved_intervals : ℕ → ℕ → ℕ → Stretch → List ℕ
 moved_intervals n len count places =
     if len == 0 then [] else reached_intervals n
     (record { first = places.first; stop = if len % n == 0 then places.stop else count })
 
--- how many intervals of n samples an edit of a list of `old` samples codes: those of the result
--- that hold a new sample or are cut anew. By the law `moves_code_what_is_new` an insertion or a
--- removal codes exactly the intervals that did not exist before; the law `moves_by_length` gives
--- their number.
+-- how many intervals, each of n samples, an edit codes if the list has `old` samples: those of the
+-- result that hold a new sample or are cut anew. By the law `moves_code_what_is_new` an insertion
+-- or a removal codes exactly the intervals that did not exist before; the law `moves_by_length`
+-- gives their number.
 abbrev pub needed_calls : ℕ → ℕ → Edit → ℕ
 needed_calls n old (Overwrite first values) = length (touched_intervals n first (length values))
 needed_calls n old (Append values) = if length values == 0 then 0 else div_ceil (old + length values) n - old / n
