@@ -8,8 +8,9 @@ have one. OPTIONS are those of aec, with --count. Makes FOLDER, which must not e
 samples of each packet into it as APID_PACKET.raw. Packets are counted from 0 in FILE.
 
 Prints a line for each gap in the sequence counts, and for each packet that can't be decoded. A
-packet that can't be decoded is skipped, and the status is then 1. Idle packets are skipped too. The
-standard's compression identification packet isn't read.
+packet that can't be decoded is skipped, and the status is then 1. A segment of a longer stream
+(sequence flags other than 3) can't be decoded. Idle packets are skipped too. The standard's
+compression identification packet isn't read.
 """
 
 import os
@@ -29,6 +30,7 @@ from aec_runs import (
 PRIMARY = 6  # bytes of the primary header
 IDLE = 0x7FF  # the APID of idle packets, the greatest
 COUNTS = 1 << 14  # where the sequence count begins at 0 again
+WHOLE = 3  # the sequence flags of a packet that isn't a segment
 
 
 class Packet(NamedTuple):
@@ -37,12 +39,15 @@ class Packet(NamedTuple):
     number: int
     apid: int
     has_secondary: bool
+    flags: int
     sequence: int
     field: bytes  # all after the primary header
 
     def stream(self, secondary):
         """Returns the data field without its secondary header, if it has one. `secondary` is the
-        header's length."""
+        header's length. Refuses a segment."""
+        if self.flags != WHOLE:
+            raise Refused("it is a segment of a longer stream; segments aren't joined")
         return self.field[secondary:] if self.has_secondary else self.field
 
     def name(self):
@@ -64,7 +69,8 @@ def packets_of(data):
         if end > len(data):
             raise Refused(f"packet {number}: it is cut, at byte {first} of the file")
         has_secondary, field = identity >> 11 & 1 == 1, data[first + PRIMARY : end]
-        yield Packet(number, identity & IDLE, has_secondary, sequence % COUNTS, field)
+        flags, count = divmod(sequence, COUNTS)
+        yield Packet(number, identity & IDLE, has_secondary, flags, count, field)
         first, number = end, number + 1
 
 

@@ -41,10 +41,10 @@ typedef struct {
     bool is_signed;      /* samples are signed */
     bool msb_first;      /* stored samples are big-endian, not little-endian */
     bool three_byte;     /* samples of 17 to 24 bits are stored in three bytes */
-    bool preprocess;     /* predict each sample from the one before; nearly always true */
-    bool pad;            /* fill each interval up to a byte boundary */
+    bool preprocess;     /* predict each sample from the one before; usually set it */
+    bool pad;            /* fill each interval up to a byte boundary; violates the standard */
     bool restricted;     /* the restricted set of code options, for at most 4 bits */
-    bool even_blocks;    /* see block_size */
+    bool even_blocks;    /* see block_size; violates the standard */
 } aecp_options;
 
 /* Options to begin with: block_size 16, interval 128. Traps: the program `aec` has 8 and 2 if it isn't told others; `preprocess` is false
@@ -84,25 +84,25 @@ enum {
 /* As a sample count: all samples that the stream decodes to, including the filler at its end. */
 #define AECP_ALL UINT64_MAX
 
-/* The calls that fill `out`, except aecp_text, return the fault of their reply. If it is 0, the result is the first `reply->len` bytes of
- * `out`, and the bytes after it are unchanged. Otherwise all of `out` is unchanged, and the call may be repeated. NO_ROOM is returned only
- * if there is no other fault. To learn the length, pass an empty `out`, even NULL: the call still does its whole work. The length of a
- * buffer is its number of bytes, but that of a buffer of int64_t is its number of samples. Below, 'options' means the faults 1 to 4 and
- * 17, which come before all others. */
+/* The calls that fill `out`, except aecp_text, return the fault of their reply. If it is 0, the result is the first `len` bytes of `out`
+ * (in aecp_read: samples), and what follows them is unchanged. Otherwise all of `out` is unchanged, and the call may be repeated. NO_ROOM
+ * is returned only if there is no other fault. To learn the length, pass an empty `out`, even NULL: the call still does its whole work. The
+ * length of a buffer is its number of bytes, but that of a buffer of int64_t is its number of samples. Below, 'options' means the faults 1
+ * to 4 and 17, which come before all others. */
 
 /* Codes stored samples. Bytes at the end that don't fill a sample are dropped. Faults: options, SAMPLE_RANGE, TOO_MANY_SAMPLES, MEMORY,
- * NO_ROOM. Allocates up to 72 KiB, twice the code's length, and eight bytes for each sample of an interval (at least 32 KiB). Traps:
- * `samples_len` is bytes, but aecp_bound takes samples; keep the sample count, which decoding needs; with `is_signed` unused bits may also
- * be zeros, and the lowest `bits` bits are still read as signed: 2048 in 12 bits is -2048. */
+ * NO_ROOM. Allocates at most this sum: 72 KiB; twice the code's length; eight bytes for each sample of an interval, at least 32 KiB. Traps:
+ * `samples_len` is bytes, but aecp_bound takes samples; keep the sample count, which decoding needs; with `is_signed`, unused bits may be
+ * zeros or copies of the sign bit, and only the lowest `bits` bits count: 2048 in 12 bits means -2048. */
 uint32_t aecp_encode(const aecp_options *options, const void *samples, size_t samples_len, uint8_t *out, size_t out_len,
                      aecp_reply *reply);
 
 /* Decodes the first `count` samples of a stream, or all with AECP_ALL. The result has 1, 2, 3 or 4 bytes for each sample. Ignores bytes of
  * the stream after these samples. Faults: options, TRUNCATED, VALUE_TOO_LARGE, RUN_TOO_LONG, TOO_MANY_SAMPLES, STREAM_TOO_LONG, MEMORY,
  * NO_ROOM. Allocates:
- * - eight bytes for each sample of an interval (up to 32 KiB for one of fewer than 4,096); and an interval's stored bytes;
+ * - for an interval: eight bytes a sample (up to 32 KiB if it has fewer than 4,096 samples), and its stored bytes;
  * - 64 KiB;
- * - the first aecp_bound(options, count) bytes of the stream; all of it with AECP_ALL, or if those first bytes hold fewer samples;
+ * - the stream's first aecp_bound(options, count) bytes; the whole stream with AECP_ALL, or if these bytes hold fewer than `count` samples;
  * - up to 16 MiB, if `block_size` times the bytes of a stored sample is at most 32.
  * Trap: AECP_ALL decodes filler too, and accepts many cut streams; 1.5 MB can decode to 2^32 samples. */
 uint32_t aecp_decode(const aecp_options *options, uint64_t count, const uint8_t *coded, size_t coded_len, void *out,
@@ -115,8 +115,8 @@ uint32_t aecp_range(const aecp_options *options, uint64_t count, uint64_t first,
                     size_t coded_len, void *out, size_t out_len, aecp_reply *reply);
 
 /* How aecp_edit ended. `samples` is the number of samples of the edited stream, with AECP_NO_ROOM too, and 0 after every other fault. If an
- * edit of the script is refused, `line` is its line, counted from 1, and `reply` says why. Else `line` is 0; for AECP_SCRIPT, `reply.place`
- * is the line. */
+ * edit of the script is refused, `line` is its line, counted from 1, and `reply` says why. Else `line` is 0, also for AECP_SCRIPT, where
+ * `reply.place` is the line. */
 typedef struct {
     aecp_reply reply;
     uint64_t line;
@@ -142,7 +142,7 @@ size_t aecp_text(const aecp_reply *reply, char *out, size_t out_len);
 /* A handle, whose members only the library uses. Initialize it with AECP_HANDLE or zeros. From aecp_open or aecp_load to aecp_close it
  * holds a workspace: a list of samples in coded form. Don't copy a handle that holds one. One thread at a time may use a handle, even to
  * read: every call takes the workspace out of the handle and puts it back. In calls with a handle samples are numbers, not stored bytes. A
- * refused edit changes no sample; only MEMORY may change aecp_calls. */
+ * refused edit changes no sample; after MEMORY, aecp_calls may be greater. */
 typedef struct {
     void *at;
     bool full;
@@ -259,7 +259,7 @@ uint32_t aecp_reader_next(aecp_reader *reader, void *out, size_t out_len, aecp_r
 
 /* Goes to the start of `interval`, counted from 0, or to the end if the stream has fewer intervals. `reply->len` is the number of samples
  * before that place. The interval UINT64_MAX always means the end. Faults: TRUNCATED, VALUE_TOO_LARGE, RUN_TOO_LONG, TOO_MANY_SAMPLES,
- * NOT_OPEN. After a fault the reader is where it was. Trap: it reads all intervals between; to go back, all from the first. */
+ * NOT_OPEN. After a fault the reader is where it was. Trap: it reads every interval that it passes; going back starts at interval 0. */
 uint32_t aecp_reader_go_to(aecp_reader *reader, uint64_t interval, aecp_reply *reply);
 
 /* Frees the reader. Does nothing if none is open. */

@@ -151,11 +151,11 @@ def try_layouts(aec, tally):
             tally.check(f"{act.__name__}: {text}", answer, (1, text))
 
 
-def packet(apid, sequence, field, secondary=b""):
+def packet(apid, sequence, field, secondary=b"", flags=3):
     """Returns a space packet."""
     body = secondary + field
     identity = (0x800 if secondary else 0) | apid
-    return struct.pack(">HHH", identity, 0xC000 | sequence, len(body) - 1) + body
+    return struct.pack(">HHH", identity, flags << 14 | sequence, len(body) - 1) + body
 
 
 def try_packets(aec, script, tally):
@@ -179,12 +179,14 @@ def try_packets(aec, script, tally):
     cut = "packet 6: it is cut, at byte 99 of the file"
     short = "packet 1: it is cut, at byte 19 of the file"
     lost = "packet 1: at byte 15 no space packet begins; the rest of the file isn't read"
+    part = "packet 0 (APID 78, sequence count 1): it is a segment of a longer stream; segments aren't joined"
     for name, data, more, status in (
         ("all", b"".join(listed), [*said, "5 packets decoded, 1 not"], 1),
         ("cut", b"".join(listed)[:-1], [*said, cut, "4 packets decoded, 2 not"], 1),
         ("head", listed[0] + b"\0", [short, "1 packets decoded, 1 not"], 1),
         ("sound", listed[0] + listed[1], ["2 packets decoded, 0 not"], 0),
         ("lost", listed[1] + b"\xff" * 9, [lost, "1 packets decoded, 1 not"], 1),
+        ("parts", packet(78, 1, stream, flags=1) + packet(78, 2, stream), [part, "1 packets decoded, 1 not"], 1),
     ):
         aec.write("p", data)
         answer = script.run(PACKETS, "read", aec.path, "p", name, "4", *words)
