@@ -50,6 +50,7 @@ pub fn write_edited<C: Codec + Drop, W: Sink>(
     requires { limit ≤ 2 ^ 32 }
     ensures answers { IfOk result (λ edited. AnswersAll (C.format codec) limit [] (C.called codec)
         edits.now edited.outcomes.items (C.called edited.codec)) }
+    ensures format { IfOk result (λ edited. C.format edited.codec ≡ C.format codec) }
     ensures stream { IfOk result
         (λ edited. let left = all_left [] edits.now edited.outcomes.items in
         Appends (W.taken sink.old) (W.taken sink.new) (bytes_of (code_of (C.format codec) left))) }

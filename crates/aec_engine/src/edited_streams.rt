@@ -11,7 +11,7 @@ ghost use Rattle.aec_edit.specs.Runs.{AnswersAll, all_left};
 ghost use Rattle.aec_engine.specs.EditedStreams.{IsWritten};
 
 use crate::in_memory::refusal;
-use aec_bits::{BitBuf, WriteSink};
+use aec_bits::{BitBuf, Codec, WriteSink};
 use aec_edit::laws::runs_leave_samples;
 use aec_edit::{Outcome, write_edited};
 use aec_interval::laws::{bits_are_read_in_one_way, streams_are_read_back};
@@ -54,6 +54,8 @@ fn write_stream(
     ensures written { IfOk result
         (λ w. IsWritten params.now limit edits.now w.outcomes.items w.codec.calls w.bits.list
         w.count) }
+    ensures format { IfOk result
+        (λ w. ⟦<AecCodec as Codec>⟧.format w.codec ≡ interval_format params.now) }
     ensures stream { IfOk result
         (λ w. w.stream.items ≡ bytes_of
         (stream_of params.now (all_left [] edits.now w.outcomes.items))) }
@@ -94,6 +96,8 @@ pub fn decode_edited(
     requires { limit ≤ 2 ^ 32 }
     ensures answers { IfOk result (λ decoded. AnswersAll (interval_format params.now) limit [] 0
         edits.now decoded.outcomes.items decoded.codec.calls) }
+    ensures format { IfOk result
+        (λ decoded. ⟦<AecCodec as Codec>⟧.format decoded.codec ≡ interval_format params.now) }
     ensures stream { IfOk result (λ decoded. decoded.stream.items
         ≡ bytes_of (stream_of params.now (all_left [] edits.now decoded.outcomes.items))) }
     ensures samples { IfOk result
