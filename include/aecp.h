@@ -10,8 +10,9 @@
  * allocates before it returns, except what an open handle, coder or reader holds. Several threads may call at once, each with an `out`, a
  * `reply`, and a handle, coder or reader of its own. They may share inputs.
  *
- * The least stack of a thread, as the tests measure it: 32 KiB for aecp_edit; 16 KiB for the others. This includes some 8 KiB that the
- * thread itself takes, and at least 4 KiB to spare.
+ * Whatever samples, streams and scripts contain, each call returns; none prints, waits or ends the process. A thread needs a stack of 32
+ * KiB for aecp_edit, and of 16 KiB for the other calls. The tests use such stacks: the thread itself takes some 8 KiB, and at least 4 KiB
+ * stay unused.
  */
 #ifndef AECP_H
 #define AECP_H
@@ -28,8 +29,8 @@ extern "C" {
 #endif
 
 /* The version of this header, 1.0.0: 10,000 times its first number, plus 100 times its second, plus its third. aecp_version returns that of
- * the library, which may differ; it allocates nothing. The structs below change only with the first number, and then the soname changes
- * too. A greater second number means that calls were added. */
+ * the library, which may differ; it allocates nothing. The structs and calls below change only with the first number, and then the soname
+ * changes too (now libaecp.so.0). A greater second number means that calls were added. */
 #define AECP_VERSION 10000
 uint32_t aecp_version(void);
 
@@ -38,13 +39,13 @@ typedef struct {
     uint32_t bits;       /* bits per sample, 1 to 32 */
     uint32_t block_size; /* samples in a block: 8, 16, 32 or 64, and with even_blocks every even number from 8 to 64 */
     uint32_t interval;   /* blocks in a reference sample interval, 1 to 4096 */
-    bool is_signed;      /* samples are signed */
-    bool msb_first;      /* stored samples are big-endian, not little-endian */
-    bool three_byte;     /* samples of 17 to 24 bits are stored in three bytes */
-    bool preprocess;     /* predict each sample from the one before; usually set it */
+    bool is_signed;      /* samples are signed (libaec: AEC_DATA_SIGNED) */
+    bool msb_first;      /* stored samples are big-endian, not little-endian (AEC_DATA_MSB) */
+    bool three_byte;     /* samples of 17 to 24 bits are stored in three bytes (AEC_DATA_3BYTE); others as without it */
+    bool preprocess;     /* predict each sample from the one before; usually set it (AEC_DATA_PREPROCESS) */
     bool pad;            /* fill each interval up to a byte boundary; violates the standard */
-    bool restricted;     /* the restricted set of code options, for at most 4 bits */
-    bool even_blocks;    /* see block_size; violates the standard */
+    bool restricted;     /* the restricted set of code options, for at most 4 bits (AEC_RESTRICTED) */
+    bool even_blocks;    /* see block_size; violates the standard (AEC_NOT_ENFORCE) */
 } aecp_options;
 
 /* Options to begin with: block_size 16, interval 128. Traps: the program `aec` has 8 and 2 if it isn't told others; `preprocess` is false
@@ -65,8 +66,8 @@ enum {
     AECP_BLOCK_SIZE = 2,       /* `even_blocks` is off, and `block_size` isn't 8, 16, 32 or 64 */
     AECP_INTERVAL = 3,
     AECP_RESTRICTED_WIDTH = 4,
-    AECP_SAMPLE_RANGE = 5,     /* place: index of the first sample that is out of range. Index 0 is the first of all samples in encode and
-                                * feed, the first value of the call in append, overwrite and insert, or the first of the script's line */
+    AECP_SAMPLE_RANGE = 5,     /* place: index of the first sample that is out of range. Index 0 is the first sample of encode or of all
+                                * feeds together, or the first value of append, overwrite, insert or the script's line */
     AECP_TRUNCATED = 6,        /* place: bit where the incomplete or missing coded data set begins */
     AECP_VALUE_TOO_LARGE = 7,  /* place: bit where the coded data set begins */
     AECP_RUN_TOO_LONG = 8,     /* place: bit where the coded data set begins */
@@ -91,18 +92,19 @@ enum {
  * to 4 and 17, which come before all others. */
 
 /* Codes stored samples. Bytes at the end that don't fill a sample are dropped. Faults: options, SAMPLE_RANGE, TOO_MANY_SAMPLES, MEMORY,
- * NO_ROOM. Allocates at most this sum: 72 KiB; twice the code's length; eight bytes for each sample of an interval, at least 32 KiB. Traps:
- * `samples_len` is bytes, but aecp_bound takes samples; keep the sample count, which decoding needs; with `is_signed`, unused bits may be
- * zeros or copies of the sign bit, and only the lowest `bits` bits count: 2048 in 12 bits means -2048. */
+ * NO_ROOM. Allocates at most 72 KiB, twice the code's length, and eight bytes for each sample of an interval (32 KiB for a shorter one).
+ * Traps: `samples_len` is bytes, but aecp_bound takes samples; keep the sample count, which decoding needs; unused bits must be zeros, or
+ * with `is_signed` either zeros or copies of the sign bit: 12 bits with the pattern 2048 are then -2048 in both forms. */
 uint32_t aecp_encode(const aecp_options *options, const void *samples, size_t samples_len, uint8_t *out, size_t out_len,
                      aecp_reply *reply);
 
-/* Decodes the first `count` samples of a stream, or all with AECP_ALL. The result has 1, 2, 3 or 4 bytes for each sample. Ignores bytes of
- * the stream after these samples. Faults: options, TRUNCATED, VALUE_TOO_LARGE, RUN_TOO_LONG, TOO_MANY_SAMPLES, STREAM_TOO_LONG, MEMORY,
- * NO_ROOM. Allocates:
- * - for an interval: eight bytes a sample (up to 32 KiB if it has fewer than 4,096 samples), and its stored bytes;
+/* Decodes the first `count` samples of a stream, or all with AECP_ALL. The result has 1, 2, 3 or 4 bytes for each sample; unused bits are
+ * zeros, or with `is_signed` copies of the sign bit. Ignores bytes of the stream after these samples. Faults: options, TRUNCATED,
+ * VALUE_TOO_LARGE, RUN_TOO_LONG, TOO_MANY_SAMPLES, STREAM_TOO_LONG, MEMORY, NO_ROOM. Allocates:
+ * - for an interval: its stored bytes, and eight bytes for each sample (for a short interval up to 32 KiB);
  * - 64 KiB;
- * - the stream's first aecp_bound(options, count) bytes; the whole stream with AECP_ALL, or if these bytes hold fewer than `count` samples;
+ * - a copy of the stream's first aecp_bound(options, count) bytes; of the whole stream with AECP_ALL, or if reading those bytes
+ *   fails;
  * - up to 16 MiB, if `block_size` times the bytes of a stored sample is at most 32.
  * Trap: AECP_ALL decodes filler too, and accepts many cut streams; 1.5 MB can decode to 2^32 samples. */
 uint32_t aecp_decode(const aecp_options *options, uint64_t count, const uint8_t *coded, size_t coded_len, void *out,
@@ -126,8 +128,9 @@ typedef struct {
 /* Applies a script of edits, as docs/COMMAND.md describes it, to the first `count` samples of a stream, or to all with AECP_ALL, and writes
  * the edited stream to `out`. All lines apply, or none. Returns `reply->reply.fault`. Faults, in this order: options; SCRIPT; those of
  * aecp_decode except NO_ROOM; those of one edit, with its line: OUT_OF_RANGE, TOO_MANY_SAMPLES, SAMPLE_RANGE, SPENT, MEMORY; NO_ROOM.
- * Allocates at most three times the stream, three intervals of samples, twice the script, and 16 bytes for each interval and for each
- * value of the longest line. Trap: keep `samples` with the edited stream. With AECP_ALL the filler of the last block becomes samples. */
+ * Allocates at most three times the longer stream, the samples of three intervals (eight bytes each), twice the script, and 16 bytes for
+ * each interval and for each value of the longest line. Trap: keep `samples` with the edited stream. With AECP_ALL the filler of the last
+ * block becomes samples. */
 uint32_t aecp_edit(const aecp_options *options, uint64_t count, const void *script, size_t script_len, const uint8_t *coded,
                    size_t coded_len, uint8_t *out, size_t out_len, aecp_edit_reply *reply);
 
@@ -142,7 +145,7 @@ size_t aecp_text(const aecp_reply *reply, char *out, size_t out_len);
 /* A handle, whose members only the library uses. Initialize it with AECP_HANDLE or zeros. From aecp_open or aecp_load to aecp_close it
  * holds a workspace: a list of samples in coded form. Don't copy a handle that holds one. One thread at a time may use a handle, even to
  * read: every call takes the workspace out of the handle and puts it back. In calls with a handle samples are numbers, not stored bytes. A
- * refused edit changes no sample; after MEMORY, aecp_calls may be greater. */
+ * refused edit changes no sample. */
 typedef struct {
     void *at;
     bool full;
@@ -216,18 +219,18 @@ typedef struct {
  * MEMORY. Trap: aecp_coder_open frees arbitrary memory if the coder is uninitialized. */
 uint32_t aecp_coder_open(const aecp_options *options, aecp_coder *coder, aecp_reply *reply);
 
-/* Codes more stored samples; a sample may be cut in two. `reply->len` is the number of bytes left to take. Faults: SAMPLE_RANGE,
- * TOO_MANY_SAMPLES, MEMORY, NOT_OPEN. Each later feed returns the first fault again. Keeps the code that isn't taken yet, and less than
- * an interval of samples. Trap: bytes come interval by interval, so a call may yield none. */
+/* Codes more stored samples; a sample may be cut in two. `reply->len` is the number of bytes that aecp_coder_take would now write. Faults:
+ * SAMPLE_RANGE, TOO_MANY_SAMPLES, MEMORY, NOT_OPEN. Each later feed returns the first fault again. Keeps the code that isn't taken yet, and
+ * less than an interval of samples. Trap: bytes come interval by interval, so a call may yield none. */
 uint32_t aecp_coder_feed(aecp_coder *coder, const void *samples, size_t samples_len, aecp_reply *reply);
 
-/* Ends the stream. An incomplete sample is dropped. `reply->len` is the number of bytes left to take, the last of the stream. Faults: that
- * of an earlier feed, MEMORY, NOT_OPEN. Trap: after finish, even a failed one, feed and finish return NOT_OPEN. If finish fails, the
- * samples of the last interval are lost. */
+/* Ends the stream. An incomplete sample is dropped. `reply->len` is the number of bytes that aecp_coder_take would now write, the last of
+ * the stream. Faults: that of an earlier feed, MEMORY, NOT_OPEN. Trap: after finish, even a failed one, feed and finish return NOT_OPEN. If
+ * finish fails, the samples of the last interval are lost. */
 uint32_t aecp_coder_finish(aecp_coder *coder, aecp_reply *reply);
 
-/* Moves all bytes that are left to take to `out`. Faults: MEMORY, NO_ROOM, NOT_OPEN. Allocates as much as it writes. Trap: don't call it
- * after a fault of feed, since the stream is incomplete. */
+/* Writes all coded bytes that weren't taken yet to `out`. Faults: MEMORY, NO_ROOM, NOT_OPEN. Allocates as much as it writes. Trap: don't
+ * call it after a fault of feed, since the stream is incomplete. */
 uint32_t aecp_coder_take(aecp_coder *coder, uint8_t *out, size_t out_len, aecp_reply *reply);
 
 /* Frees the coder. Does nothing if none is open. */

@@ -47,7 +47,7 @@ def stacks_of(header, names):
     """Returns the least stack for each call in KiB, as the header says it."""
     with open(header, encoding="utf-8") as file:
         text = re.sub(r"\s*\n \*\s*", " ", file.read())
-    said = re.search(r"stack of a thread[^:]*: (\d+) KiB for ([^;]*); (\d+) KiB for the others", text)
+    said = re.search(r"a stack of (\d+) KiB for (.*?), and of (\d+) KiB for the other calls", text)
     if not said:
         return {}
     more = set(re.findall(r"aecp_(\w+)", said[2]))
