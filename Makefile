@@ -44,7 +44,7 @@ pages:
 	@python3 tools/definitions.py
 	@python3 tools/modules.py
 
-# Writes man/aec.1 from docs/COMMAND.md.
+# Writes man/aec.1 from docs/COMMAND.md, and man/aecp.1 from docs/ARCHIVE.md.
 man:
 	@python3 tools/man.py
 
@@ -112,7 +112,7 @@ test-library:
 	python3 tests/library_builds.py
 	python3 tests/archive.py bin
 
-# Header, libraries, aecp(3), files for pkg-config and CMake, Python module, command `aecp`. The module goes where `python3` looks for modules, with its own copy of the library.
+# Header, libraries, aecp(3), files for pkg-config and CMake, Python module, command `aecp` with aecp(1). The module goes where `python3` looks for modules, with its own copy of the library.
 PYTHON_DIR ?= $(shell $(PYTHON) -c 'import sysconfig; print(sysconfig.get_path("purelib"))')
 LIBDIR ?= $(PREFIX)/lib
 PC_PREFIX ?= $(PREFIX)
@@ -130,18 +130,19 @@ install-c:
 	ln -sf libaecp.so.0 $(DESTDIR)$(LIBDIR)/libaecp.so
 	sed 's|@PREFIX@|$(PC_PREFIX)|; s|@LIBDIR@|$(patsubst $(PREFIX)/%,$${prefix}/%,$(LIBDIR))|; s|@VERSION@|$(VERSION)|' include/aecp.pc.in \
 	    > $(DESTDIR)$(LIBDIR)/pkgconfig/aecp.pc
-	install -d $(DESTDIR)$(LIBDIR)/cmake/aecp $(DESTDIR)$(PREFIX)/share/man/man3
+	install -d $(DESTDIR)$(LIBDIR)/cmake/aecp $(share)/man/man3
 	for file in aecpConfig aecpConfigVersion; do \
 	    sed 's|@VERSION@|$(VERSION)|' include/$$file.cmake.in > $(DESTDIR)$(LIBDIR)/cmake/aecp/$$file.cmake || exit 1; done
-	install -m 644 man/aecp.3 $(DESTDIR)$(PREFIX)/share/man/man3/aecp.3
+	install -m 644 man/aecp.3 $(share)/man/man3/aecp.3
 
 install-python:
 	@test -e bin/libaecp.so || { echo "there is no bin/libaecp.so: run make library first" >&2; exit 1; }
-	install -d $(DESTDIR)$(PREFIX)/bin $(DESTDIR)$(PYTHON_DIR)/aecp $(info)
+	install -d $(DESTDIR)$(PREFIX)/bin $(share)/man/man1 $(DESTDIR)$(PYTHON_DIR)/aecp $(info)
 	install -m 644 python/aecp/*.py python/aecp/py.typed $(DESTDIR)$(PYTHON_DIR)/aecp
 	install -m 755 bin/libaecp.so $(DESTDIR)$(PYTHON_DIR)/aecp/libaecp.so
 	printf '#!/usr/bin/env python3\nfrom aecp.cli import main\n\nmain()\n' > $(DESTDIR)$(PREFIX)/bin/aecp
 	chmod 755 $(DESTDIR)$(PREFIX)/bin/aecp
+	install -m 644 man/aecp.1 $(share)/man/man1/aecp.1
 	printf 'Metadata-Version: 2.1\nName: aecp\nVersion: $(VERSION)\n' > $(info)/METADATA
 	install -m 644 python/entry_points.txt $(info)/entry_points.txt
 
@@ -149,7 +150,7 @@ install-python:
 uninstall-library:
 	rm -f $(DESTDIR)$(PREFIX)/include/aecp.h $(DESTDIR)$(PREFIX)/bin/aecp $(DESTDIR)$(LIBDIR)/pkgconfig/aecp.pc
 	rm -f $(DESTDIR)$(LIBDIR)/libaecp.a $(DESTDIR)$(LIBDIR)/libaecp.so.0 $(DESTDIR)$(LIBDIR)/libaecp.so
-	rm -f $(DESTDIR)$(PREFIX)/share/man/man3/aecp.3
+	rm -f $(share)/man/man1/aecp.1 $(share)/man/man3/aecp.3
 	rm -rf $(DESTDIR)$(LIBDIR)/cmake/aecp $(DESTDIR)$(PYTHON_DIR)/aecp $(info)
 	-rmdir $(DESTDIR)$(LIBDIR)/cmake 2> /dev/null
 

@@ -101,6 +101,7 @@ def build(top, folder, version, moment, proved):
     info = f"aecp-{version}.dist-info"
     files = {
         **module_files(source, library),
+        f"aecp-{version}.data/data/share/man/man1/aecp.1": data_of(os.path.join(top, "man", "aecp.1")),
         f"{info}/LICENSE": data_of(os.path.join(top, "LICENSE")),
         f"{info}/METADATA": metadata.encode(),
         f"{info}/NOTICES": stage.notices(top),

@@ -172,6 +172,7 @@ def try_make(folder, tally):
     places = [f"DESTDIR={folder}", "PREFIX=/usr", "PYTHON_DIR=/usr/lib/python3/dist-packages"]
     words = ["make", "-s", "-C", TOP, *places, f"PYTHON={sys.executable}"]
     tally.check("make install-library", run([*words, "install-library"]), (0, ""))
+    tally.holds(os.path.exists(os.path.join(folder, "usr/share/man/man1/aecp.1")), "make install-library installs no aecp(1)")
     module = os.path.join(folder, "usr/lib/python3/dist-packages")
     status, said = run([sys.executable, "-c", "import aecp; print(aecp.__version__)"], PYTHONPATH=module)
     tally.check("the installed module", (status, said.strip()), (0, open(os.path.join(TOP, "VERSION")).read().strip()))

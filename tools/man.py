@@ -1,12 +1,12 @@
 #!/usr/bin/env python3
-"""Writes man/aec.1 from docs/COMMAND.md and the file VERSION: man.py [--check]
+"""Writes man/aec.1 and man/aecp.1 from docs/COMMAND.md, docs/ARCHIVE.md and the file VERSION: man.py [--check]
 
-The title of docs/COMMAND.md becomes the section NAME, its first block of code SYNOPSIS, and the text from there to the first
-heading DESCRIPTION. Each other heading begins a section of its own. A row of a table becomes a tagged paragraph: the first cell
+The title of a source becomes the section NAME, its first block of code SYNOPSIS, and the text from there to the first heading
+DESCRIPTION. Each other heading begins a section of its own. A row of a table becomes a tagged paragraph: the first cell
 is the tag, the second the text, and each later cell follows the head of its column. A list item that begins with code and a colon
 becomes a paragraph with that code as its tag.
 
-With --check nothing is written, and the script fails if the page differs from what it would write.
+With --check nothing is written, and the script fails if a page differs from what it would write.
 """
 
 import os
@@ -17,8 +17,8 @@ import textwrap
 from version import version
 
 TOP = os.path.join(os.path.dirname(os.path.abspath(__file__)), "..")
-SOURCE, PAGE = "docs/COMMAND.md", "man/aec.1"
-NOTE = '.\\" Written by `make man` from docs/COMMAND.md.\n'
+SOURCES = {"man/aec.1": "docs/COMMAND.md", "man/aecp.1": "docs/ARCHIVE.md"}
+NOTE = '.\\" Written by `make man` from %s.\n'
 COLUMNS = 100
 ITEM = re.compile(r"(- |\d+\. )(.*)")
 TAGGED = re.compile(r"`([^`]*)`: (.*)", re.S)
@@ -141,30 +141,37 @@ def blocks(text):
         yield part.split("\n")
 
 
-def page(text):
-    """Returns the manual page."""
+def page(source):
+    """Returns the manual page that a source becomes."""
+    with open(os.path.join(TOP, source), encoding="utf-8") as file:
+        text = file.read()
     title, synopsis, *rest = blocks(text)
     name, what = title[0].removeprefix("# ").split(": ", 1)
-    out = [NOTE, f'.TH {name.upper()} 1 "" "{name} {version()}" "User Commands"\n']
+    out = [NOTE % source, f'.TH {name.upper()} 1 "" "{name} {version()}" "User Commands"\n']
     out.append(f".SH NAME\n{name} \\- {escaped(what, CODE_SIGNS)}\n")
     command, words = synopsis[0].split(maxsplit=1)
     out.append(f".SH SYNOPSIS\n.B {command}\n{font('I', words)}\n.SH DESCRIPTION\n")
     return "".join(out + [block(it) for it in rest])
 
 
+def is_current(path, wanted):
+    """Returns whether a file has this text, and prints it."""
+    with open(os.path.join(TOP, path), encoding="utf-8") as file:
+        same = file.read() == wanted
+    print(f"{path} is current" if same else f"{path} isn't what `make man` writes")
+    return same
+
+
 def main():
-    with open(os.path.join(TOP, SOURCE), encoding="utf-8") as file:
-        wanted = page(file.read())
-    path = os.path.join(TOP, PAGE)
+    pages = {path: page(source) for path, source in SOURCES.items()}
     if sys.argv[1:] != ["--check"]:
-        with open(path, "w", encoding="utf-8") as file:
-            file.write(wanted)
+        for path, wanted in pages.items():
+            with open(os.path.join(TOP, path), "w", encoding="utf-8") as file:
+                file.write(wanted)
         return 0
-    with open(path, encoding="utf-8") as file:
-        is_current = file.read() == wanted
-    print(f"{PAGE} is current" if is_current else f"{PAGE} isn't what `make man` writes")
-    print(f"{int(is_current)} passed, {int(not is_current)} failed")
-    return 0 if is_current else 1
+    found = [is_current(path, wanted) for path, wanted in pages.items()]
+    print(f"{found.count(True)} passed, {found.count(False)} failed")
+    return 0 if all(found) else 1
 
 
 if __name__ == "__main__":
