@@ -11,8 +11,8 @@
  * `reply`, and a handle, coder or reader of its own. They may share inputs.
  *
  * Whatever samples, streams and scripts contain, each call returns; none prints, waits or ends the process. A thread needs a stack of 32
- * KiB for aecp_edit, and of 16 KiB for the other calls. The tests use such stacks: the thread itself takes some 8 KiB, and at least 4 KiB
- * stay unused.
+ * KiB for aecp_edit, and of 16 KiB for the other calls. These sizes, which the tests use, include some 8 KiB of the thread's own, and 4 KiB
+ * unused.
  */
 #ifndef AECP_H
 #define AECP_H
@@ -85,26 +85,25 @@ enum {
 /* As a sample count: all samples that the stream decodes to, including the filler at its end. */
 #define AECP_ALL UINT64_MAX
 
-/* The calls that fill `out`, except aecp_text, return the fault of their reply. If it is 0, the result is the first `len` bytes of `out`
- * (in aecp_read: samples), and what follows them is unchanged. Otherwise all of `out` is unchanged, and the call may be repeated. NO_ROOM
- * is returned only if there is no other fault. To learn the length, pass an empty `out`, even NULL: the call still does its whole work. The
- * length of a buffer is its number of bytes, but that of a buffer of int64_t is its number of samples. Below, 'options' means the faults 1
- * to 4 and 17, which come before all others. */
+/* Every call with a `reply`, except aecp_text and aecp_edit, returns `reply->fault`; aecp_edit returns `reply->reply.fault`. If a call that
+ * fills `out` returns 0, its result is the first `len` bytes of `out` (in aecp_read: samples), and what follows them is unchanged.
+ * Otherwise all of `out` is unchanged, and the call may be repeated. NO_ROOM is returned only if there is no other fault. To learn the
+ * length, pass an empty `out`, even NULL: the call still does its whole work. The length of a buffer is its number of bytes, but that of a
+ * buffer of int64_t is its number of samples. Below, 'options' means the faults 1 to 4 and 17, which come before all others. */
 
 /* Codes stored samples. Bytes at the end that don't fill a sample are dropped. Faults: options, SAMPLE_RANGE, TOO_MANY_SAMPLES, MEMORY,
- * NO_ROOM. Allocates at most 72 KiB, twice the code's length, and eight bytes for each sample of an interval (32 KiB for a shorter one).
+ * NO_ROOM. Allocates at most the sum of 72 KiB, twice the code's length, and eight bytes for each sample of an interval (at least 32 KiB).
  * Traps: `samples_len` is bytes, but aecp_bound takes samples; keep the sample count, which decoding needs; unused bits must be zeros, or
- * with `is_signed` either zeros or copies of the sign bit: 12 bits with the pattern 2048 are then -2048 in both forms. */
+ * with `is_signed` either zeros or copies of the sign bit: with 12 bits, 0x0800 and 0xF800 are then both -2048. */
 uint32_t aecp_encode(const aecp_options *options, const void *samples, size_t samples_len, uint8_t *out, size_t out_len,
                      aecp_reply *reply);
 
 /* Decodes the first `count` samples of a stream, or all with AECP_ALL. The result has 1, 2, 3 or 4 bytes for each sample; unused bits are
  * zeros, or with `is_signed` copies of the sign bit. Ignores bytes of the stream after these samples. Faults: options, TRUNCATED,
  * VALUE_TOO_LARGE, RUN_TOO_LONG, TOO_MANY_SAMPLES, STREAM_TOO_LONG, MEMORY, NO_ROOM. Allocates:
- * - for an interval: its stored bytes, and eight bytes for each sample (for a short interval up to 32 KiB);
+ * - for an interval: its stored bytes, and eight bytes for each sample (up to 32 KiB if that is more);
  * - 64 KiB;
- * - a copy of the stream's first aecp_bound(options, count) bytes; of the whole stream with AECP_ALL, or if reading those bytes
- *   fails;
+ * - a copy of the whole stream with AECP_ALL, else of its first aecp_bound(options, count) bytes, or of all if these don't decode;
  * - up to 16 MiB, if `block_size` times the bytes of a stored sample is at most 32.
  * Trap: AECP_ALL decodes filler too, and accepts many cut streams; 1.5 MB can decode to 2^32 samples. */
 uint32_t aecp_decode(const aecp_options *options, uint64_t count, const uint8_t *coded, size_t coded_len, void *out,
@@ -128,9 +127,9 @@ typedef struct {
 /* Applies a script of edits, as docs/COMMAND.md describes it, to the first `count` samples of a stream, or to all with AECP_ALL, and writes
  * the edited stream to `out`. All lines apply, or none. Returns `reply->reply.fault`. Faults, in this order: options; SCRIPT; those of
  * aecp_decode except NO_ROOM; those of one edit, with its line: OUT_OF_RANGE, TOO_MANY_SAMPLES, SAMPLE_RANGE, SPENT, MEMORY; NO_ROOM.
- * Allocates at most three times the longer stream, the samples of three intervals (eight bytes each), twice the script, and 16 bytes for
- * each interval and for each value of the longest line. Trap: keep `samples` with the edited stream. With AECP_ALL the filler of the last
- * block becomes samples. */
+ * Allocates at most the sum of: three times the longer of both streams; twice the script; eight bytes for each sample of three intervals;
+ * 16 bytes for each interval; 16 for each value of the longest line. Trap: keep `samples` with the edited stream. With AECP_ALL the filler
+ * of the last block becomes samples. */
 uint32_t aecp_edit(const aecp_options *options, uint64_t count, const void *script, size_t script_len, const uint8_t *coded,
                    size_t coded_len, uint8_t *out, size_t out_len, aecp_edit_reply *reply);
 
