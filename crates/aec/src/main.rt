@@ -4,7 +4,7 @@
 use aec_cli::{StartFault, fill_if_closed, perform, process_words};
 use std::process::ExitCode;
 
-// Runs the program on the words of its process, or prints why it can't.
+/// Runs the program on the words of its process, or prints why it can't.
 fn main(rt: HostRuntime) -> ExitCode {
     ExitCode::from(match start(&rt) {
         Ok(words) => {
@@ -17,7 +17,7 @@ fn main(rt: HostRuntime) -> ExitCode {
     })
 }
 
-// The words, once no standard stream is closed.
+/// Returns the words of the command, once no standard stream is closed.
 fn start(rt: &HostRuntime) -> Result<Vec<String>, StartFault> {
     fill_if_closed(rt, &rt.stdin())?;
     fill_if_closed(rt, &rt.stdout())?;

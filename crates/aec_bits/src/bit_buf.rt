@@ -78,7 +78,7 @@ impl BitBuf {
     }
 
     /// Returns the bit at place `i`.
-    pub fn get(&self, i: u64) -> bool
+    pub fn bit(&self, i: u64) -> bool
         requires { i < length self.now.list }
         ensures { result ≡ slice_index_or self.now.list i false }
     {
@@ -103,8 +103,8 @@ impl BitBuf {
         number_at(&self.words, 8 * i, 8) as u8
     }
 
-    /// Fills `piece` with the bytes of words, of those that the bits fill: from word `first` on,
-    /// eight bytes of each.
+    /// Fills `piece`, whose length is a multiple of 8, with the bytes that the bits fill, from byte
+    /// `8 * first` on.
     #[tactic(auto, using(crate::proofs::CodewordLemmas::byte_counts, crate::proofs::PackedLemmas::packed_lengths))]
     pub(crate) fn put_words(&self, first: u64, piece: &mut [u8])
         requires eights { length piece.old % 8 ≡ 0 }

@@ -50,6 +50,7 @@ impl<'a> BitReader<'a> {
         ensures within { self.now.pos ≤ length self.now.list }
         ensures bound { length self.now.list ≤ 2 ^ 62 }
     {
+        // For the clauses alone: the list is within its bound.
         let _len = self.buf.len();
         self.pos
     }

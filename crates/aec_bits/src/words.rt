@@ -72,10 +72,7 @@ pub(crate) fn word_at(words: &[u64], start: u64) -> u64
 fn word_or_zero(words: &[u64], place: usize) -> u64
     ensures { result ≡ slice_index_or words.now place 0 }
 {
-    match words.get(place) {
-        Some(word) => *word,
-        None => 0,
-    }
+    words.get(place).copied().unwrap_or(0)
 }
 
 /// Returns the word whose bits begin at place `start`; bits past the end are zeros.
@@ -87,6 +84,7 @@ pub(crate) fn padded_word_at(words: &[u64], start: u64) -> u64
     let place = (start / 64) as usize;
     let at = (start % 64) as u32;
     if place + 1 < words.len() {
+        // Two shifts: at place 0 a single one would be by 64.
         return (words[place] << at) | (words[place + 1] >> 1 >> (63 - at));
     }
     word_or_zero(words, place) << at

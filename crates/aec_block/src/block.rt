@@ -126,7 +126,7 @@ impl Block {
 
     /// Borrows the block.
     #[inline(always)]
-    pub(crate) fn as_ref(&self) -> BlockRef<'_>
+    pub(crate) fn view(&self) -> BlockRef<'_>
         ensures { result ≡ self.now }
     {
         BlockRef::new(self.reference(), self.values())

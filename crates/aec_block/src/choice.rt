@@ -1,7 +1,7 @@
 //! The choice of the shortest option for a block.
 
+pub(crate) mod any_block;
 pub(crate) mod lengths;
-pub(crate) mod plain_choice;
 mod splitting;
 mod sums;
 pub(crate) mod sums_of_three;
@@ -119,6 +119,7 @@ pub(crate) fn choose_among(params: &Params, id_len: u32, block: &BlockRef, value
     if pairs_are_longer(options, split, values.len() as u64) {
         return shorter_of_split(params, id_len, block, uncompressed, split);
     }
+    // Stays out of line. It is lent a copy, so that the original can stay in registers.
     let own = *params;
     let best = shorter_of_pairs(&own, id_len, block, uncompressed);
     if options == 0 {

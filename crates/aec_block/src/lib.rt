@@ -14,7 +14,7 @@ mod writing;
 
 pub use block::{Block, MOST_VALUES};
 pub use cds::{Cds, Found, RunLen};
-pub use choice::plain_choice::choose;
+pub use choice::any_block::choose;
 pub use choice::{Choice, Coding};
 pub use mapping::mapped_blocks::{map_first, map_list};
 pub use mapping::unmapping::unmap_into;

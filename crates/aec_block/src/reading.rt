@@ -28,9 +28,13 @@ use std::alloc::Global;
 /// What an identifier announces.
 #[derive(Clone, Copy, Debug, PartialEq, Eq)]
 pub(crate) enum Kind {
+    /// A run of zero blocks.
     ZeroBlocks,
+    /// One codeword for each pair of values.
     SecondExtension,
+    /// The values without their k low bits, then those bits.
     Split(u32),
+    /// The values as they are.
     NoCompression,
 }
 

@@ -15,7 +15,7 @@ use aec_params::{Fault, Params};
 /// reference have a function of their own: in a single function the compiler joins code of both
 /// kinds, and blocks of 8 values take up to 5 % more instructions.
 #[inline(always)]
-fn write_others<const N: usize>(
+fn write_without_reference<const N: usize>(
     params: &Params,
     values: &[u32],
     out: &mut BitBuf,
@@ -31,9 +31,9 @@ fn write_others<const N: usize>(
     write_values::<N, WITHOUT_REFERENCE>(params, id_len, &block, values, choice, out)
 }
 
-/// `write_others` for a block of `N` values with a reference.
+/// `write_without_reference` for a block of `N` values with a reference.
 #[inline(always)]
-fn write_first<const N: usize>(
+fn write_with_reference<const N: usize>(
     params: &Params,
     pattern: u32,
     values: &[u32],
@@ -67,7 +67,7 @@ pub fn write_shortest_of<const N: usize>(
         out.old result out.new }
 {
     match reference {
-        None => write_others::<N>(params, values, out),
-        Some(r) => write_first::<N>(params, r, values, out),
+        None => write_without_reference::<N>(params, values, out),
+        Some(r) => write_with_reference::<N>(params, r, values, out),
     }
 }

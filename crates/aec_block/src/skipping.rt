@@ -25,10 +25,7 @@ use aec_params::{Fault, Params};
 fn len_read(found: Option<Found>) -> Option<RunLen>
     ensures { (values : Values) → result ≡ option_map read_len (as_read found values) }
 {
-    match found {
-        None => None,
-        Some(found) => Some(found.stands_for()),
-    }
+    found.map(|found| found.stands_for())
 }
 
 /// Returns one block, if its values fit.

@@ -269,6 +269,8 @@ pub(crate) fn write_values<const N: usize, const COPY: usize>(
     match choice.coding {
         Coding::NoCompression => put_uncompressed(params, id_len, block, values, out),
         Coding::SecondExtension => {
+            // Stays out of line. It is lent copies, so that the compiler can keep the originals in
+            // registers.
             let own = *params;
             let own_block = BlockRef::new(block.reference(), block.values());
             put_paired(&own, id_len, &own_block, out);
@@ -291,7 +293,7 @@ pub fn write_block(
     requires choice { IsChoice params.now block.now choice }
     ensures { Appends (shortest_bits params.now block.now) out.old result out.new }
 {
-    let view = block.as_ref();
+    let view = block.view();
     write_values::<0, OF_ANY_BLOCK>(params, params.id_len(), &view, view.written(), choice, out)
 }
 

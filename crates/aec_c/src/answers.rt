@@ -9,7 +9,7 @@ ghost use Rattle.aec_engine.specs.Buffers.{FillsOne, OrMemory};
 ghost use Rattle.aec_c.specs.Calls.{settings_of, count_of, most, IsCoding, IsDecoding, IsRanging};
 
 use crate::bound::bound_of;
-use crate::options::{MOST_CODED_BYTES, MOST_SAMPLES, Options, count_of, settings_of};
+use crate::options::{MAX_CODED_BYTES, MAX_SAMPLES, Options, count_of, settings_of};
 use aec_engine::{decode_into, encode_into, range_into};
 use aec_params::{Fault, Limits, Params};
 use std::alloc::Global;
@@ -18,7 +18,7 @@ use std::alloc::Global;
 pub(crate) fn limits() -> Limits
     ensures { result ≡ most }
 {
-    Limits::new(MOST_SAMPLES, MOST_CODED_BYTES).unwrap()
+    Limits::new(MAX_SAMPLES, MAX_CODED_BYTES).unwrap()
 }
 
 /// Returns the options as parameters.
@@ -81,7 +81,7 @@ fn decode_within_bound(
 {
     let whole = bytes.len() as u64;
     if bound < whole
-        && whole <= MOST_CODED_BYTES
+        && whole <= MAX_CODED_BYTES
         && let Some(count) = count
     {
         if let Some(len) = decode_front(alloc, params, count, bound as usize, bytes, out) {
@@ -150,7 +150,7 @@ fn range_within_bound(
 {
     let whole = bytes.len() as u64;
     if bound < whole
-        && whole <= MOST_CODED_BYTES
+        && whole <= MAX_CODED_BYTES
         && let Some(count) = count
     {
         let front = bound as usize;

@@ -4,7 +4,7 @@ ghost use Rattle.std.specs.Prelude.{◌≡◌, ◌≤◌, ◌^◌};
 ghost use Rattle.aec_c.specs.Calls.{settings_of};
 ghost use Rattle.aec_c.specs.Bounds.{bound_of, most_bytes};
 
-use crate::options::{MOST_SAMPLES, Options, settings_of};
+use crate::options::{MAX_SAMPLES, Options, settings_of};
 use aec_params::Params;
 
 /// Returns the bound for allowed settings: five bits and the plain samples for each block, and a
@@ -25,7 +25,7 @@ pub(crate) fn bound_of(options: &Options, samples: u64) -> u64
     ensures { result ≡ bound_of (settings_of options.now) samples }
 {
     match Params::new(settings_of(options)) {
-        Ok(params) if samples <= MOST_SAMPLES => bound_within(&params, samples),
+        Ok(params) if samples <= MAX_SAMPLES => bound_within(&params, samples),
         _ => 0,
     }
 }

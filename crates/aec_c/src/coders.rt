@@ -11,7 +11,7 @@ ghost use Rattle.aec_c.specs.Coders.{OpensCoder, FeedsPiece, FinishesStream, Tak
 
 use crate::answers::params_of;
 use crate::coder_handle::{CoderHandle, OpenCoder};
-use crate::options::{MOST_SAMPLES, Options};
+use crate::options::{MAX_SAMPLES, Options};
 use crate::reply::{Reply, answered, not_open, refused};
 use crate::settling::settle_slice;
 use aec_bits::{BitBuf, WriteSink};
@@ -29,7 +29,7 @@ fn fresh_coder(alloc: Global, options: &Options) -> Result<Box<OpenCoder>, Fault
         (λ fault. CannotBegin (settings_of options.now) fault) }
 {
     let params = params_of(options)?;
-    let coder = Some(StreamCoder::new(alloc, params, MOST_SAMPLES));
+    let coder = Some(StreamCoder::new(alloc, params, MAX_SAMPLES));
     let bits = BitBuf::new(alloc);
     Ok(Box::new(alloc, OpenCoder { coder, bits })?)
 }

@@ -6,7 +6,7 @@ ghost use Rattle.aec_c.specs.HandleLoads.{AreRead, CannotRead, Holds, CannotHold
 
 use crate::handle::{Handle, OpenWorkspace};
 use crate::handle_reads::{close_workspace, fresh_workspace};
-use crate::options::{MOST_SAMPLES, Options, count_of, settings_of};
+use crate::options::{MAX_SAMPLES, Options, count_of, settings_of};
 use crate::reply::{Reply, answered, refused};
 use aec_bits::BitBuf;
 use aec_interval::decode_all;
@@ -22,7 +22,7 @@ fn reading(alloc: Global, options: &Options, count: u64, bytes: &[u8]) -> Result
 {
     let params = Params::new(settings_of(options))?;
     let bits = BitBuf::from_bytes(alloc, bytes)?;
-    decode_all(alloc, &params, &bits, count_of(count), MOST_SAMPLES)
+    decode_all(alloc, &params, &bits, count_of(count), MAX_SAMPLES)
 }
 
 /// Returns a workspace with these samples.

@@ -9,7 +9,7 @@ ghost use Rattle.aec_c.specs.HandleCalls.{format_of};
 ghost use Rattle.aec_c.specs.HandleReads.{IsFresh, Opens, size_in, calls_in, WritesOut, ReadsOut};
 
 use crate::handle::{Handle, OpenWorkspace};
-use crate::options::{MOST_SAMPLES, Options, settings_of};
+use crate::options::{MAX_SAMPLES, Options, settings_of};
 use crate::reply::{Reply, answered, not_open, refused};
 use crate::settling::settle;
 use aec_bits::WriteSink;
@@ -26,7 +26,7 @@ pub(crate) fn fresh_workspace(alloc: Global, options: &Options) -> Result<Box<Op
         (λ fault. CannotBegin (settings_of options.now) fault) }
 {
     let params = Params::new(settings_of(options))?;
-    let workspace = Workspace::new(alloc, AecCodec::new(alloc, params), MOST_SAMPLES);
+    let workspace = Workspace::new(alloc, AecCodec::new(alloc, params), MAX_SAMPLES);
     Ok(Box::new(alloc, OpenWorkspace { workspace })?)
 }
 

@@ -3,7 +3,7 @@
 ghost use Rattle.std.specs.Prelude.{◌≡◌, ◌<◌, ◌^◌, ℕ, IfOk, IfErr, OnOk};
 ghost use Rattle.aec_c.specs.Standing.{place_in, HasCounted, IsOnWay, BeginsInterval, IsFaultOnWay};
 
-use crate::options::MOST_SAMPLES;
+use crate::options::MAX_SAMPLES;
 use aec_bits::BitBuf;
 use aec_interval::{ReachedPlace, StreamReader};
 use aec_params::{Fault, Params};
@@ -96,7 +96,7 @@ impl HeldReader {
             (λ fault. (fault ≡ Memory) ⊎ (count_refusal (2 ^ 32) count ≡ Some fault)) }
     {
         let bits = BitBuf::from_bytes(alloc, coded)?;
-        let place = StreamReader::new(alloc, params, &bits, count, MOST_SAMPLES)?.place();
+        let place = StreamReader::new(alloc, params, &bits, count, MAX_SAMPLES)?.place();
         Ok(HeldReader {
             params,
             count,
@@ -126,7 +126,7 @@ impl HeldReader {
             self.params,
             &self.bits,
             self.count,
-            MOST_SAMPLES,
+            MAX_SAMPLES,
         )?;
         reader.seek(place);
         Ok(reader)

@@ -1,5 +1,5 @@
-//! The library for C: coding, decoding and ranges from buffer to buffer, with a number for each
-//! refusal.
+//! The library for C: coding, decoding, ranges and edits from buffer to buffer; and, with handles,
+//! workspaces, coders of samples in pieces, and readers. Each refusal has a number.
 #![tactic(auto)]
 
 mod answers;

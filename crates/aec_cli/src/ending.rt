@@ -25,7 +25,7 @@ impl End {
     {
         match self {
             End::Unstarted { status } => *status,
-            End::Done(_done) => 0,
+            End::Done(_) => 0,
             End::Failed(failure) => failure.status(),
         }
     }

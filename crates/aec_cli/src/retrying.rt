@@ -127,12 +127,8 @@ fn read_again<R: Read>(reader: &mut R, buf: &mut [u8]) -> io::Result<usize>
 {
     for _ in 0..u64::MAX {
         match reader.read(buf) {
-            Ok(count) => return Ok(count),
-            Err(error) => {
-                if !is_interrupted(&error) {
-                    return Err(error);
-                }
-            }
+            Err(error) if is_interrupted(&error) => {}
+            answer => return answer,
         }
     }
     Err(too_many_tries())
@@ -146,12 +142,8 @@ fn write_again<W: Write>(writer: &mut W, buf: &[u8]) -> io::Result<usize>
 {
     for _ in 0..u64::MAX {
         match writer.write(buf) {
-            Ok(count) => return Ok(count),
-            Err(error) => {
-                if !is_interrupted(&error) {
-                    return Err(error);
-                }
-            }
+            Err(error) if is_interrupted(&error) => {}
+            answer => return answer,
         }
     }
     Err(too_many_tries())
@@ -164,12 +156,8 @@ fn flush_again<W: Write>(writer: &mut W) -> io::Result<()>
 {
     for _ in 0..u64::MAX {
         match writer.flush() {
-            Ok(()) => return Ok(()),
-            Err(error) => {
-                if !is_interrupted(&error) {
-                    return Err(error);
-                }
-            }
+            Err(error) if is_interrupted(&error) => {}
+            answer => return answer,
         }
     }
     Err(too_many_tries())

@@ -7,17 +7,17 @@ use std::alloc::Global;
 
 /// The code of samples: its bits, where its intervals begin in them, and the number of samples.
 #[derive(Debug, Drop)]
-pub struct Coded {
-    pub bits: BitBuf,
-    pub starts: Vec<u64>,
-    pub count: u64,
+pub(crate) struct Coded {
+    pub(crate) bits: BitBuf,
+    pub(crate) starts: Vec<u64>,
+    pub(crate) count: u64,
 }
 
 /// Where an interval begins, or where the code ends: the interval's number and the bit.
 #[derive(Clone, Copy, Debug, Drop)]
-pub struct Cut {
-    pub interval: u64,
-    pub bit: u64,
+pub(crate) struct Cut {
+    pub(crate) interval: u64,
+    pub(crate) bit: u64,
 }
 
 impl Coded {
@@ -26,7 +26,7 @@ impl Coded {
     ghost use Rattle.aec_edit.specs.CodedLists.{IsNoCode, IsSameCode, HasRoomOf, HasRoomAtMost, KeepsRoom, CanBeReplaced, IsReplaced};
 
     /// Returns the code of no samples. Allocates nothing.
-    pub fn new(alloc: Global) -> Coded
+    pub(crate) fn new(alloc: Global) -> Coded
         ensures none { IsNoCode result }
         ensures room { HasRoomAtMost 0 0 result }
     {
@@ -40,7 +40,7 @@ impl Coded {
     /// Reserves room for `bits` more bits and for the starts of `intervals` more intervals. Room
     /// that was there is kept. Fails with `Memory` only if there is less room than asked for, and
     /// an allocation fails or there would be more than 2^62 bits.
-    pub fn reserve(&mut self, bits: u64, intervals: u64) -> Result<(), Fault>
+    pub(crate) fn reserve(&mut self, bits: u64, intervals: u64) -> Result<(), Fault>
         ensures same { IsSameCode self.old self.new }
         ensures room { OnOk result (HasRoomOf bits intervals self.new) }
         ensures kept { KeepsRoom self.old self.new }
@@ -56,7 +56,7 @@ impl Coded {
 
     /// Empties the lists, and keeps their allocations. If they have room for more than `128 * most`
     /// bits or for more than `most` starts, frees both.
-    pub fn emptied(mut self, alloc: Global, most: u64) -> Coded
+    pub(crate) fn emptied(mut self, alloc: Global, most: u64) -> Coded
         requires { most ≤ 524288 }
         ensures none { IsNoCode result }
         ensures room { HasRoomAtMost (128 * most) most result }
@@ -73,7 +73,13 @@ impl Coded {
     /// Replaces the intervals between two cuts by those of other code, moves the starts after them,
     /// and sets the number of samples to `count`. Reserves all room before it changes the lists: if
     /// it fails with `Memory`, the code is the same, but its room may have changed.
-    pub fn replace(&mut self, from: Cut, to: Cut, with: &Coded, count: u64) -> Result<(), Fault>
+    pub(crate) fn replace(
+        &mut self,
+        from: Cut,
+        to: Cut,
+        with: &Coded,
+        count: u64,
+    ) -> Result<(), Fault>
         requires { CanBeReplaced self.old with.now from to }
         ensures ok { OnOk result (IsReplaced self.old self.new with.now from to count) }
         ensures err { OnErr result (IsSameCode self.old self.new) }

@@ -165,7 +165,7 @@ impl<C: Codec> Workspace<C> {
     }
 
     /// Checks that values can be added: the limit has room for them, and they are samples.
-    pub(crate) fn check_growth(&self, values: &[i64]) -> Result<(), Fault>
+    fn check_growth(&self, values: &[i64]) -> Result<(), Fault>
         ensures ok { OnOk result (CanCome (C.format self.now.codec) self.now.limit
             self.now.samples values.now) }
         ensures refuses { IfErr result (λ e.
@@ -180,7 +180,7 @@ impl<C: Codec> Workspace<C> {
     }
 
     /// Checks that all values are samples. The fault names the place of the first one that isn't.
-    pub(crate) fn check_values(&self, values: &[i64]) -> Result<(), Fault>
+    fn check_values(&self, values: &[i64]) -> Result<(), Fault>
         ensures ok { OnOk result (AreValues (C.format self.now.codec) values.now) }
         ensures refuses { IfErr result
             (λ e. values_refusal (C.format self.now.codec) values.now ≡ Some e) }

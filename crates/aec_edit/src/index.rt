@@ -5,7 +5,7 @@ ghost use Rattle.aec_edit.specs.CodedLists.{CanMoveOn, CanShift, with_starts, Ca
 
 /// Replaces the starts from number `from` up to number `to` by those in `with`, each plus `base`,
 /// and adds `new_end - old_end` to each start after them. There must be room for the new starts.
-pub fn replace_starts(
+pub(crate) fn replace_starts(
     starts: &mut Vec<u64>,
     from: usize,
     to: usize,

@@ -1,4 +1,6 @@
 //! A coded list of samples that is edited in place, over any lawful codec of intervals.
+//!
+//! A `Workspace` makes edits (`apply`, `run`) and reads samples back (`range`).
 #![tactic(auto)]
 
 mod coded;

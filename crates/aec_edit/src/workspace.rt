@@ -124,7 +124,7 @@ impl<C: Codec> Workspace<C> {
 
     /// Returns the bit where interval `i` begins in the code: the number of bits in the code of the
     /// samples before it. Returns `None` if there is no such interval.
-    pub fn offset(&self, i: u64) -> Option<u64>
+    pub fn interval_start(&self, i: u64) -> Option<u64>
         ensures { MatchOption result
             (interval_count (C.format self.now.codec) self.now.samples ≤ i)
             (λ start. (i < interval_count (C.format self.now.codec) self.now.samples)
@@ -208,7 +208,7 @@ impl<C: Codec> Workspace<C> {
     }
 
     /// Returns the bit where interval `i` begins in the code, or where the code ends.
-    pub(crate) fn start_at(&self, i: u64) -> u64
+    fn start_at(&self, i: u64) -> u64
         requires { i ≤ interval_count (C.format self.now.codec) self.now.samples }
         ensures { result ≡ start_of (C.format self.now.codec) self.now.samples i }
     {
@@ -220,7 +220,7 @@ impl<C: Codec> Workspace<C> {
     }
 
     /// Returns the cut where interval `i` begins, or where the code ends.
-    pub(crate) fn cut_at(&self, i: u64) -> Cut
+    fn cut_at(&self, i: u64) -> Cut
         requires { i ≤ interval_count (C.format self.now.codec) self.now.samples }
         ensures { IsCutAt (C.format self.now.codec) self.now.samples i result }
     {

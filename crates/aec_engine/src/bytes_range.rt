@@ -6,7 +6,7 @@ ghost use Rattle.aec_engine.specs.Transfers.{input_of};
 ghost use Rattle.aec_engine.specs.Output.{IsRanged};
 
 use crate::engine::range;
-use crate::in_memory::{SliceSource, refusal};
+use crate::in_memory::{SliceSource, memory_for_write};
 use aec_bits::WriteSink;
 use aec_params::{Fault, Limits, Params};
 use std::alloc::Global;
@@ -40,6 +40,6 @@ pub fn range_bytes(
         &mut sink,
     ) {
         Ok(()) => Ok(sink.into_inner()),
-        Err(fault) => Err(refusal(fault)),
+        Err(fault) => Err(memory_for_write(fault)),
     }
 }

@@ -10,7 +10,7 @@ ghost use Rattle.aec_interval.specs.IntervalFormat.{interval_format};
 ghost use Rattle.aec_edit.specs.Runs.{AnswersAll, all_left};
 ghost use Rattle.aec_engine.specs.EditedStreams.{IsWritten};
 
-use crate::in_memory::refusal;
+use crate::in_memory::memory_for_write;
 use aec_bits::{BitBuf, Codec, WriteSink};
 use aec_edit::laws::runs_leave_samples;
 use aec_edit::{Outcome, write_edited};
@@ -66,7 +66,7 @@ fn write_stream(
     let mut sink = WriteSink::new(Vec::new(alloc));
     let edited = match write_edited(alloc, codec, limit, edits, &mut sink) {
         Ok(edited) => edited,
-        Err(fault) => return Err(refusal(fault)),
+        Err(fault) => return Err(memory_for_write(fault)),
     };
     let stream = sink.into_inner();
     let bits = BitBuf::from_bytes(alloc, &stream)?;
@@ -107,6 +107,7 @@ pub fn decode_edited(
         (bits_of_bytes decoded.stream.items) decoded.samples.items) }
     ensures fault { IfErr result (λ fault. fault ≡ Memory) }
 {
+    // Laws from which clauses follow. These calls do nothing.
     streams_are_read_back();
     bits_are_read_in_one_way();
     runs_leave_samples();

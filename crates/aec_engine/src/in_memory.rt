@@ -40,7 +40,7 @@ impl<'a> Source for SliceSource<'a> {
 }
 
 /// Returns `Memory` for `Write`: a write to a vector fails only for lack of memory.
-pub(crate) fn refusal(fault: Fault) -> Fault
+pub(crate) fn memory_for_write(fault: Fault) -> Fault
     ensures memory { fault ≡ WriteFault → result ≡ Memory }
     ensures other { (result ≡ fault) ⊎ (fault ≡ WriteFault) }
 {
@@ -68,6 +68,6 @@ pub fn decode_bytes(
     let mut sink = WriteSink::new(Vec::new(alloc));
     match decode(alloc, params, limits, count, &mut source, &mut sink) {
         Ok(()) => Ok(sink.into_inner()),
-        Err(fault) => Err(refusal(fault)),
+        Err(fault) => Err(memory_for_write(fault)),
     }
 }

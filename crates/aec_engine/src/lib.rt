@@ -1,6 +1,9 @@
 //! What the program does with bytes, without its command line and its files: the engines over any
 //! source and sink, coding and decoding in memory, edits that begin with no samples, and scripts of
 //! edits.
+//!
+//! From source to sink: `encode`, `decode`, `range`, `edit`. From slice to vector: `encode_bytes`,
+//! `decode_bytes`, `range_bytes`. Into a buffer: `encode_into`, `decode_into`, `range_into`.
 #![tactic(auto)]
 
 mod bytes_range;

@@ -89,9 +89,9 @@ pub fn parse_script(alloc: Global, bytes: &[u8]) -> Result<Script, Fault>
     let mut rest = Some(bytes);
     let mut number: u64 = 0;
     while let Some(text) = rest {
-        let (text, after) = cut_line(text);
+        let (line, after) = cut_line(text);
         number += 1;
-        take_line(alloc, number, text, &mut read)?;
+        take_line(alloc, number, line, &mut read)?;
         rest = after;
     }
     Ok(read)

@@ -3,10 +3,12 @@
 use aec_params::{Edit, Fault};
 use thiserror::Error;
 
-/// The edits of a script in order, and for each the number of its line, counted from 1.
+/// The edits of a script, and their lines.
 #[derive(Debug, Drop)]
 pub struct Script {
+    /// The edits, in order.
     pub edits: Vec<Edit>,
+    /// For each edit, the number of its line, counted from 1.
     pub lines: Vec<u64>,
 }
 

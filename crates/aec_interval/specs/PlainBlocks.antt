@@ -38,6 +38,6 @@ pub record FillsBlocks (s : Settings) (most from : ℕ) (old : Cursor) (before :
   pub len : length after ≡ length before
 
 -- the greatest number of blocks for which room is made at once: `BLOCKS_AT_FIRST`, and those of
--- `SAMPLES_AT_ONCE` samples
+-- `MORE_SAMPLES` samples
 abbrev pub most_at_once : Settings → ℕ
 most_at_once s = 2 + 120 / s.block_size

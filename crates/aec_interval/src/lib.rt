@@ -1,5 +1,8 @@
 //! The coder of reference sample intervals, the reading of whole streams, and the laws that connect
 //! them.
+//!
+//! `encode_all` and `decode_all` take whole lists; `StreamCoder` takes samples in pieces;
+//! `StreamReader` returns them by intervals; `AecCodec` codes single intervals, for workspaces.
 #![tactic(auto)]
 
 mod block_sizes;

@@ -321,7 +321,7 @@ pub(crate) fn cut_to_count(params: &Params, wanted: Wanted, samples: &mut Vec<i6
 
 /// Puts the samples that the bits from `wanted.start` on stand for into an empty list: with a
 /// count, the first `count`; without one, all samples of all blocks.
-pub(crate) fn decode_list(
+fn decode_list(
     alloc: Global,
     params: &Params,
     bits: &BitBuf,

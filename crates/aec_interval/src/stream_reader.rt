@@ -1,7 +1,7 @@
 //! A reader of samples, interval by interval.
 
 use crate::reached_place::ReachedPlace;
-use crate::reading::short::{comes_zero_interval, read_short};
+use crate::reading::short::{is_zero_interval_next, read_short};
 use crate::reading::skipping::{count_asked, skip_interval};
 use crate::reading::whole::judge_count;
 use crate::reading::{Wanted, cut_to_count, read_interval, wants_more};
@@ -154,11 +154,11 @@ impl<'a> StreamReader<'a> {
 
     /// Returns whether several intervals may be read at once, judged by the next coded data set
     /// alone; no clause says so. The reader doesn't move.
-    fn comes_short(&mut self) -> bool
+    fn is_short_next(&mut self) -> bool
         ensures { self.new ≡ self.old }
     {
         is_plain_next(&self.params, &mut self.reader)
-            || comes_zero_interval(&self.params, &mut self.reader)
+            || is_zero_interval_next(&self.params, &mut self.reader)
     }
 
     /// Reads the next intervals into the vector, if they are short and the vector has room for
@@ -211,7 +211,7 @@ impl<'a> StreamReader<'a> {
         ensures ends { is_wanted_at self.new ≡ true
             → self.new.block % self.new.settings.interval ≡ 0 }
     {
-        if self.comes_short() && self.next_short(most, samples) {
+        if self.is_short_next() && self.next_short(most, samples) {
             return Ok(true);
         }
         self.next(samples)

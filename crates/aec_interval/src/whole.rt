@@ -16,7 +16,7 @@ use aec_params::{Fault, Params};
 use std::alloc::Global;
 
 /// Returns the index of the first number that is no sample of the parameters.
-pub(crate) fn unheld_index(params: &Params, samples: &[i64]) -> Option<u64>
+fn unheld_index(params: &Params, samples: &[i64]) -> Option<u64>
     ensures { result ≡ first_unheld (is_held params.now) 0 samples.now }
 {
     for (index, x) in samples.iter().enumerate() {

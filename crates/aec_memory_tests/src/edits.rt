@@ -19,7 +19,7 @@ fn print_work<R: Print>(rt: &R, alloc: Global, work: &Workspace<AecCodec>) {
         work.count()
     );
     for i in 0..work.intervals() {
-        if let Some(start) = work.offset(i) {
+        if let Some(start) = work.interval_start(i) {
             let _ = print!(rt; " {start}");
         }
     }

@@ -92,6 +92,7 @@ fn is_each_outside<T: ByteOrder>(bytes: &[u8], width: usize, low: u64, high: u64
     let mut outside = true;
     for i in 0..bytes.len() / width {
         let number = first_number::<T>(&bytes[width * i..], width);
+        // Without a branch.
         outside &= (number < low) | (high <= number);
     }
     outside

@@ -33,7 +33,7 @@ fn has_block_size(settings: Settings) -> bool
 {
     let size = settings.block_size;
     if settings.even_blocks {
-        size >= 8 && size <= 64 && size % 2 == 0
+        (8..=64).contains(&size) && size % 2 == 0
     } else {
         matches!(size, 8 | 16 | 32 | 64)
     }
@@ -64,13 +64,13 @@ impl Params {
         ensures allowed { IfOk result (λ p. IsAllowed p) }
         ensures refuses { result_err result ≡ settings_fault settings }
     {
-        if settings.bits < 1 || settings.bits > 32 {
+        if !(1..=32).contains(&settings.bits) {
             return Err(Fault::BitsPerSample);
         }
         if !has_block_size(settings) {
             return Err(block_size_fault(settings.even_blocks));
         }
-        if settings.interval < 1 || settings.interval > 4096 {
+        if !(1..=4096).contains(&settings.interval) {
             return Err(Fault::Interval);
         }
         if settings.restricted && settings.bits > 4 {
@@ -116,6 +116,7 @@ impl Params {
     pub fn known_allowed(&self)
         ensures { IsAllowed self.now }
     {
+        // For the clause alone: the type's invariant is known of what is read.
         let _settings = &self.settings;
     }
 

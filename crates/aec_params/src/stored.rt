@@ -56,7 +56,7 @@ pub(crate) fn low_sample(params: &Params, number: u64) -> i64
 }
 
 /// Returns the number that all bits of a sample's bytes spell.
-fn full_width(params: &Params, x: i64) -> u64
+fn number_of_sample(params: &Params, x: i64) -> u64
     requires { IsHeld params.now x }
     ensures value { result ≡ stored_number params.now x }
     ensures fits { result < 256 ^ storage_len params.now }
@@ -65,14 +65,14 @@ fn full_width(params: &Params, x: i64) -> u64
 }
 
 /// Writes the bytes of a sample to the front of `out` and leaves the other bytes. Returns how many
-/// bytes it has written, `storage`.
+/// bytes it has written, `Params::storage`.
 pub fn put_sample(params: &Params, x: i64, out: &mut [u8; 4]) -> usize
     requires { IsHeld params.now x }
     ensures bytes { out.new ≡ stored_bytes params.now x ++ drop (storage_len params.now) out.old }
     ensures len { result ≡ storage_len params.now }
 {
     let width = params.storage();
-    let number = full_width(params, x);
+    let number = number_of_sample(params, x);
     if params.msb_first() {
         put_number::<BigEndian>(&mut out[..], number, width);
     } else {

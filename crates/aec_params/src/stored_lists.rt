@@ -17,8 +17,8 @@ use crate::stored::low_sample;
 use byteorder::{BigEndian, ByteOrder, LittleEndian};
 use std::alloc::Global;
 
-/// Returns the samples that bytes hold, `storage` bytes each; bytes at the end that form no whole
-/// sample are ignored.
+/// Returns the samples that bytes hold, `Params::storage` bytes each; bytes at the end that form no
+/// whole sample are ignored.
 ///
 /// Fails with `SampleRange` and the index of the first sample whose unused bits are not what its
 /// width allows. The whole input is checked first. Then the call fails with `Memory` if an
@@ -115,6 +115,7 @@ fn load_each<T: ByteOrder>(params: &Params, bytes: &[u8], width: usize, out: &mu
         out.new }
     ensures held { (d : ℤ) (k : ℕ) → k < length out.new → IsHeld params.now (get_or out.new k d) }
 {
+    // A copy that no other call can see stays in registers.
     let params = *params;
     for i in 0..out.len() {
         out[i] = loaded_sample(&params, first_number::<T>(&bytes[width * i..], width));

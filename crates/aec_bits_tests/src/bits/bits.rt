@@ -49,7 +49,7 @@ fn are(buf: &BitBuf, list: &[bool]) -> bool {
         return false;
     }
     for (i, bit) in list.iter().enumerate() {
-        if buf.get(i as u64) != *bit {
+        if buf.bit(i as u64) != *bit {
             return false;
         }
     }

@@ -10,8 +10,8 @@ ghost use Rattle.aec_block.specs.Choices.{IsPrepared};
 use crate::block::BlockRef;
 use aec_params::Params;
 
-/// Returns the length of an identifier of `id_len` bits, the usual length, and of the reference
-/// sample, if there is one.
+/// Returns the length of an identifier of `id_len` bits, and of the reference sample, if there is
+/// one. Identifiers of runs and of the second extension have one bit more.
 #[inline(always)]
 pub(crate) fn head_len(params: &Params, id_len: u32, reference: Option<u32>) -> u32
     requires id_len { id_len ≡ identifier_len params.now }

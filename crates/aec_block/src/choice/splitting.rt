@@ -8,7 +8,7 @@ ghost use Rattle.aec_block.specs.Lengths.{sum_of_shifted, IsSum, AreFewBelow, Ha
 use crate::choice::sums::shifted_sum;
 use crate::choice::sums_of_three::{small_shifted_sum, three_sums};
 
-/// A k, and the bits of the values that are split with it.
+/// A k, and the number of bits of the values that are split with it.
 #[derive(Clone, Copy, Debug, PartialEq, Eq)]
 pub(crate) struct Splitting {
     pub(crate) k: u32,

@@ -40,7 +40,8 @@ fn sum_of_lanes(sums: u64x8) -> u64
     sums.strict_reduce_sum()
 }
 
-/// Returns the sum of the values that fill lanes: all but the last few, fewer than eight.
+/// Returns the sum, without their `k` low bits, of the values that fill lanes: all but the last
+/// few, fewer than eight.
 #[inline(always)]
 pub(crate) fn sum_by_eights(values: &[u32], k: u32) -> u64
     requires { CanSum k values.now }
@@ -63,7 +64,7 @@ pub(crate) fn rest_of_lanes(values: &[u32]) -> &[u32]
     &values[8 * (values.len() / 8)..]
 }
 
-/// Returns the sum of a few values, one by one.
+/// Returns the sum of a few values without their `k` low bits, one by one.
 #[inline(always)]
 pub(crate) fn sum_one_by_one(values: &[u32], k: u32) -> u64
     requires { CanSum k values.now }

@@ -50,7 +50,8 @@ fn small_sum(sums: u32x8) -> u64
     u64::from(sums.strict_reduce_sum())
 }
 
-/// Returns the sums of the values that fill lanes: of all but the last few, fewer than eight.
+/// Returns the sums without `k`, `k + 1` and `k + 2` low bits of the values that fill lanes: of all
+/// but the last few, fewer than eight.
 #[inline(always)]
 fn three_by_eights(values: &[u32], k: u32) -> ThreeSums
     requires k { k < 30 }
@@ -73,7 +74,7 @@ fn three_by_eights(values: &[u32], k: u32) -> ThreeSums
     }
 }
 
-/// Returns the sums of a few values, one by one.
+/// Returns the same sums of a few values, one by one.
 #[inline(always)]
 fn three_of_few(values: &[u32], k: u32) -> ThreeSums
     requires k { k < 30 }
@@ -105,7 +106,8 @@ pub(crate) fn three_sums(values: &[u32], k: u32) -> ThreeSums
     }
 }
 
-/// Returns the sum of the values that fill lanes, of all but the last few, fewer than eight.
+/// Returns the sum, without their `k` low bits, of the values that fill lanes: of all but the last
+/// few, fewer than eight.
 #[inline(always)]
 fn small_by_eights(values: &[u32], k: u32) -> u64
     requires { FitsLanes k values.now }

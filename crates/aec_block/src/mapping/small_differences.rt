@@ -30,12 +30,13 @@ pub(crate) fn near_differences(values: &[u32]) -> [u32; 8]
 pub(crate) fn running_places(offset: u32, differences: &[u32; 8]) -> [u32; 8]
     ensures { result ≡ places_before offset differences.now }
 {
-    let none = u32x8::splat(0);
+    let zeros = u32x8::splat(0);
     let steps = u32x8::from_array(*differences);
+    // Running sums by doubling: each lane adds the one 1, then 2, then 4 places before it.
     let one = u32x8::splat(offset).shuffle(steps, [0, 8, 9, 10, 11, 12, 13, 14]);
-    let two = one + none.shuffle(one, [0, 8, 9, 10, 11, 12, 13, 14]);
-    let four = two + none.shuffle(two, [0, 1, 8, 9, 10, 11, 12, 13]);
-    (four + none.shuffle(four, [0, 1, 2, 3, 8, 9, 10, 11])).to_array()
+    let two = one + zeros.shuffle(one, [0, 8, 9, 10, 11, 12, 13, 14]);
+    let four = two + zeros.shuffle(two, [0, 1, 8, 9, 10, 11, 12, 13]);
+    (four + zeros.shuffle(four, [0, 1, 2, 3, 8, 9, 10, 11])).to_array()
 }
 
 /// Returns the place that each of eight differences leads to from its own place: modulo 2^32.

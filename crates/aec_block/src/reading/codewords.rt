@@ -1,4 +1,5 @@
-//! Reads the codewords of a coded data set.
+//! Reads the codewords of a coded data set. Some functions only call the reader, and state its
+//! clauses as `Takes` or `PutsNumbers`.
 
 ghost use Rattle.std.specs.Prelude.{◌≡◌, ◌≤◌, ◌<◌, ◌^◌, length, IfOk, OnOk};
 ghost use Rattle.aec_bits.specs.BitReader.{AreBelow};

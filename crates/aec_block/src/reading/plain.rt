@@ -37,8 +37,9 @@ pub fn is_plain_next(params: &Params, reader: &mut BitReader) -> bool
 /// moves past it, if it is plain and its values are at most the greatest that the width has:
 /// `values` then contains them. Else returns false; the reader then hasn't moved, and the contents
 /// of `values` are unspecified. Allocates nothing. Inlined for blocks of `N` values; other blocks
-/// are read too. `COPY` is at least 3. Calls with different `COPY` share no code: the compiler
-/// inlines a large function only into its only caller.
+/// are read too. `COPY` is for speed alone: with any number the result is the same. Calls with
+/// different `COPY` share no code, since the compiler inlines a large function only into its only
+/// caller. This crate uses 0 to 2.
 #[inline(always)]
 #[tactic(auto, using(crate::proofs::NoPlainLemmas::none_stands))]
 pub fn read_plain<const N: usize, const COPY: usize>(

@@ -1,4 +1,4 @@
-//! The values of a block without their low bits, as one number.
+//! The codewords of values without their low bits, as one number.
 
 ghost use Rattle.std.specs.Prelude.{◌≡◌, ℕ, ◌+◌, ◌/◌, ◌^◌, ◌<◌, ◌≤◌, length, map};
 ghost use Rattle.aec_block.specs.BlockShape.{most_values};

@@ -16,18 +16,18 @@ use std::mem;
 /// intervals from number `next` up to number `end`, which aren't decoded yet.
 #[derive(Debug, Drop)]
 pub(crate) struct Fresh<'a> {
-    pub front: Vec<i64>,
-    pub values: &'a [i64],
-    pub back: Vec<i64>,
-    pub next: u64,
-    pub end: u64,
+    pub(crate) front: Vec<i64>,
+    pub(crate) values: &'a [i64],
+    pub(crate) back: Vec<i64>,
+    pub(crate) next: u64,
+    pub(crate) end: u64,
 }
 
 impl<'a> Fresh<'a> {
     /// Keeps the first `head` and the last `tail` samples of `front`, with the values between them.
     /// If there are as many values as samples between, the values overwrite these samples;
     /// otherwise the last samples move to `back`. Fails with `Memory` if an allocation fails.
-    pub fn keep_ends(&mut self, head: usize, tail: usize) -> Result<(), Fault>
+    pub(crate) fn keep_ends(&mut self, head: usize, tail: usize) -> Result<(), Fault>
         requires { tail ≤ length self.old.front.items }
         ensures ok { OnOk result (KeepsEnds head tail self.old self.new) }
         ensures fault { IfErr result (λ e. (e ≡ Memory) × (0 < tail)) }
@@ -46,7 +46,7 @@ impl<'a> Fresh<'a> {
 
     /// Moves values, and then samples of `back`, to `front`, until it contains a whole interval or
     /// both are empty. Fails with `Memory` if an allocation fails.
-    pub fn gather_held(&mut self, most: usize) -> Result<(), Fault>
+    pub(crate) fn gather_held(&mut self, most: usize) -> Result<(), Fault>
         ensures ok { OnOk result (MovesToFront most self.old self.new) }
         ensures fault { IfErr result (λ e. e ≡ Memory) }
     {
@@ -63,7 +63,7 @@ impl<'a> Fresh<'a> {
 }
 
 /// Removes the first `len` items.
-pub(crate) fn drop_front(items: &mut Vec<i64>, len: usize)
+fn drop_front(items: &mut Vec<i64>, len: usize)
     requires { len ≤ length items.old.items }
     ensures { items.new.items ≡ drop len items.old.items }
 {
@@ -76,9 +76,9 @@ pub(crate) fn drop_front(items: &mut Vec<i64>, len: usize)
 /// accepted edit they keep its room; after a refusal with `Memory` they may have none.
 #[derive(Debug, Drop)]
 pub(crate) struct Scratch {
-    pub front: Vec<i64>,
-    pub back: Vec<i64>,
-    pub coded: Coded,
+    pub(crate) front: Vec<i64>,
+    pub(crate) back: Vec<i64>,
+    pub(crate) coded: Coded,
     ghost no_front: { front.items ≡ [] },
     ghost no_back: { back.items ≡ [] },
     ghost no_bits: { coded.bits.list ≡ [] },
@@ -88,7 +88,7 @@ pub(crate) struct Scratch {
 
 impl Scratch {
     /// Returns lists without room. Allocates nothing.
-    pub fn new(alloc: Global) -> Scratch
+    pub(crate) fn new(alloc: Global) -> Scratch
         ensures { IsScratchRoom 0 (vec_capacity result.front) (vec_capacity result.back)
             result.coded.bits.room (vec_capacity result.coded.starts) }
     {
@@ -101,7 +101,13 @@ impl Scratch {
 
     /// Returns these lists, emptied. Frees those with more room than edits of two intervals of
     /// `most` samples need.
-    pub fn of(alloc: Global, front: Vec<i64>, back: Vec<i64>, coded: Coded, most: usize) -> Scratch
+    pub(crate) fn of(
+        alloc: Global,
+        front: Vec<i64>,
+        back: Vec<i64>,
+        coded: Coded,
+        most: usize,
+    ) -> Scratch
         requires { most ≤ 262144 }
         ensures room { IsScratchRoom most (vec_capacity result.front) (vec_capacity result.back)
             result.coded.bits.room (vec_capacity result.coded.starts) }
@@ -222,7 +228,7 @@ impl<C: Codec> Workspace<C> {
     }
 
     /// Takes out the empty code, with the room that the last edit left.
-    pub(crate) fn take_coded(&mut self) -> Coded
+    fn take_coded(&mut self) -> Coded
         ensures none { IsNoCode result }
         ensures same { self.new ≡ self.old }
     {

@@ -70,13 +70,13 @@ fn make_room(bytes: &mut Vec<u8>, more: usize, most: u64) -> usize
     let added = len.clamp(more, left);
     match bytes.reserve_exact(added) {
         Ok(()) => len + added,
-        Err(_refused) => 0,
+        Err(_) => 0,
     }
 }
 
 /// Returns whether `more` bytes fit after those that `bytes` holds: up to the length `room`, or up
 /// to a new one that `make_room` returns.
-fn has_room(bytes: &mut Vec<u8>, room: &mut usize, more: usize, most: u64) -> bool
+fn find_room(bytes: &mut Vec<u8>, room: &mut usize, more: usize, most: u64) -> bool
     ensures room { result ≡ true → vec_len bytes.new + more ≤ room.new }
     ensures there { room.old ≤ vec_capacity bytes.old → room.new ≤ vec_capacity bytes.new }
     ensures few { (bits : ℕ) → AreFewKept room.old more bits → most ≤ bits
@@ -121,7 +121,7 @@ pub(crate) fn keep_more(
     let more = 4 * params.interval_len() as usize;
     let mut room = 0;
     let mut kept = before;
-    while has_room(bytes, &mut room, more, most_kept(params, reader))
+    while find_room(bytes, &mut room, more, most_kept(params, reader))
         && reader.next_few(samples_within(room - bytes.len()), samples)?
     {
         append_stored(params, samples, bytes);

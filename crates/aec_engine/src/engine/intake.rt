@@ -13,11 +13,7 @@ pub(crate) const PIECE_BYTES: usize = 8192;
 
 /// Returns the bytes of a source up to its end, up to its failure, or past `limit` bytes, and
 /// whether it failed. Fails only with `Memory`.
-pub(crate) fn read_past<R: Source>(
-    alloc: Global,
-    source: &mut R,
-    limit: u64,
-) -> Result<(Vec<u8>, bool), Fault>
+fn read_past<R: Source>(alloc: Global, source: &mut R, limit: u64) -> Result<(Vec<u8>, bool), Fault>
     ensures ok { let took : Taking = taking_of R.left R.failed source.old source.new in
         IfOk result (λ given. Gave took (are_past limit) (input_of given.0.items given.1)) }
     ensures within { IfOk result (λ given. given.1 ≡ true → length given.0.items ≤ limit) }

@@ -22,11 +22,11 @@ const BLOCKS_AT_FIRST: usize = 2;
 
 /// Then room is made for the blocks of about this many more samples. Places are cleared before they
 /// are filled, so unused places waste time.
-const SAMPLES_AT_ONCE: usize = 120;
+const MORE_SAMPLES: usize = 120;
 
-/// Zeros that clear the places of the next samples. `BLOCKS_AT_FIRST` blocks and `SAMPLES_AT_ONCE`
+/// Zeros that clear the places of the next samples. `BLOCKS_AT_FIRST` blocks and `MORE_SAMPLES`
 /// samples have fewer places.
-static PLACES: [i64; 256] = [0; 256];
+static ZEROS: [i64; 256] = [0; 256];
 
 /// Returns a block before which no block of the interval that ends at block `end` needs a test of
 /// its place: each keeps the limit and is needed, and no padding follows it.
@@ -183,7 +183,7 @@ pub(crate) fn read_plain_blocks(
         }
         let asked = at_once.min((last - next) as usize);
         let from = samples.len();
-        let places = &PLACES[..asked * size];
+        let places = &ZEROS[..asked * size];
         if samples.extend_from_slice(places).is_err() {
             return next;
         }
@@ -194,7 +194,7 @@ pub(crate) fn read_plain_blocks(
         if read < asked {
             return next;
         }
-        at_once = BLOCKS_AT_FIRST + SAMPLES_AT_ONCE / size;
+        at_once = BLOCKS_AT_FIRST + MORE_SAMPLES / size;
     }
     next
 }

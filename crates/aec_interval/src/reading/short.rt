@@ -20,11 +20,14 @@ use aec_block::{is_plain_next, read_plain, read_plain_first, read_run, unmap_int
 use aec_params::Params;
 
 /// The greatest number of samples that are read at a time.
-const MOST_SAMPLES_AT_ONCE: u64 = 4096;
+const MAX_SAMPLES_AT_ONCE: u64 = 4096;
 
 /// Intervals of more blocks are read one at a time: what an interval costs besides its blocks is
 /// then small.
-const MOST_BLOCKS: u32 = 8;
+const MAX_SHORT_BLOCKS: u32 = 8;
+
+/// At least this many places are made at a time.
+const MIN_PLACES: usize = 64;
 
 /// The kind of an interval that is one run of zero blocks.
 const ZEROS: usize = 10;
@@ -38,7 +41,8 @@ const PREDICTED: usize = 11;
 const UNPREDICTED: usize = 12;
 
 /// Reads the next block as the first of its interval, with a reference sample, if it is plain, and
-/// puts its samples into the front of `samples`. Else returns false.
+/// puts its samples into the front of `samples`. Else returns false. `M` is the number of values
+/// after a reference sample: one less than the block size for which this is compiled.
 #[inline(always)]
 fn fill_reference_block<const M: usize>(
     params: &Params,
@@ -179,11 +183,11 @@ fn read_whole_run(params: &Params, reader: &mut BitReader) -> Option<i64>
 
 /// Returns whether the next interval is short and one run of zero blocks; no clause says so. The
 /// reader doesn't move.
-pub(crate) fn comes_zero_interval(params: &Params, reader: &mut BitReader) -> bool
+pub(crate) fn is_zero_interval_next(params: &Params, reader: &mut BitReader) -> bool
     ensures { reader.new ≡ reader.old }
 {
     let start = reader.pos();
-    let comes = params.interval() <= MOST_BLOCKS && read_whole_run(params, reader).is_some();
+    let comes = params.interval() <= MAX_SHORT_BLOCKS && read_whole_run(params, reader).is_some();
     reader.seek(start);
     comes
 }
@@ -278,7 +282,7 @@ fn fill_usual_intervals<const KIND: usize>(
 }
 
 /// `fill_usual_intervals` for plain blocks if such a block comes next, else for zero blocks.
-fn fill_coming_intervals(
+fn fill_next_intervals(
     params: &Params,
     reader: &mut BitReader,
     most: usize,
@@ -324,11 +328,22 @@ fn intervals_at_once(params: &Params, wanted: Wanted, most: u64, capacity: usize
     ensures most { result * interval_len params.now ≤ most }
     ensures room { result * interval_len params.now ≤ 4096 }
 {
-    if params.pad() || params.interval() > MOST_BLOCKS {
+    if params.pad() || params.interval() > MAX_SHORT_BLOCKS {
         return 0;
     }
-    let room = most.min(MOST_SAMPLES_AT_ONCE).min(capacity as u64) / params.interval_len();
+    let room = most.min(MAX_SAMPLES_AT_ONCE).min(capacity as u64) / params.interval_len();
     room.min(untested_intervals(params, wanted))
+}
+
+/// Returns how many places are made after `last` samples were read: at most twice as many, or
+/// `MIN_PLACES` if that is more, since `resize` zeroes the places that it adds. At first all.
+fn places_at_once(last: usize, capacity: usize) -> usize {
+    let filled = if last == 0 {
+        MAX_SAMPLES_AT_ONCE as usize
+    } else {
+        last
+    };
+    capacity.min(filled.saturating_mul(2).max(MIN_PLACES))
 }
 
 /// Reads the next intervals while `fill_interval` reads them, and replaces the items of `samples`
@@ -357,21 +372,13 @@ pub(crate) fn read_short(
     ensures capacity { vec_capacity samples.old ≤ vec_capacity samples.new }
 {
     let len = params.interval_len();
-    // `resize` zeroes the places that it adds. So at most twice as many places are made as were
-    // filled last, or 64 if that is more; for an empty vector `MOST_SAMPLES_AT_ONCE`.
-    let last = samples.len();
-    let filled = if last == 0 {
-        MOST_SAMPLES_AT_ONCE as usize
-    } else {
-        last
-    };
-    let room = samples.capacity().min(filled.saturating_mul(2).max(64));
+    let room = places_at_once(samples.len(), samples.capacity());
     let asked = intervals_at_once(params, wanted, most, room);
     if asked == 0 || samples.resize((asked * len) as usize, 0).is_err() {
         return wanted.first;
     }
     let all = samples.as_mut_slice();
-    let count = fill_coming_intervals(params, reader, asked as usize, all);
+    let count = fill_next_intervals(params, reader, asked as usize, all);
     samples.truncate(count * len as usize);
     wanted.first + count as u64 * u64::from(params.interval())
 }

@@ -16,10 +16,10 @@ use aec_params::{Fault, Params, first_bad};
 use std::mem;
 
 /// The fewest samples that `samples_at_once` returns.
-const FEWEST_SAMPLES_AT_ONCE: usize = 256;
+const MIN_SAMPLES_AT_ONCE: usize = 256;
 
 /// The most samples that `samples_at_once` returns.
-const MOST_SAMPLES_AT_ONCE: usize = 4096;
+const MAX_SAMPLES_AT_ONCE: usize = 4096;
 
 /// The terms for taking samples: how they are coded, and their greatest number.
 #[derive(Debug, Drop)]
@@ -111,7 +111,7 @@ fn refusal(terms: &Terms, count: u64, taken: usize) -> Fault
 fn samples_at_once(places: usize) -> usize {
     places
         .saturating_mul(2)
-        .clamp(FEWEST_SAMPLES_AT_ONCE, MOST_SAMPLES_AT_ONCE)
+        .clamp(MIN_SAMPLES_AT_ONCE, MAX_SAMPLES_AT_ONCE)
 }
 
 /// Returns how many of `samples` samples are taken next. If they fill at most the interval that is

@@ -9,5 +9,5 @@ returns-in-Ok-clause-ok c =
 
 pub returns-in-Err-clause-refuses : goal.returns-in-Err-clause-refuses
 returns-in-Err-clause-refuses c =
-    undecoded_in_memory c.args.params.now c.args.limits c.args.count _ _ c.args.coded.now c.in-Err.fault c.refusal.result
-    c.new-source.ensures refl c.refusal.ensures.memory c.refusal.ensures.other c.in-Err.ensures
+    undecoded_in_memory c.args.params.now c.args.limits c.args.count _ _ c.args.coded.now c.in-Err.fault c.memory_for_write.result
+    c.new-source.ensures refl c.memory_for_write.ensures.memory c.memory_for_write.ensures.other c.in-Err.ensures

@@ -38,22 +38,22 @@ overflow_add-kept c =
 pub loop-reader-preserved : goal.loop-reader-preserved
 loop-reader-preserved c =
     let step = c.in_ok-next_few.ensures.read c.if-branch.true in
-    let spare = few_then c.args.reader.now c.loop-reader.reader c.loop-reader.room c.has_room.new.room _ _ _ c.loop-reader.invariant.same
-    c.most_kept.ensures.reached c.most_kept.ensures.bits c.interval_len.ensures.value c.has_room.ensures.few c.loop-reader.invariant.spare in
+    let spare = few_then c.args.reader.now c.loop-reader.reader c.loop-reader.room c.find_room.new.room _ _ _ c.loop-reader.invariant.same
+    c.most_kept.ensures.reached c.most_kept.ensures.bits c.interval_len.ensures.value c.find_room.ensures.few c.loop-reader.invariant.spare in
     record {
       keeps = keeps_more c.args.reader.now c.loop-reader.reader c.next_few.new.self c.args.params.now c.loop-reader.kept c.len-in-loop-reader.result _
           c.loop-reader.bytes.items _ _ _ _ (subst IsAllowed (sym c.requires.settings) c.interval_len.ensures.allowed) c.loop-reader.invariant.same
-          c.loop-reader.invariant.keeps step c.next_few.ensures.few c.next_few.ensures.ends c.has_room.ensures.same.items c.append_stored.ensures.items
+          c.loop-reader.invariant.keeps step c.next_few.ensures.few c.next_few.ensures.ends c.find_room.ensures.same.items c.append_stored.ensures.items
           c.deref.ensures.value (omega (arith, c.len-in-loop-reader.ensures, c.next_few.new.samples.ok)) refl;
       same = same_next c.args.reader.now c.loop-reader.reader c.next_few.new.self c.loop-reader.invariant.same step.piece.same;
-      there = omega (arith, c.has_room.ensures.there c.loop-reader.invariant.there, c.append_stored.ensures.spare.capacity);
+      there = omega (arith, c.find_room.ensures.there c.loop-reader.invariant.there, c.append_stored.ensures.spare.capacity);
       spare = spare;
-      few = few_more c.args.reader.now c.loop-reader.reader c.args.params.now c.interval_len.result c.samples_within.result c.has_room.new.room
-          (vec_len c.has_room.new.bytes) _ _ (length c.args.reader.now.bits) c.loop-reader.invariant.same c.requires.settings c.interval_len.ensures.value
-          c.in_ok-next_few.ensures.at_most (omega (arith, c.samples_within.ensures, c.len.ensures)) (c.has_room.ensures.room c.loop-reader-test.true)
+      few = few_more c.args.reader.now c.loop-reader.reader c.args.params.now c.interval_len.result c.samples_within.result c.find_room.new.room
+          (vec_len c.find_room.new.bytes) _ _ (length c.args.reader.now.bits) c.loop-reader.invariant.same c.requires.settings c.interval_len.ensures.value
+          c.in_ok-next_few.ensures.at_most (omega (arith, c.samples_within.ensures, c.len.ensures)) (c.find_room.ensures.room c.loop-reader-test.true)
           (omega (arith, c.append_stored.ensures.spare.len, ap length c.deref.ensures.value, c.next_few.new.samples.ok)) spare;
       room = omega (arith, c.loop-reader.invariant.room, c.next_few.ensures.capacity);
-      buffer = omega (arith, c.loop-reader.invariant.buffer, c.has_room.ensures.same.capacity, c.append_stored.ensures.spare.capacity);
+      buffer = omega (arith, c.loop-reader.invariant.buffer, c.find_room.ensures.same.capacity, c.append_stored.ensures.spare.capacity);
     }
 
 pub append_stored-requires-clause-held : goal.append_stored-requires-clause-held

@@ -1,5 +1,5 @@
 use Rattle.aec_params.proofs.StoredLemmas.{low_bits-full, low_bits-lt}
-use Rattle.aec_params.proofs.stored.full_width.Goals as goal
+use Rattle.aec_params.proofs.stored.number_of_sample.Goals as goal
 
 pub returns-clause-value : goal.returns-clause-value
 returns-clause-value c =

@@ -2,7 +2,7 @@ use Rattle.std.proofs.Common.{◌+◌, ◌≤◌, sym, subst, arith, length}
 use Rattle.std.proofs.lemmas.Bool.Decides.{nat_tests}
 use Rattle.aec_block.specs.Lengths.{IsBestSplit}
 use Rattle.aec_block.proofs.SplittingLemmas.{best-stopped, falls_to-none}
-use Rattle.aec_block.proofs.choice.plain_choice.first_best.Goals as goal
+use Rattle.aec_block.proofs.choice.any_block.first_best.Goals as goal
 
 pub returns-then-not-is_shorter_next-clause-best : goal.returns-then-not-is_shorter_next-clause-best
 returns-then-not-is_shorter_next-clause-best c =

@@ -43,7 +43,7 @@ pub fn choose(params: &Params, block: &Block) -> Choice
     ensures { IsChoice params.now block.now result }
 {
     let id_len = params.id_len();
-    let view = block.as_ref();
+    let view = block.view();
     let values = view.written();
     let uncompressed = Choice {
         coding: Coding::NoCompression,
