@@ -22,10 +22,7 @@ import sys
 import tempfile
 from concurrent.futures import ProcessPoolExecutor
 
-from program import Tally
-
-HERE = os.path.dirname(os.path.abspath(__file__))
-TOP = os.path.join(HERE, "..")
+from program import TOP, Tally
 
 
 def try_scripts(tally, seed, numbers):
@@ -276,7 +273,7 @@ def main():
 
 if __name__ == "__main__":
     if os.environ.get("AECP_LIBRARY") is None:
-        path = os.pathsep.join([os.path.abspath(os.path.join(TOP, "python")), HERE])
+        path = os.pathsep.join([os.path.join(TOP, "python"), os.path.join(TOP, "tests")])
         made = {"AECP_LIBRARY": os.path.abspath(os.path.join(sys.argv[1], "libaecp.so")), "PYTHONPATH": path, "PYTHONDONTWRITEBYTECODE": "1"}
         sys.exit(subprocess.run([sys.executable, *sys.argv], env={**os.environ, **made}, check=False).returncode)
     import aecp

@@ -17,10 +17,9 @@ import sys
 import tempfile
 from concurrent.futures import ThreadPoolExecutor
 
-from program import Tally
+from program import TOP, Tally
 
-BENCH = os.path.join(os.path.dirname(os.path.abspath(__file__)), "..", "bench")
-sys.path.insert(0, BENCH)
+sys.path.insert(0, os.path.join(TOP, "bench"))
 from bench import detector, ramp_with_noise, walk
 from instructions import STORAGE, counted
 

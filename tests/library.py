@@ -33,11 +33,10 @@ from library_buffers import try_buffers
 from library_edits import try_scripts
 from library_memory import try_freed, try_refusals, try_stacks
 from library_types import try_readme, try_types, try_version
-from program import Program, Tally
+from program import TOP, Program, Tally
 from refusing import build, has_compiler, print_skipped
 from settings import STANDARD_BLOCK_SIZES, Settings
 
-TOP = os.path.join(os.path.dirname(os.path.abspath(__file__)), "..")
 THEIRS = os.environ.get("LIBAEC", "/usr/bin/aec")
 ALL, NO_ROOM, MEMORY = 2**64 - 1, 18, 12
 CALLS = {"bound", "decode", "encode", "range", "text", "open", "load", "close", "read", "write", "size", "calls",

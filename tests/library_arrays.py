@@ -16,10 +16,8 @@ import sys
 import tempfile
 
 import library_buffers
-from program import Program, Tally
+from program import TOP, Program, Tally
 
-HERE = os.path.dirname(os.path.abspath(__file__))
-TOP = os.path.dirname(HERE)
 TYPES = {"u1": 8, "i1": 8, "<u2": 16, ">i2": 12, "<u4": 32, ">u4": 24, "<i4": 20}
 
 
@@ -157,7 +155,7 @@ if __name__ == "__main__":
         print("the module with numpy: no numpy here\n0 passed, 0 failed")
         sys.exit(0)
     if os.environ.get("AECP_LIBRARY") is None:
-        path = os.pathsep.join([os.path.join(TOP, "python"), HERE])
+        path = os.pathsep.join([os.path.join(TOP, "python"), os.path.join(TOP, "tests")])
         made = {"AECP_LIBRARY": os.path.abspath(os.path.join(sys.argv[2], "libaecp.so")), "PYTHONPATH": path}
         sys.exit(subprocess.run([found, *sys.argv], env={**os.environ, **made}, check=False).returncode)
     import aecp

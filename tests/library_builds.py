@@ -16,9 +16,7 @@ import subprocess
 import sys
 import tempfile
 
-from program import Tally
-
-TOP = os.path.join(os.path.dirname(os.path.abspath(__file__)), "..")
+from program import TOP, Tally
 
 PROGRAM = """
 #include <aecp.h>

@@ -30,9 +30,8 @@ import threading
 
 from library_arrays import interpreter
 from library_refusals import raised, try_refusals
-from program import Tally
+from program import TOP, Tally
 
-TOP = os.path.join(os.path.dirname(os.path.abspath(__file__)), "..")
 THREADS, ROUNDS = 8, 150
 
 

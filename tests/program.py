@@ -6,6 +6,8 @@ import subprocess
 import tempfile
 from concurrent.futures import ProcessPoolExecutor
 
+# The folder of the repository.
+TOP = os.path.dirname(os.path.dirname(os.path.abspath(__file__)))
 SECONDS = 20
 
 
