@@ -22,7 +22,7 @@ import sys
 import tempfile
 from concurrent.futures import ProcessPoolExecutor
 
-from program import TOP, Tally
+from program import TOP, Tally, add_case_options
 
 
 def try_scripts(tally, seed, numbers):
@@ -236,9 +236,7 @@ def try_page(tally, _):
 def words():
     asked = argparse.ArgumentParser(description=__doc__)
     asked.add_argument("library", metavar="FOLDER")
-    asked.add_argument("--seed", type=int, default=121)
-    asked.add_argument("--cases", type=int, default=300, help="kept files; scripts by chance are a thousand in any case")
-    asked.add_argument("--only", type=int, help="the number of the one case to try")
+    add_case_options(asked, 300, "kept files; scripts by chance are a thousand in any case")
     return asked.parse_args()
 
 

@@ -33,7 +33,7 @@ from library_buffers import try_buffers
 from library_edits import try_scripts
 from library_memory import try_freed, try_refusals, try_stacks
 from library_types import try_readme, try_types, try_version
-from program import TOP, Program, Tally
+from program import TOP, Program, Tally, add_case_options, numbers_of
 from refusing import build, has_compiler, print_skipped
 from settings import STANDARD_BLOCK_SIZES, Settings
 
@@ -311,9 +311,7 @@ def words():
     asked = argparse.ArgumentParser(description=__doc__)
     asked.add_argument("program")
     asked.add_argument("library", metavar="FOLDER")
-    asked.add_argument("--seed", type=int, default=121)
-    asked.add_argument("--cases", type=int, default=2000)
-    asked.add_argument("--only", type=int, help="the number of the one case to try")
+    add_case_options(asked, 2000)
     return asked.parse_args()
 
 
@@ -378,8 +376,7 @@ def main():
         if has_compiler():
             try_in_c(asked, folder, aecp, tally)
         theirs = Program(THEIRS, folder) if os.path.exists(THEIRS) else None
-        numbers = range(asked.cases) if asked.only is None else [asked.only]
-        for number in numbers:
+        for number in numbers_of(asked):
             try_case(aecp, Program(asked.program, folder), theirs, asked.seed, number, tally)
             if number % 8 == 0:
                 try_workspace(aecp, asked.seed, number, tally)

@@ -30,7 +30,7 @@ import threading
 
 from library_arrays import interpreter
 from library_refusals import raised, try_refusals
-from program import TOP, Tally
+from program import TOP, Tally, add_case_options, numbers_of
 
 THREADS, ROUNDS = 8, 150
 
@@ -331,9 +331,7 @@ def try_mypy(tally):
 def words():
     asked = argparse.ArgumentParser(description=__doc__)
     asked.add_argument("library", metavar="FOLDER")
-    asked.add_argument("--seed", type=int, default=121)
-    asked.add_argument("--cases", type=int, default=400)
-    asked.add_argument("--only", type=int, help="the number of the one case to try")
+    add_case_options(asked, 400)
     return asked.parse_args()
 
 
@@ -347,7 +345,7 @@ def main():
     try_memory(tally)
     try_out(tally)
     try_undone(tally)
-    for number in range(asked.cases) if asked.only is None else [asked.only]:
+    for number in numbers_of(asked):
         try_lists(tally, asked.seed, number)
     with tempfile.TemporaryDirectory() as folder:
         try_imports(tally, folder)
