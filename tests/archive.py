@@ -266,7 +266,7 @@ def main():
         for part in [pool.submit(on_one_core, *it) for it in parts_of(asked)]:
             tally.add(part.result())
     tally.print()
-    sys.exit(tally.failed > 0)
+    return 1 if tally.failed else 0
 
 
 if __name__ == "__main__":
@@ -281,4 +281,4 @@ if __name__ == "__main__":
     from aecp.pairs import Pair
     from archive_files import USUAL, command, drawn_case, edited, kept_file, options_of, read, refusal, some_script, state, undone, walk
 
-    main()
+    sys.exit(main())

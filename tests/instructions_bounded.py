@@ -95,24 +95,24 @@ def compare(found):
 
 
 def without_valgrind():
-    """Ends the test, since nothing can be counted."""
-    needed = "CI" in os.environ
+    """Prints that nothing can be counted. Returns the status of the test."""
+    failed = int("CI" in os.environ)
     print("valgrind isn't here: no instructions are counted")
-    print(f"0 passed, {int(needed)} failed")
-    sys.exit(needed)
+    print(f"0 passed, {failed} failed")
+    return failed
 
 
 def main():
     if not shutil.which("valgrind"):
-        without_valgrind()
+        return without_valgrind()
     found = on_all_cells(os.path.abspath(sys.argv[1]))
     if "--measure" in sys.argv[2:]:
         print_measured(found)
-        return
+        return 0
     tally = compare(found)
     tally.print()
-    sys.exit(tally.failed > 0)
+    return 1 if tally.failed else 0
 
 
 if __name__ == "__main__":
-    main()
+    sys.exit(main())

@@ -384,8 +384,8 @@ def main():
         tally.print()
     else:
         print_skipped(tally, len(ROWS) + len(REFUSED))
-    sys.exit(tally.failed > 0)
+    return 1 if tally.failed else 0
 
 
 if __name__ == "__main__":
-    main()
+    sys.exit(main())

@@ -146,7 +146,7 @@ def main():
         try_numcodecs(tally)
         try_page(folder, tally)
     tally.print()
-    sys.exit(tally.failed > 0)
+    return 1 if tally.failed else 0
 
 
 if __name__ == "__main__":
@@ -161,4 +161,4 @@ if __name__ == "__main__":
     import aecp
     import numpy
 
-    main()
+    sys.exit(main())

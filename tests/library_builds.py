@@ -134,8 +134,8 @@ def main():
         for lib in ("lib", "lib/x86_64-linux-gnu"):
             try_install(lib, version, tally)
     tally.print()
-    sys.exit(1 if tally.failed else 0)
+    return 1 if tally.failed else 0
 
 
 if __name__ == "__main__":
-    main()
+    sys.exit(main())

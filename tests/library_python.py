@@ -352,7 +352,7 @@ def main():
     try_version(tally)
     try_mypy(tally)
     tally.print()
-    sys.exit(tally.failed > 0)
+    return 1 if tally.failed else 0
 
 
 if __name__ == "__main__":
@@ -366,4 +366,4 @@ if __name__ == "__main__":
         import numpy
     except ImportError:
         numpy = None
-    main()
+    sys.exit(main())

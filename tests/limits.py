@@ -178,8 +178,8 @@ def main():
     print("".join(f"{wrong}\n" for wrong in wrongs), end="")
     passed, failed = passed + max(pages - len(wrongs), 0), failed + len(wrongs)
     print(f"{passed} passed, {failed} failed")
-    sys.exit(failed > 0)
+    return 1 if failed else 0
 
 
 if __name__ == "__main__":
-    main()
+    sys.exit(main())
