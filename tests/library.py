@@ -33,7 +33,7 @@ from library_buffers import try_buffers
 from library_edits import try_scripts
 from library_memory import try_freed, try_refusals, try_stacks
 from library_types import try_readme, try_types, try_version
-from program import TOP, Program, Tally, add_case_options, numbers_of
+from program import TOP, Program, Tally, add_case_options, numbers_of, raised
 from refusing import build, has_compiler, print_skipped
 from settings import STANDARD_BLOCK_SIZES, Settings
 
@@ -267,19 +267,10 @@ def try_list(chance, work, samples, what, tally):
     work[part] = before[part]
     samples = before
     for key in (len(samples), -len(samples) - 1):
-        tally.holds(is_refused(IndexError, lambda: work[key]), f"{what}: [{key}]")
+        tally.holds(isinstance(raised(lambda: work[key]), IndexError), f"{what}: [{key}]")
     tally.check(f"{what}: a slice with steps", list(work[::-2]), samples[::-2])
     work.overwrite(0, samples)
     tally.check(f"{what}: as before", list(work), samples)
-
-
-def is_refused(fault, call):
-    """Returns whether a call raises this."""
-    try:
-        call()
-    except fault:
-        return True
-    return False
 
 
 def try_workspace(aecp, seed, number, tally):

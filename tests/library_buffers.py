@@ -5,6 +5,8 @@ is refused."""
 import array
 import sys
 
+from program import raised
+
 EIGHT, CODED = bytes(range(8)), bytes.fromhex("20092492")
 
 
@@ -22,11 +24,7 @@ def kinds_of(data):
 
 def is_refused(call, *given):
     """Returns whether a call refuses a buffer because of its type."""
-    try:
-        call(*given)
-    except TypeError:
-        return True
-    return False
+    return isinstance(raised(lambda: call(*given)), TypeError)
 
 
 def try_buffers(aecp, tally):

@@ -6,6 +6,7 @@ import copy
 import pickle
 import random
 
+from program import raised
 from script_cases import some_count, some_samples, some_script, some_settings
 from script_model import Refused, edited, edits_of
 
@@ -121,11 +122,8 @@ def try_intervals(aecp, seed, number, tally):
 
 def fault_of(call):
     """Returns the number and the place of a call's fault, None if there is none."""
-    try:
-        call()
-    except Exception as fault:
-        return getattr(fault, "number", type(fault)), getattr(fault, "place", None)
-    return None
+    fault = raised(call)
+    return None if fault is None else (getattr(fault, "number", type(fault)), getattr(fault, "place", None))
 
 
 def try_cut_intervals(aecp, tally):

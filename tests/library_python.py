@@ -29,8 +29,8 @@ import tempfile
 import threading
 
 from library_arrays import interpreter
-from library_refusals import raised, try_refusals
-from program import TOP, Tally, add_case_options, numbers_of
+from library_refusals import try_refusals
+from program import TOP, Tally, add_case_options, numbers_of, raised
 
 THREADS, ROUNDS = 8, 150
 

@@ -124,6 +124,15 @@ def short(it):
     return text if len(text) <= 200 else f"{text[:200]}.. ({len(text)} characters)"
 
 
+def raised(call):
+    """Returns the exception that a call raises, or None."""
+    try:
+        call()
+    except Exception as fault:  # noqa: BLE001 - the caller checks which one it is
+        return fault
+    return None
+
+
 def said(message):
     """Returns the expected status and output of a run: of a refusal with this message, or of success if None."""
     return (0, "") if message is None else (1, f"aec: {message}\n")
