@@ -17,7 +17,7 @@ import sys
 from collections import deque
 from typing import NamedTuple
 
-from sources import all_crates, text_of
+from sources import all_crates, ended, text_of
 
 
 class Way(NamedTuple):
@@ -168,9 +168,7 @@ def main():
         for name in LIBRARIES:
             clauses, functions = clauses_of(crates[name])
             print(f"{name}: {clauses / functions:.2f} clauses a function ({clauses} of {functions})")
-    print("".join(f"FAILED: {wrong}\n" for wrong in wrongs), end="")
-    print(f"{len(WAYS) - len(wrongs)} passed, {len(wrongs)} failed")
-    return 1 if wrongs else 0
+    return ended(len(WAYS) - len(wrongs), wrongs)
 
 
 if __name__ == "__main__":
