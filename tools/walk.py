@@ -73,7 +73,7 @@ def bodies(path, functions):
         yield one, re.sub(r'"[^"\n]*"', "", text)
 
 
-class House:
+class CallGraph:
     """The functions of the crates, and which functions each one calls."""
 
     def __init__(self):
@@ -138,10 +138,10 @@ class House:
         return found
 
 
-def way_through(house, way):
-    chain = [house.find(MAIN)]
+def way_through(graph, way):
+    chain = [graph.find(MAIN)]
     for part in way.through:
-        piece = house.chain(chain[-1], house.find(part))
+        piece = graph.chain(chain[-1], graph.find(part))
         if not piece:
             sys.exit(f"FAILED: no calls lead from {chain[-1].path()} to {part}")
         chain += piece[1:]
@@ -154,9 +154,9 @@ def clauses_of(crate):
 
 
 def main():
-    house, wrongs = House(), []
+    graph, wrongs = CallGraph(), []
     for way in WAYS:
-        chain = way_through(house, way)
+        chain = way_through(graph, way)
         files = list(dict.fromkeys(one.file for one in chain))
         if sys.argv[1:] != ["--check"]:
             print(f"{way.what}: {len(chain) - 1} calls, {len(files)} files")
