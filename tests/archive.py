@@ -40,7 +40,8 @@ def try_scripts(tally, seed, numbers):
             change = scripts.change_of(first, second, options.storage)
             back = b"".join(scripts.difference(first, second, change, options))
             edits = scripts.judged(back, len(first) // options.storage, options)
-            tally.check(f"{what}: back {back[:99]}", (bytes(scripts.edited(bytearray(first), edits.edits, options)), edits.complaints), (second, []))
+            got = bytes(scripts.edited(bytearray(first), edits.edits, options))
+            tally.check(f"{what}: back {back[:99]}", (got, edits.complaints), (second, []))
         same = [a == b for a, b in zip(samples, wanted)]
         if len(samples) == len(wanted):
             tally.check(f"{what}: samples that changed", scripts.change_of(stored, after, options.storage).samples, same.count(False))
@@ -199,7 +200,8 @@ def try_rescue(tally, seed):
         found = reading.rescued(coded[:length], len(samples), options)
         tally.holds(settings.stored(samples).startswith(bytes(found.samples)), f"rescue {number}: other samples")
         more = refusal(lambda: aecp.decode_bytes(coded[:length], found.number + 1, options))
-        tally.holds(more is not None and len(found.samples) == 2 * found.number, f"rescue {number}: {found.number} of {len(samples)} aren't all")
+        is_all = more is not None and len(found.samples) == 2 * found.number
+        tally.holds(is_all, f"rescue {number}: {found.number} of {len(samples)} aren't all")
     pair = kept_file(FOLDERS[0], "rescued", samples)
     status, printed, _ = command(FOLDERS[0], "rescue", "rescued.aec")
     wanted = f"rescued.aec: all {len(samples)} samples are sound: their SHA-256 is that of the note\n"
@@ -272,7 +274,8 @@ def main():
 if __name__ == "__main__":
     if os.environ.get("AECP_LIBRARY") is None:
         path = os.pathsep.join([os.path.join(TOP, "python"), os.path.join(TOP, "tests")])
-        made = {"AECP_LIBRARY": os.path.abspath(os.path.join(sys.argv[1], "libaecp.so")), "PYTHONPATH": path, "PYTHONDONTWRITEBYTECODE": "1"}
+        library = os.path.abspath(os.path.join(sys.argv[1], "libaecp.so"))
+        made = {"AECP_LIBRARY": library, "PYTHONPATH": path, "PYTHONDONTWRITEBYTECODE": "1"}
         sys.exit(subprocess.run([sys.executable, *sys.argv], env={**os.environ, **made}, check=False).returncode)
     import aecp
     import archive_stops

@@ -73,7 +73,8 @@ def try_szip(program, tally):
 
     path = program.file("sets.h5")
     keys = {"compression": "szip", "compression_opts": ("nn", 8)}
-    for name, shape, chunks in (("u1", (70, 33), (16, 33)), (">i2", (9, 20, 31), (4, 7, 31)), ("<i4", (40,), (40,)), ("<f8", (20, 30), (8, 16))):
+    sets = (("u1", (70, 33), (16, 33)), (">i2", (9, 20, 31), (4, 7, 31)), ("<i4", (40,), (40,)), ("<f8", (20, 30), (8, 16)))
+    for name, shape, chunks in sets:
         elements = (numpy.random.default_rng(7).integers(0, 9, shape).cumsum(-1) % 100).astype(name)
         with h5py.File(path, "w") as file:
             file.create_dataset("d", data=elements, chunks=chunks, **keys)

@@ -60,7 +60,8 @@ def try_arrays(aecp, numpy, tally):
     frozen = samples.copy()
     frozen.flags.writeable = False
     wide = numpy.repeat(samples, 2)
-    same = {"in three dimensions": samples.reshape(10, 3, 20), "frozen": frozen, "apart": wide[::2], "of the other order": samples.astype(">i2")}
+    same = {"in three dimensions": samples.reshape(10, 3, 20), "frozen": frozen, "apart": wide[::2]}
+    same["of the other order"] = samples.astype(">i2")
     for name, given in same.items():
         tally.check(f"an array {name}", aecp.encode(given, options), coded)
     turned = samples.reshape(20, 30).T

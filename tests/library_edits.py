@@ -48,7 +48,8 @@ def try_kinds(aecp, tally):
     coded = aecp.encode(bytes(8), options)
     tally.check("text", aecp.edit(coded, 8, "truncate 3\nappend 1 2\n", options), (aecp.encode(b"\0\0\0\1\2", options), 5))
     tally.check("nothing", aecp.edit(b"", 0, "", options), (b"", 0))
-    for script, kind, place in (("rename 3", aecp.ScriptRefused, 1), ("append 256", aecp.SampleRefused, 0), ("remove 8 1", aecp.RangeRefused, 8)):
+    bad = (("rename 3", aecp.ScriptRefused, 1), ("append 256", aecp.SampleRefused, 0), ("remove 8 1", aecp.RangeRefused, 8))
+    for script, kind, place in bad:
         try:
             aecp.edit(coded, 8, script, options)
             tally.holds(False, f"{script}: not refused")
