@@ -33,21 +33,22 @@ LIBRARIES = ("aec_params", "aec_bits", "aec_block", "aec_interval", "aec_edit", 
 WAYS = [
     Way(
         "A coded sample, of a whole block that is split",
-        ["aec_engine::engine::coding::encode", "StreamCoder::feed", "pieces::take_part", "shortest::write_shortest_of", "writing::put_split",
-         "writing::put_low_groups", "Gathered::put", "packed::push_reserved_number"],
+        ["aec_engine::engine::coding::encode", "StreamCoder::feed", "pieces::take_part", "shortest::write_shortest_of",
+         "writing::put_split", "writing::put_low_groups", "Gathered::put", "packed::push_reserved_number"],
         22,
         11,
     ),
     Way(
         "A decoded sample, of a block read at once",
-        ["aec_engine::engine::decoding::decode", "StreamReader::next_few", "reading::plain::fill_plain_blocks", "plain::read_plain", "BitReader::read_sequences", "BitBuf::word_from"],
+        ["aec_engine::engine::decoding::decode", "StreamReader::next_few", "reading::plain::fill_plain_blocks", "plain::read_plain",
+         "BitReader::read_sequences", "BitBuf::word_from"],
         20,
         11,
     ),
     Way(
         "A line of a script, an overwrite",
-        ["aec_engine::engine::editing::edit", "Workspace::apply", "Workspace::overwrite", "Codec::code", "shortest::write_shortest_of", "writing::put_split",
-         "writing::put_low_groups", "Gathered::put", "packed::push_reserved_number"],
+        ["aec_engine::engine::editing::edit", "Workspace::apply", "Workspace::overwrite", "Codec::code", "shortest::write_shortest_of",
+         "writing::put_split", "writing::put_low_groups", "Gathered::put", "packed::push_reserved_number"],
         30,
         14,
     ),
@@ -78,9 +79,8 @@ class CallGraph:
 
     def __init__(self):
         crates = all_crates()
-        self.functions = [
-            one for crate in crates.values() if not crate.name.endswith(("_tests", "_example")) for one in crate.functions if not one.is_test
-        ]
+        judged = [crate for crate in crates.values() if not crate.name.endswith(("_tests", "_example"))]
+        self.functions = [one for crate in judged for one in crate.functions if not one.is_test]
         self.impls = {pair for crate in crates.values() for pair in crate.impls if pair[0]}
         self.by_name = {}
         for one in self.functions:
