@@ -188,31 +188,35 @@ fn assert_version() {
     assert!(fits, "libaecp.a has another version than the crate aecp");
 }
 
+/// Makes one call. Returns the reply that it fills, which also has the fault that it returns.
+fn replied<R: Default>(call: impl FnOnce(&mut R) -> u32) -> R {
+    let mut reply = R::default();
+    call(&mut reply);
+    reply
+}
+
 /// Codes stored samples into `out`.
 pub fn encode(options: &Options, samples: &[u8], out: &mut [u8]) -> Reply {
     assert_version();
-    let mut reply = Reply::default();
     // SAFETY: the pointers and lengths are those of live slices; `out` and `reply` are exclusive
     // borrows, so they overlap nothing.
-    unsafe {
+    replied(|reply| unsafe {
         aecp_encode(
             options,
             samples.as_ptr().cast(),
             samples.len(),
             out.as_mut_ptr(),
             out.len(),
-            &mut reply,
-        );
-    }
-    reply
+            reply,
+        )
+    })
 }
 
 /// Decodes the first `count` samples into `out`, as they are stored.
 pub fn decode(options: &Options, count: u64, coded: &[u8], out: &mut [u8]) -> Reply {
     assert_version();
-    let mut reply = Reply::default();
     // SAFETY: as in `encode`.
-    unsafe {
+    replied(|reply| unsafe {
         aecp_decode(
             options,
             count,
@@ -220,10 +224,9 @@ pub fn decode(options: &Options, count: u64, coded: &[u8], out: &mut [u8]) -> Re
             coded.len(),
             out.as_mut_ptr().cast(),
             out.len(),
-            &mut reply,
-        );
-    }
-    reply
+            reply,
+        )
+    })
 }
 
 /// Decodes `len` of these samples, from place `first` on.
@@ -236,13 +239,11 @@ pub fn range(
     out: &mut [u8],
 ) -> Reply {
     assert_version();
-    let mut reply = Reply::default();
     let (at, room) = (out.as_mut_ptr().cast(), out.len());
     // SAFETY: as in `encode`.
-    unsafe {
-        aecp_range(options, count, first, len, coded.as_ptr(), coded.len(), at, room, &mut reply);
-    }
-    reply
+    replied(|reply| unsafe {
+        aecp_range(options, count, first, len, coded.as_ptr(), coded.len(), at, room, reply)
+    })
 }
 
 /// Applies a script of edits to the first `count` samples, and writes the edited stream into `out`.
@@ -254,9 +255,8 @@ pub fn edit(
     out: &mut [u8],
 ) -> EditReply {
     assert_version();
-    let mut reply = EditReply::default();
     // SAFETY: as in `encode`.
-    unsafe {
+    replied(|reply| unsafe {
         aecp_edit(
             options,
             count,
@@ -266,10 +266,9 @@ pub fn edit(
             coded.len(),
             out.as_mut_ptr(),
             out.len(),
-            &mut reply,
-        );
-    }
-    reply
+            reply,
+        )
+    })
 }
 
 /// A length in bytes that suffices for the code of so many samples. 0 if the options are refused.
@@ -324,10 +323,8 @@ impl Handle {
     }
 
     /// Makes one call with the handle.
-    fn with(&self, call: impl FnOnce(*mut CHandle, &mut Reply)) -> Reply {
-        let mut reply = Reply::default();
-        call(self.0.get(), &mut reply);
-        reply
+    fn with(&self, call: impl FnOnce(*mut CHandle, &mut Reply) -> u32) -> Reply {
+        replied(|reply| call(self.0.get(), reply))
     }
 
     /// A handle with an empty workspace, or with none if the reply has a fault.
@@ -335,9 +332,7 @@ impl Handle {
         assert_version();
         let handle = Handle::empty();
         // SAFETY: the handle is AECP_HANDLE, and no other thread has it.
-        let reply = handle.with(|at, reply| unsafe {
-            aecp_open(options, at, reply);
-        });
+        let reply = handle.with(|at, reply| unsafe { aecp_open(options, at, reply) });
         (handle, reply)
     }
 
@@ -347,7 +342,7 @@ impl Handle {
         let handle = Handle::empty();
         // SAFETY: as in `open`; pointer and length are those of a live slice.
         let reply = handle.with(|at, reply| unsafe {
-            aecp_load(options, count, coded.as_ptr(), coded.len(), at, reply);
+            aecp_load(options, count, coded.as_ptr(), coded.len(), at, reply)
         });
         (handle, reply)
     }
@@ -356,51 +351,43 @@ impl Handle {
         // SAFETY: the handle is the library's own since `open` or `load`; pointer and length are
         // those of a live slice. The type isn't `Sync` and no call runs another, so one thread at a
         // time has the handle.
-        self.with(|at, reply| unsafe {
-            aecp_append(at, values.as_ptr(), values.len(), reply);
-        })
+        self.with(|at, reply| unsafe { aecp_append(at, values.as_ptr(), values.len(), reply) })
     }
 
     pub fn truncate(&mut self, count: u64) -> Reply {
         // SAFETY: as in `append`.
-        self.with(|at, reply| unsafe {
-            aecp_truncate(at, count, reply);
-        })
+        self.with(|at, reply| unsafe { aecp_truncate(at, count, reply) })
     }
 
     pub fn remove(&mut self, first: u64, len: u64) -> Reply {
         // SAFETY: as in `append`.
-        self.with(|at, reply| unsafe {
-            aecp_remove(at, first, len, reply);
-        })
+        self.with(|at, reply| unsafe { aecp_remove(at, first, len, reply) })
     }
 
     pub fn overwrite(&mut self, first: u64, values: &[i64]) -> Reply {
         // SAFETY: as in `append`.
         self.with(|at, reply| unsafe {
-            aecp_overwrite(at, first, values.as_ptr(), values.len(), reply);
+            aecp_overwrite(at, first, values.as_ptr(), values.len(), reply)
         })
     }
 
     pub fn insert(&mut self, first: u64, values: &[i64]) -> Reply {
         // SAFETY: as in `append`.
         self.with(|at, reply| unsafe {
-            aecp_insert(at, first, values.as_ptr(), values.len(), reply);
+            aecp_insert(at, first, values.as_ptr(), values.len(), reply)
         })
     }
 
     pub fn read(&self, first: u64, len: u64, out: &mut [i64]) -> Reply {
         // SAFETY: as in `append`; `out` is an exclusive borrow.
         self.with(|at, reply| unsafe {
-            aecp_read(at, first, len, out.as_mut_ptr(), out.len(), reply);
+            aecp_read(at, first, len, out.as_mut_ptr(), out.len(), reply)
         })
     }
 
     pub fn write(&self, out: &mut [u8]) -> Reply {
         // SAFETY: as in `read`.
-        self.with(|at, reply| unsafe {
-            aecp_write(at, out.as_mut_ptr(), out.len(), reply);
-        })
+        self.with(|at, reply| unsafe { aecp_write(at, out.as_mut_ptr(), out.len(), reply) })
     }
 
     pub fn size(&self) -> u64 {
@@ -432,40 +419,27 @@ impl Coder {
     pub fn open(options: &Options) -> (Coder, Reply) {
         assert_version();
         let mut coder = Coder(CHandle::empty());
-        let mut reply = Reply::default();
         // SAFETY: the coder is AECP_CODER, and no other thread has it.
-        unsafe {
-            aecp_coder_open(options, &mut coder.0, &mut reply);
-        }
+        let reply = replied(|reply| unsafe { aecp_coder_open(options, &mut coder.0, reply) });
         (coder, reply)
     }
 
     pub fn feed(&mut self, samples: &[u8]) -> Reply {
-        let mut reply = Reply::default();
         // SAFETY: the coder is the library's own since `open`, and is borrowed exclusively; pointer
         // and length are those of a live slice.
-        unsafe {
-            aecp_coder_feed(&mut self.0, samples.as_ptr().cast(), samples.len(), &mut reply);
-        }
-        reply
+        replied(|reply| unsafe {
+            aecp_coder_feed(&mut self.0, samples.as_ptr().cast(), samples.len(), reply)
+        })
     }
 
     pub fn finish(&mut self) -> Reply {
-        let mut reply = Reply::default();
         // SAFETY: as in `feed`.
-        unsafe {
-            aecp_coder_finish(&mut self.0, &mut reply);
-        }
-        reply
+        replied(|reply| unsafe { aecp_coder_finish(&mut self.0, reply) })
     }
 
     pub fn take(&mut self, out: &mut [u8]) -> Reply {
-        let mut reply = Reply::default();
         // SAFETY: as in `feed`; `out` is an exclusive borrow.
-        unsafe {
-            aecp_coder_take(&mut self.0, out.as_mut_ptr(), out.len(), &mut reply);
-        }
-        reply
+        replied(|reply| unsafe { aecp_coder_take(&mut self.0, out.as_mut_ptr(), out.len(), reply) })
     }
 }
 
@@ -487,32 +461,25 @@ impl Reader {
     pub fn open(options: &Options, count: u64, coded: &[u8]) -> (Reader, Reply) {
         assert_version();
         let mut reader = Reader(CHandle::empty());
-        let mut reply = Reply::default();
         let (at, len) = (coded.as_ptr(), coded.len());
         // SAFETY: the reader is AECP_READER, and no other thread has it; pointer and length are
         // those of a live slice, of which the library keeps a copy.
-        unsafe {
-            aecp_reader_open(options, count, at, len, &mut reader.0, &mut reply);
-        }
+        let reply = replied(|reply| unsafe {
+            aecp_reader_open(options, count, at, len, &mut reader.0, reply)
+        });
         (reader, reply)
     }
 
     pub fn next(&mut self, out: &mut [u8]) -> Reply {
-        let mut reply = Reply::default();
         // SAFETY: the reader is the library's own since `open`, and is borrowed exclusively, as
         // `out` is.
-        unsafe {
-            aecp_reader_next(&mut self.0, out.as_mut_ptr().cast(), out.len(), &mut reply);
-        }
-        reply
+        replied(|reply| unsafe {
+            aecp_reader_next(&mut self.0, out.as_mut_ptr().cast(), out.len(), reply)
+        })
     }
 
     pub fn go_to(&mut self, interval: u64) -> Reply {
-        let mut reply = Reply::default();
         // SAFETY: as in `next`.
-        unsafe {
-            aecp_reader_go_to(&mut self.0, interval, &mut reply);
-        }
-        reply
+        replied(|reply| unsafe { aecp_reader_go_to(&mut self.0, interval, reply) })
     }
 }
