@@ -7,7 +7,24 @@ use std::ffi::c_void;
 /// The version of the header that this file restates: 10,000, 100 and 1 times its three numbers.
 pub const VERSION: u32 = 10000;
 
+// The faults of `aecp.h`, except AECP_NOT_OPEN: this crate calls only with a handle, coder or
+// reader that is open.
 pub const OK: u32 = 0;
+pub const BITS_PER_SAMPLE: u32 = 1;
+pub const BLOCK_SIZE: u32 = 2;
+pub const INTERVAL: u32 = 3;
+pub const RESTRICTED_WIDTH: u32 = 4;
+pub const SAMPLE_RANGE: u32 = 5;
+pub const TRUNCATED: u32 = 6;
+pub const VALUE_TOO_LARGE: u32 = 7;
+pub const RUN_TOO_LONG: u32 = 8;
+pub const TOO_MANY_SAMPLES: u32 = 9;
+pub const OUT_OF_RANGE: u32 = 10;
+pub const SPENT: u32 = 11;
+pub const MEMORY: u32 = 12;
+pub const SCRIPT: u32 = 15;
+pub const STREAM_TOO_LONG: u32 = 16;
+pub const EVEN_BLOCK_SIZE: u32 = 17;
 pub const NO_ROOM: u32 = 18;
 
 /// A sample count that stands for all samples of a stream.
