@@ -23,6 +23,12 @@
 //!
 //! The contracts of the library's calls are proved. This crate is tested, not proved. A thread
 //! needs at least 32 KiB of stack.
+//!
+//! # Panics
+//! Each call that takes options, [`Options::bound`] too, panics if the linked `libaecp.a` has
+//! another major version than this crate, or an older minor one. Such a library may have other
+//! structures, or lack calls. Every call panics if the library returns a fault that this crate
+//! doesn't know.
 #![warn(missing_docs)]
 
 mod editing;
