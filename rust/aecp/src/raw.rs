@@ -3,6 +3,7 @@
 
 use std::cell::UnsafeCell;
 use std::ffi::c_void;
+use std::mem::size_of_val;
 
 /// The version of the header that this file restates: 10,000, 100 and 1 times its three numbers.
 pub const VERSION: u32 = 10000;
@@ -199,7 +200,8 @@ pub fn version() -> u32 {
     unsafe { aecp_version() }
 }
 
-/// Fails if the linked library's structures may differ from those of [`VERSION`], or if it lacks calls of that version.
+/// Fails if the linked library's structures may differ from those of [`VERSION`], or if it lacks
+/// calls of that version.
 fn assert_version() {
     let fits = version() / 10_000 == VERSION / 10_000 && version() / 100 >= VERSION / 100;
     assert!(fits, "libaecp.a has another version than the crate aecp");
@@ -306,15 +308,13 @@ pub fn text(reply: &Reply, out: &mut [u8]) -> usize {
 pub fn bytes_of<T: crate::Sample>(samples: &[T]) -> &[u8] {
     // SAFETY: `Sample` is sealed, and each type that has it is an integer: no padding, and each
     // byte is initialised.
-    unsafe { std::slice::from_raw_parts(samples.as_ptr().cast(), std::mem::size_of_val(samples)) }
+    unsafe { std::slice::from_raw_parts(samples.as_ptr().cast(), size_of_val(samples)) }
 }
 
 /// The same, to be filled.
 pub fn bytes_of_mut<T: crate::Sample>(samples: &mut [T]) -> &mut [u8] {
     // SAFETY: as in `bytes_of`; every pattern of bits is a value of an integer.
-    unsafe {
-        std::slice::from_raw_parts_mut(samples.as_mut_ptr().cast(), std::mem::size_of_val(samples))
-    }
+    unsafe { std::slice::from_raw_parts_mut(samples.as_mut_ptr().cast(), size_of_val(samples)) }
 }
 
 /// A handle with a workspace, or with none. Its calls take `&self`, since the type isn't `Sync`.
