@@ -22,10 +22,7 @@ import sys
 import tempfile
 from concurrent.futures import ProcessPoolExecutor
 
-from program import Tally
-
-HERE = os.path.dirname(os.path.abspath(__file__))
-TOP = os.path.join(HERE, "..")
+from program import TOP, Tally, add_case_options
 
 
 def try_scripts(tally, seed, numbers):
@@ -43,7 +40,8 @@ def try_scripts(tally, seed, numbers):
             change = scripts.change_of(first, second, options.storage)
             back = b"".join(scripts.difference(first, second, change, options))
             edits = scripts.judged(back, len(first) // options.storage, options)
-            tally.check(f"{what}: back {back[:99]}", (bytes(scripts.edited(bytearray(first), edits.edits, options)), edits.complaints), (second, []))
+            got = bytes(scripts.edited(bytearray(first), edits.edits, options))
+            tally.check(f"{what}: back {back[:99]}", (got, edits.complaints), (second, []))
         same = [a == b for a, b in zip(samples, wanted)]
         if len(samples) == len(wanted):
             tally.check(f"{what}: samples that changed", scripts.change_of(stored, after, options.storage).samples, same.count(False))
@@ -202,7 +200,8 @@ def try_rescue(tally, seed):
         found = reading.rescued(coded[:length], len(samples), options)
         tally.holds(settings.stored(samples).startswith(bytes(found.samples)), f"rescue {number}: other samples")
         more = refusal(lambda: aecp.decode_bytes(coded[:length], found.number + 1, options))
-        tally.holds(more is not None and len(found.samples) == 2 * found.number, f"rescue {number}: {found.number} of {len(samples)} aren't all")
+        is_all = more is not None and len(found.samples) == 2 * found.number
+        tally.holds(is_all, f"rescue {number}: {found.number} of {len(samples)} aren't all")
     pair = kept_file(FOLDERS[0], "rescued", samples)
     status, printed, _ = command(FOLDERS[0], "rescue", "rescued.aec")
     wanted = f"rescued.aec: all {len(samples)} samples are sound: their SHA-256 is that of the note\n"
@@ -239,9 +238,7 @@ def try_page(tally, _):
 def words():
     asked = argparse.ArgumentParser(description=__doc__)
     asked.add_argument("library", metavar="FOLDER")
-    asked.add_argument("--seed", type=int, default=121)
-    asked.add_argument("--cases", type=int, default=300, help="kept files; scripts by chance are a thousand in any case")
-    asked.add_argument("--only", type=int, help="the number of the one case to try")
+    add_case_options(asked, 300, "kept files; scripts by chance are a thousand in any case")
     return asked.parse_args()
 
 
@@ -271,13 +268,14 @@ def main():
         for part in [pool.submit(on_one_core, *it) for it in parts_of(asked)]:
             tally.add(part.result())
     tally.print()
-    sys.exit(tally.failed > 0)
+    return 1 if tally.failed else 0
 
 
 if __name__ == "__main__":
     if os.environ.get("AECP_LIBRARY") is None:
-        path = os.pathsep.join([os.path.abspath(os.path.join(TOP, "python")), HERE])
-        made = {"AECP_LIBRARY": os.path.abspath(os.path.join(sys.argv[1], "libaecp.so")), "PYTHONPATH": path, "PYTHONDONTWRITEBYTECODE": "1"}
+        path = os.pathsep.join([os.path.join(TOP, "python"), os.path.join(TOP, "tests")])
+        library = os.path.abspath(os.path.join(sys.argv[1], "libaecp.so"))
+        made = {"AECP_LIBRARY": library, "PYTHONPATH": path, "PYTHONDONTWRITEBYTECODE": "1"}
         sys.exit(subprocess.run([sys.executable, *sys.argv], env={**os.environ, **made}, check=False).returncode)
     import aecp
     import archive_stops
@@ -286,4 +284,4 @@ if __name__ == "__main__":
     from aecp.pairs import Pair
     from archive_files import USUAL, command, drawn_case, edited, kept_file, options_of, read, refusal, some_script, state, undone, walk
 
-    main()
+    sys.exit(main())

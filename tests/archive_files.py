@@ -7,6 +7,7 @@ import sys
 
 import script_model
 from damaged_cases import some_samples, some_settings
+from program import raised
 from settings import Settings
 
 from aecp import editing, keeping
@@ -94,11 +95,8 @@ def state(pair):
 
 def refusal(call):
     """Returns the text of what a call raises, None if it raises nothing."""
-    try:
-        call()
-    except Exception as fault:  # noqa: BLE001 - the caller checks which one it is
-        return f"{type(fault).__name__}: {fault}"
-    return None
+    fault = raised(call)
+    return None if fault is None else f"{type(fault).__name__}: {fault}"
 
 
 def command(folder, *words, given=None, **more):

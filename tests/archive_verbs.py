@@ -37,7 +37,12 @@ def try_names(tally, folder):
     count = len(ODD_NAMES) + 1
     status, printed, said = command(place, "keep", ".", "-n", "16", "--anyway")
     tally.check("odd names: kept", (status, printed.split(";")[0]), (0, f"{count} kept, 1 passed over"))
-    tally.check("odd names: said", said.splitlines(), ["aecp: ./README.txt: passed over: its name is that of a text (--include keeps it)", "aecp: ./link: a symbolic link, passed over", "aecp: ./odd: passed over: 3 bytes are no whole samples of 2"])
+    wanted = [
+        "aecp: ./README.txt: passed over: its name is that of a text (--include keeps it)",
+        "aecp: ./link: a symbolic link, passed over",
+        "aecp: ./odd: passed over: 3 bytes are no whole samples of 2",
+    ]
+    tally.check("odd names: said", said.splitlines(), wanted)
     status, printed, _ = command(place, "check", ".")
     tally.check("odd names: checked", (status, printed), (0, f"{count} checked, {count} sound, 0 damaged\n"))
     for name in ODD_NAMES:
@@ -76,7 +81,8 @@ def try_keep(tally, folder):
     ):
         status, _, said = command(place, "keep", *words)
         tally.holds(status == 1 and said.startswith(f"aecp: {wanted}"), f"keep {words}: {status} {said}")
-    for words in (["a.raw"], ["a.raw", "-n", "33"], ["a.raw", "-n", "16", "-j", "12"], ["-n", "16"], ["a.raw", "-n", "16", "--jobs", "0"], ["a.raw", "-n", "x"]):
+    bad = (["a.raw"], ["a.raw", "-n", "33"], ["a.raw", "-n", "16", "-j", "12"], ["-n", "16"])
+    for words in (*bad, ["a.raw", "-n", "16", "--jobs", "0"], ["a.raw", "-n", "x"]):
         tally.check(f"keep {words}", command(place, "keep", *words)[0], 2)
     tally.check("a stream that is larger", command(place, "keep", "noise", "-n", "16", "--anyway")[0], 0)
     os.utime(os.path.join(place, "a.raw"), (1, 1))
@@ -92,7 +98,8 @@ def try_keep(tally, folder):
     write(place, "d", data)
     write(place, "d.aec", b"mine")
     status, _, said = command(place, "keep", "d", "-n", "16")
-    tally.check("a stream of another", (status, said), (1, "aecp: d: d.aec exists, has no note, and isn't this file's code with -n 16 -j 16 -r 128: move it away\n"))
+    wanted = "aecp: d: d.aec exists, has no note, and isn't this file's code with -n 16 -j 16 -r 128: move it away\n"
+    tally.check("a stream of another", (status, said), (1, wanted))
     os.rename(os.path.join(place, "d.aec"), os.path.join(place, "away"))
     os.rename(os.path.join(place, "a.raw.aec.json"), os.path.join(place, "d.aec.json"))
     tally.check("a lone note", command(place, "keep", "d", "-n", "16")[0], 0)
@@ -136,7 +143,8 @@ def try_back(tally, folder):
     samples = walk(random.Random(6), 900)
     kept_file(place, "f", samples)
     data = USUAL.stored(samples)
-    ended = subprocess.run([sys.executable, "-m", "aecp", "back", "f.aec", "-", "--range", "5:3"], cwd=place, capture_output=True, check=False)
+    words = [sys.executable, "-m", "aecp", "back", "f.aec", "-", "--range", "5:3"]
+    ended = subprocess.run(words, cwd=place, capture_output=True, check=False)
     tally.check("back: a range", (ended.returncode, ended.stdout), (0, data[10:16]))
     tally.check("back: it exists", command(place, "back", "f.aec"), (1, "", "aecp: f.aec: f exists, and nothing is written over it\n"))
     tally.check("back: outside", command(place, "back", "f.aec", "new", "--range", "899:2")[0], 1)
@@ -146,7 +154,8 @@ def try_back(tally, folder):
     said = "plain.aec: not kept: there is neither a stream nor a note: `aecp keep` writes both\n1 checked, 0 sound, 1 damaged\n"
     tally.check("check: not kept", command(place, "check", "plain"), (1, said, ""))
     tally.check("back: no file", command(place, "back", "g.aec"), (1, "", "aecp: g.aec: there is no such file\n"))
-    tally.check("back: a name after options", (command(place, "back", "f.aec", "--range", "5:3", "late")[0], read(os.path.join(place, "late"))), (0, data[10:16]))
+    status = command(place, "back", "f.aec", "--range", "5:3", "late")[0]
+    tally.check("back: a name after options", (status, read(os.path.join(place, "late"))), (0, data[10:16]))
     tally.check("back: two names", command(place, "back", "f.aec", "--range", "5:3", "one", "two")[0], 2)
     tally.check("back: another name", (command(place, "back", "f.aec", "new")[0], read(os.path.join(place, "new"))), (0, data))
     quiet = subprocess.run(["sh", "-c", f'"{sys.executable}" -m aecp back f.aec - | true'], cwd=place, capture_output=True, check=False)
@@ -159,7 +168,8 @@ def try_back(tally, folder):
     write(place, "old.aec.note", lines.encode())
     tally.check("a note of keep.sh: checked", command(place, "check", "old.aec")[:2], (0, "1 checked, 1 sound, 0 damaged\n"))
     tally.check("a note of keep.sh: edited", command(place, "edit", "old.aec", "-", given=b"overwrite 0 1 2 3\n")[0], 0)
-    tally.check("a note of keep.sh: another note", [name for name in sorted(os.listdir(place)) if name.startswith("old")], ["old.aec", "old.aec.json"])
+    left = [name for name in sorted(os.listdir(place)) if name.startswith("old")]
+    tally.check("a note of keep.sh: another note", left, ["old.aec", "old.aec.json"])
     tally.check("a note of keep.sh: taken back", (command(place, "undo", "old.aec")[0], read(os.path.join(place, "old.aec"))), (0, stream))
 
 
@@ -173,10 +183,13 @@ def try_edits(tally, folder):
     write(place, "table.tsv", b"1\t2\t7\n0\t3\t5\n")
     for table in ("table.csv", "table.tsv"):
         tally.check(f"pixels {table}", command(place, "pixels", "--shape", "10x20", table), (0, "overwrite 3 5\noverwrite 22 7\n", ""))
-    tally.check("pixels: a frame", command(place, "pixels", "--shape", "10x20", "--frame", "2", "table.csv")[1], "overwrite 403 5\noverwrite 422 7\n")
+    script = command(place, "pixels", "--shape", "10x20", "--frame", "2", "table.csv")[1]
+    tally.check("pixels: a frame", script, "overwrite 403 5\noverwrite 422 7\n")
     tally.check("pixels: outside", command(place, "pixels", "--shape", "1x20", "table.csv")[0], 1)
-    tally.check("pixels: no table", command(place, "pixels", "--shape", "9x9", "-", given=b"1," + b"x" * 200000)[::2], (1, "aecp: -: it is no table of row, column and value\n"))
-    tally.check("pixels: other ends of lines", command(place, "pixels", "--shape", "9x9", "-", given=b"0,1,5\r0,2,6\r\n")[1], "overwrite 1 5\noverwrite 2 6\n")
+    ended = command(place, "pixels", "--shape", "9x9", "-", given=b"1," + b"x" * 200000)[::2]
+    tally.check("pixels: no table", ended, (1, "aecp: -: it is no table of row, column and value\n"))
+    script = command(place, "pixels", "--shape", "9x9", "-", given=b"0,1,5\r0,2,6\r\n")[1]
+    tally.check("pixels: other ends of lines", script, "overwrite 1 5\noverwrite 2 6\n")
     tally.check("pixels: a shape", command(place, "pixels", "--shape", "1", "table.csv")[0], 2)
     row, column = 0, 2
     status, _, said = command(place, "pixels", "--shape", "10x20", "-", given=f"{row},{column},7\n{row},{column},8\n1,x,2\n".encode())
@@ -194,7 +207,8 @@ def try_edits(tally, folder):
     status, _, said = command(place, "edit", "a.aec", "-", given=b"overwrite 0 1\nx\noverwrite 600 1\nappend\n")
     wanted = ["line 2: 'x' is none of overwrite, append, truncate, insert, remove", "line 3: place 600 is outside the 600 samples"]
     wanted += ["line 4: append has no value (--allow-empty takes such lines)"]
-    tally.check("edit: bad lines", (status, said.split("\n  ")), (1, ["aecp: a.aec: the script is refused, and nothing is changed:", *wanted[:2], wanted[2] + "\n"]))
+    lines = ["aecp: a.aec: the script is refused, and nothing is changed:", *wanted[:2], wanted[2] + "\n"]
+    tally.check("edit: bad lines", (status, said.split("\n  ")), (1, lines))
     tally.check("edit: nothing is changed", (read(os.path.join(place, "a.aec")), read(os.path.join(place, "a.aec.json"))), before)
     tally.check("edit: no script", command(place, "edit", "a.aec", "none"), (1, "", "aecp: none: No such file or directory\n"))
     tally.check("edit: no values", command(place, "edit", "a.aec", "-", "--allow-empty", given=b"append\n")[0], 0)
@@ -235,7 +249,14 @@ def try_view(tally, folder):
     tally.check("a PGM of a stream with no note", read(os.path.join(place, "o.pgm")), b"P5\n3 2\n255\n" + grey)
     command(place, "view", "s.aec", "p.pgm", "--width", "2", "--range", "1:2")
     tally.check("a part", read(os.path.join(place, "p.pgm")), b"P5\n2 1\n255\n\0\xff")
-    for more, wanted in ((["q.gif", "--width", "3"], 1), (["q.pgm", "--width", "0"], 2), (["q.pgm", "--width", "99999999"], 1), (["q.pgm", "--width", "3", "--range", "1:0"], 1), (["p.pgm", "--width", "2"], 1)):
+    bad = (
+        (["q.gif", "--width", "3"], 1),
+        (["q.pgm", "--width", "0"], 2),
+        (["q.pgm", "--width", "99999999"], 1),
+        (["q.pgm", "--width", "3", "--range", "1:0"], 1),
+        (["p.pgm", "--width", "2"], 1),
+    )
+    for more, wanted in bad:
         tally.check(f"view {more}", command(place, "view", "s.aec", *more)[0], wanted)
     tally.check("a picture refused", read(os.path.join(place, "p.pgm")), b"P5\n2 1\n255\n\0\xff")
 
@@ -251,7 +272,8 @@ def try_fit(tally, folder):
     tally.check("fit: their sizes", [it.bytes for it in found], [len(aecp.encode(stored, it.options)) for it in found])
     chosen = fitting.recommended(found)
     shorter = [it for it in found if it.options.block_size * it.options.interval < chosen.options.block_size * chosen.options.interval]
-    tally.holds(chosen.bytes <= found[0].bytes * 1.001 and all(it.bytes > found[0].bytes * 1.001 for it in shorter), f"fit recommends {chosen}")
+    most = found[0].bytes * 1.001
+    tally.holds(chosen.bytes <= most and all(it.bytes > most for it in shorter), f"fit recommends {chosen}")
     status, printed, _ = command(place, "fit", "walk", "-n", "12")
     tally.check("fit", (status, "recommended" in printed.splitlines()[1]), (0, True))
     write(place, "big", settings._replace(msb_first=True).stored(samples))
@@ -265,7 +287,13 @@ def try_fit(tally, folder):
     status, printed, _ = command(place, "fit", "--stream", "3000", "unknown", "-n", "12")
     first = [row.split()[2:] for row in printed.splitlines() if row.startswith("whole")][:1]
     tally.check("fit --stream", (status, first), (0, ["-n 12 -j 32 -r 8".split()]))
-    for words, wanted in ((["--stream", "0", "unknown"], 2), (["--stream", "9", "unknown", "-m"], 2), (["--stream", "999999", "unknown", "-n", "12"], 1), (["none"], 1)):
+    bad = (
+        (["--stream", "0", "unknown"], 2),
+        (["--stream", "9", "unknown", "-m"], 2),
+        (["--stream", "999999", "unknown", "-n", "12"], 1),
+        (["none"], 1),
+    )
+    for words, wanted in bad:
         tally.check(f"fit {words}", command(place, "fit", *words)[0], wanted)
 
 

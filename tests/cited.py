@@ -44,8 +44,8 @@ def main():
     judged = [(path, name, own) for path in judged for name, own in stated(texts[path])]
     found = [f"{path}: {name} is cited nowhere\n" for path, name, own in judged if named[name] <= own]
     print("".join(found) + f"{len(judged) - len(found)} passed, {len(found)} failed")
-    sys.exit(bool(found) or not judged)
+    return 1 if found or not judged else 0
 
 
 if __name__ == "__main__":
-    main()
+    sys.exit(main())

@@ -26,8 +26,8 @@ def main():
     paths = sorted(glob.glob(os.path.join(TOP, "crates", "*", "*must-fail", "*.edit")))
     found = [f"{os.path.relpath(path, TOP)}: {why}\n" for path in paths if (why := why_not(path))]
     print("".join(found) + f"{len(paths) - len(found)} passed, {len(found)} failed")
-    sys.exit(bool(found) or not paths)
+    return 1 if found or not paths else 0
 
 
 if __name__ == "__main__":
-    main()
+    sys.exit(main())

@@ -345,7 +345,8 @@ def main():
         os.mkdir(os.path.join(folder, "files"))
         program = Program(own, os.path.join(folder, "files"))
         groups = [try_devices, try_pipes, try_limits, try_permissions, try_folders, try_going_folders, try_one_file]
-        groups += [try_syncs, try_numbers, try_telling_jobs, try_standard_streams, try_closed_streams, try_streams_that_stay_closed, try_words_that_are_no_text]
+        groups += [try_syncs, try_numbers, try_telling_jobs, try_standard_streams, try_closed_streams, try_streams_that_stay_closed]
+        groups.append(try_words_that_are_no_text)
         for group in groups:
             group(program, tally)
     tally.print()

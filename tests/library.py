@@ -33,11 +33,10 @@ from library_buffers import try_buffers
 from library_edits import try_scripts
 from library_memory import try_freed, try_refusals, try_stacks
 from library_types import try_readme, try_types, try_version
-from program import Program, Tally
+from program import TOP, Program, Tally, add_case_options, numbers_of, raised
 from refusing import build, has_compiler, print_skipped
 from settings import STANDARD_BLOCK_SIZES, Settings
 
-TOP = os.path.join(os.path.dirname(os.path.abspath(__file__)), "..")
 THEIRS = os.environ.get("LIBAEC", "/usr/bin/aec")
 ALL, NO_ROOM, MEMORY = 2**64 - 1, 18, 12
 CALLS = {"bound", "decode", "encode", "range", "text", "open", "load", "close", "read", "write", "size", "calls",
@@ -268,19 +267,10 @@ def try_list(chance, work, samples, what, tally):
     work[part] = before[part]
     samples = before
     for key in (len(samples), -len(samples) - 1):
-        tally.holds(is_refused(IndexError, lambda: work[key]), f"{what}: [{key}]")
+        tally.holds(isinstance(raised(lambda: work[key]), IndexError), f"{what}: [{key}]")
     tally.check(f"{what}: a slice with steps", list(work[::-2]), samples[::-2])
     work.overwrite(0, samples)
     tally.check(f"{what}: as before", list(work), samples)
-
-
-def is_refused(fault, call):
-    """Returns whether a call raises this."""
-    try:
-        call()
-    except fault:
-        return True
-    return False
 
 
 def try_workspace(aecp, seed, number, tally):
@@ -312,9 +302,7 @@ def words():
     asked = argparse.ArgumentParser(description=__doc__)
     asked.add_argument("program")
     asked.add_argument("library", metavar="FOLDER")
-    asked.add_argument("--seed", type=int, default=121)
-    asked.add_argument("--cases", type=int, default=2000)
-    asked.add_argument("--only", type=int, help="the number of the one case to try")
+    add_case_options(asked, 2000)
     return asked.parse_args()
 
 
@@ -379,8 +367,7 @@ def main():
         if has_compiler():
             try_in_c(asked, folder, aecp, tally)
         theirs = Program(THEIRS, folder) if os.path.exists(THEIRS) else None
-        numbers = range(asked.cases) if asked.only is None else [asked.only]
-        for number in numbers:
+        for number in numbers_of(asked):
             try_case(aecp, Program(asked.program, folder), theirs, asked.seed, number, tally)
             if number % 8 == 0:
                 try_workspace(aecp, asked.seed, number, tally)
@@ -388,8 +375,8 @@ def main():
         tally.print()
     else:
         print_skipped(tally, len(ROWS) + len(REFUSED))
-    sys.exit(tally.failed > 0)
+    return 1 if tally.failed else 0
 
 
 if __name__ == "__main__":
-    main()
+    sys.exit(main())

@@ -16,10 +16,8 @@ import sys
 import tempfile
 
 import library_buffers
-from program import Program, Tally
+from program import TOP, Program, Tally
 
-HERE = os.path.dirname(os.path.abspath(__file__))
-TOP = os.path.dirname(HERE)
 TYPES = {"u1": 8, "i1": 8, "<u2": 16, ">i2": 12, "<u4": 32, ">u4": 24, "<i4": 20}
 
 
@@ -75,7 +73,8 @@ def try_szip(program, tally):
 
     path = program.file("sets.h5")
     keys = {"compression": "szip", "compression_opts": ("nn", 8)}
-    for name, shape, chunks in (("u1", (70, 33), (16, 33)), (">i2", (9, 20, 31), (4, 7, 31)), ("<i4", (40,), (40,)), ("<f8", (20, 30), (8, 16))):
+    sets = (("u1", (70, 33), (16, 33)), (">i2", (9, 20, 31), (4, 7, 31)), ("<i4", (40,), (40,)), ("<f8", (20, 30), (8, 16)))
+    for name, shape, chunks in sets:
         elements = (numpy.random.default_rng(7).integers(0, 9, shape).cumsum(-1) % 100).astype(name)
         with h5py.File(path, "w") as file:
             file.create_dataset("d", data=elements, chunks=chunks, **keys)
@@ -148,7 +147,7 @@ def main():
         try_numcodecs(tally)
         try_page(folder, tally)
     tally.print()
-    sys.exit(tally.failed > 0)
+    return 1 if tally.failed else 0
 
 
 if __name__ == "__main__":
@@ -157,10 +156,10 @@ if __name__ == "__main__":
         print("the module with numpy: no numpy here\n0 passed, 0 failed")
         sys.exit(0)
     if os.environ.get("AECP_LIBRARY") is None:
-        path = os.pathsep.join([os.path.join(TOP, "python"), HERE])
+        path = os.pathsep.join([os.path.join(TOP, "python"), os.path.join(TOP, "tests")])
         made = {"AECP_LIBRARY": os.path.abspath(os.path.join(sys.argv[2], "libaecp.so")), "PYTHONPATH": path}
         sys.exit(subprocess.run([found, *sys.argv], env={**os.environ, **made}, check=False).returncode)
     import aecp
     import numpy
 
-    main()
+    sys.exit(main())

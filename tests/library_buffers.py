@@ -5,6 +5,8 @@ is refused."""
 import array
 import sys
 
+from program import raised
+
 EIGHT, CODED = bytes(range(8)), bytes.fromhex("20092492")
 
 
@@ -22,11 +24,7 @@ def kinds_of(data):
 
 def is_refused(call, *given):
     """Returns whether a call refuses a buffer because of its type."""
-    try:
-        call(*given)
-    except TypeError:
-        return True
-    return False
+    return isinstance(raised(lambda: call(*given)), TypeError)
 
 
 def try_buffers(aecp, tally):
@@ -62,7 +60,8 @@ def try_arrays(aecp, numpy, tally):
     frozen = samples.copy()
     frozen.flags.writeable = False
     wide = numpy.repeat(samples, 2)
-    same = {"in three dimensions": samples.reshape(10, 3, 20), "frozen": frozen, "apart": wide[::2], "of the other order": samples.astype(">i2")}
+    same = {"in three dimensions": samples.reshape(10, 3, 20), "frozen": frozen, "apart": wide[::2]}
+    same["of the other order"] = samples.astype(">i2")
     for name, given in same.items():
         tally.check(f"an array {name}", aecp.encode(given, options), coded)
     turned = samples.reshape(20, 30).T

@@ -16,9 +16,7 @@ import subprocess
 import sys
 import tempfile
 
-from program import Tally
-
-TOP = os.path.join(os.path.dirname(os.path.abspath(__file__)), "..")
+from program import TOP, Tally
 
 PROGRAM = """
 #include <aecp.h>
@@ -136,8 +134,8 @@ def main():
         for lib in ("lib", "lib/x86_64-linux-gnu"):
             try_install(lib, version, tally)
     tally.print()
-    sys.exit(1 if tally.failed else 0)
+    return 1 if tally.failed else 0
 
 
 if __name__ == "__main__":
-    main()
+    sys.exit(main())

@@ -6,6 +6,7 @@ import copy
 import pickle
 import random
 
+from program import raised
 from script_cases import some_count, some_samples, some_script, some_settings
 from script_model import Refused, edited, edits_of
 
@@ -47,7 +48,8 @@ def try_kinds(aecp, tally):
     coded = aecp.encode(bytes(8), options)
     tally.check("text", aecp.edit(coded, 8, "truncate 3\nappend 1 2\n", options), (aecp.encode(b"\0\0\0\1\2", options), 5))
     tally.check("nothing", aecp.edit(b"", 0, "", options), (b"", 0))
-    for script, kind, place in (("rename 3", aecp.ScriptRefused, 1), ("append 256", aecp.SampleRefused, 0), ("remove 8 1", aecp.RangeRefused, 8)):
+    bad = (("rename 3", aecp.ScriptRefused, 1), ("append 256", aecp.SampleRefused, 0), ("remove 8 1", aecp.RangeRefused, 8))
+    for script, kind, place in bad:
         try:
             aecp.edit(coded, 8, script, options)
             tally.holds(False, f"{script}: not refused")
@@ -121,11 +123,8 @@ def try_intervals(aecp, seed, number, tally):
 
 def fault_of(call):
     """Returns the number and the place of a call's fault, None if there is none."""
-    try:
-        call()
-    except Exception as fault:
-        return getattr(fault, "number", type(fault)), getattr(fault, "place", None)
-    return None
+    fault = raised(call)
+    return None if fault is None else (getattr(fault, "number", type(fault)), getattr(fault, "place", None))
 
 
 def try_cut_intervals(aecp, tally):

@@ -1,7 +1,6 @@
 """Tests memory and stack of the library, for library.py: each growth of a call refused, the blocks that calls don't free, and the stack
 that a thread needs. C programs make the calls; for the first two, the library of refusing.py is loaded before the C library."""
 
-import os
 import re
 
 from program import Program

@@ -11,8 +11,8 @@ FOLDER contains libaecp.so. Tests in turn
   - a missing or other library: an ImportError of one line;
   - mypy --strict, if it is installed: it must find nothing.
 
-Continues in the interpreter that library_arrays.py takes, if one has numpy. Prints the checks that fail and, last, how many passed. Ends with
-status 1 if one failed.
+Continues in the interpreter that library_arrays.py takes, if one has numpy. Prints the checks that fail and, last, how many passed. Ends
+with status 1 if one failed.
 """
 
 import argparse
@@ -29,10 +29,9 @@ import tempfile
 import threading
 
 from library_arrays import interpreter
-from library_refusals import raised, try_refusals
-from program import Tally
+from library_refusals import try_refusals
+from program import TOP, Tally, add_case_options, numbers_of, raised
 
-TOP = os.path.join(os.path.dirname(os.path.abspath(__file__)), "..")
 THREADS, ROUNDS = 8, 150
 
 
@@ -96,7 +95,8 @@ def try_threads(tally):
 def try_copies(tally):
     options = aecp.Options(12, signed=True)
     work = aecp.Workspace(options, range(-50, 50))
-    ways = {"copy": copy.copy, "deepcopy": copy.deepcopy, "method": aecp.Workspace.copy, "pickle": lambda it: pickle.loads(pickle.dumps(it))}
+    ways = {"copy": copy.copy, "deepcopy": copy.deepcopy, "method": aecp.Workspace.copy}
+    ways["pickle"] = lambda it: pickle.loads(pickle.dumps(it))
     for name, way in ways.items():
         other = way(work)
         tally.check(f"{name}: the same samples", (other == work, other.options), (True, options))
@@ -125,17 +125,20 @@ def try_types(tally):
     """Tests what isn't a whole number, alone and in lists, and what is."""
     options = aecp.Options(16)
     wrong = [bytes(8), bytearray(8), memoryview(bytes(8)), "12345678", True, 1.0, None, [1, True], [1.5], ["1"], array.array("d", [1.0])]
-    right = {"array": array.array("H", [1, 2]), "list": [1, 2], "tuple": (1, 2), "iterator": iter([1, 2]), "range": range(1, 3), "dict": {1: 0, 2: 0}}
+    right = {"array": array.array("H", [1, 2]), "list": [1, 2], "tuple": (1, 2)}
+    right.update({"iterator": iter([1, 2]), "range": range(1, 3), "dict": {1: 0, 2: 0}})
     if numpy is not None:
-        wrong += [numpy.ones(2), numpy.ones(2, bool), numpy.ma.masked_array([1, 2], [0, 1]), numpy.ones((2, 2), int), numpy.float32(1), numpy.bool_(1), [numpy.bool_(1)]]
+        wrong += [numpy.ones(2), numpy.ones(2, bool), numpy.ma.masked_array([1, 2], [0, 1]), numpy.ones((2, 2), int)]
+        wrong += [numpy.float32(1), numpy.bool_(1), [numpy.bool_(1)]]
         right.update({f"numpy {name}": numpy.array([1, 2], name) for name in ("u1", "<u2", ">u2", "<i4", ">i8", "u8")})
         right.update({"apart": numpy.array([1, 0, 2, 0])[::2], "numpy numbers": list(numpy.array([1, 2], "u2"))})
         frozen = numpy.array([1, 2])
         frozen.flags.writeable = False
         right["frozen"] = frozen
     with aecp.Workspace(options, [9]) as work:
+        calls = (work.append, lambda it: work.insert(0, it), lambda it: work.overwrite(0, it), lambda it: aecp.Workspace(options, it))
         for samples in wrong:
-            for call in (work.append, lambda it: work.insert(0, it), lambda it: work.overwrite(0, it), lambda it: aecp.Workspace(options, it)):
+            for call in calls:
                 tally.holds(isinstance(raised(lambda: call(samples)), TypeError), f"{samples!r} is taken")
         for samples in (True, 1.0, "1", None):
             tally.holds(isinstance(raised(lambda: work.__setitem__(0, samples)), TypeError), f"{samples!r} is set")
@@ -147,11 +150,19 @@ def try_types(tally):
         work.append(numpy.uint8(3) if numpy is not None else 3)
         tally.check("a single number", list(work), [9, 3])
         tally.holds(isinstance(raised(lambda: work.append(2**63)), OverflowError), "a number of 65 bits")
-    for given in ({"bits": "16"}, {"bits": 16.0}, {"bits": True}, {"bits": 8, "signed": "no"}, {"bits": 8, "pad": 1}, {"bits": 8, "interval": None}):
+    for given in (
+        {"bits": "16"},
+        {"bits": 16.0},
+        {"bits": True},
+        {"bits": 8, "signed": "no"},
+        {"bits": 8, "pad": 1},
+        {"bits": 8, "interval": None},
+    ):
         tally.holds(isinstance(raised(lambda: aecp.Options(**given)), TypeError), f"options {given}")
     tally.holds(isinstance(raised(lambda: aecp.decode_bytes(b"", True, options)), TypeError), "a count that is a bool")
     if numpy is not None:
-        tally.holds(isinstance(raised(lambda: aecp.encode(numpy.ma.masked_array([1], dtype="<u2"), options)), TypeError), "an array with a mask is coded")
+        mask = numpy.ma.masked_array([1], dtype="<u2")
+        tally.holds(isinstance(raised(lambda: aecp.encode(mask, options)), TypeError), "an array with a mask is coded")
         tally.check("numpy's options", aecp.Options(numpy.int64(8)), aecp.Options(8))
 
 
@@ -263,7 +274,8 @@ def try_out(tally):
     back = aecp.decode(coded, 100, options, out=made)
     tally.holds((made[:100] == array_of).all() and back.base is not None and len(back) == 100, "out is an array")
     for dtype in ("<i2", ">u2", "u1"):
-        tally.holds(isinstance(raised(lambda: aecp.decode(coded, 100, options, out=numpy.zeros(200, dtype))), TypeError), f"out is of {dtype}")
+        wrong = numpy.zeros(200, dtype)
+        tally.holds(isinstance(raised(lambda: aecp.decode(coded, 100, options, out=wrong)), TypeError), f"out is of {dtype}")
     tally.holds((numpy.asarray(aecp.Workspace(options, array_of)) == array_of).all(), "a workspace as an array")
 
 
@@ -301,7 +313,8 @@ def try_imports(tally, folder):
     with open(empty, "wb"):
         pass
     for name in (os.path.join(folder, "none.so"), empty, "libc.so.6"):
-        ended = subprocess.run([sys.executable, "-c", "import aecp"], env={**os.environ, "AECP_LIBRARY": name}, capture_output=True, text=True, check=False)
+        given = {**os.environ, "AECP_LIBRARY": name}
+        ended = subprocess.run([sys.executable, "-c", "import aecp"], env=given, capture_output=True, text=True, check=False)
         lines = [line for line in ended.stderr.splitlines() if re.match(r"\w+Error: |During|The above", line)]
         is_so = len(lines) == 1 and lines[0].startswith(f"ImportError: aecp can't use the library {name}: ")
         tally.holds(is_so, f"the library {name}: {ended.stderr}")
@@ -332,9 +345,7 @@ def try_mypy(tally):
 def words():
     asked = argparse.ArgumentParser(description=__doc__)
     asked.add_argument("library", metavar="FOLDER")
-    asked.add_argument("--seed", type=int, default=121)
-    asked.add_argument("--cases", type=int, default=400)
-    asked.add_argument("--only", type=int, help="the number of the one case to try")
+    add_case_options(asked, 400)
     return asked.parse_args()
 
 
@@ -348,14 +359,14 @@ def main():
     try_memory(tally)
     try_out(tally)
     try_undone(tally)
-    for number in range(asked.cases) if asked.only is None else [asked.only]:
+    for number in numbers_of(asked):
         try_lists(tally, asked.seed, number)
     with tempfile.TemporaryDirectory() as folder:
         try_imports(tally, folder)
     try_version(tally)
     try_mypy(tally)
     tally.print()
-    sys.exit(tally.failed > 0)
+    return 1 if tally.failed else 0
 
 
 if __name__ == "__main__":
@@ -369,4 +380,4 @@ if __name__ == "__main__":
         import numpy
     except ImportError:
         numpy = None
-    main()
+    sys.exit(main())

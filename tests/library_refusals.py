@@ -5,16 +5,9 @@ import array
 import ctypes
 import struct
 
+from program import raised
+
 TAKEN = "samples must be bytes, or an array of uint16 (options.dtype), not "
-
-
-def raised(call):
-    """Returns the exception that a call raises, or None."""
-    try:
-        call()
-    except Exception as fault:  # noqa: BLE001 - the caller checks which one it is
-        return fault
-    return None
 
 
 def check_refused(tally, call, text):

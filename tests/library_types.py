@@ -6,9 +6,7 @@ import re
 import shutil
 import subprocess
 
-from program import Program
-
-TOP = os.path.join(os.path.dirname(os.path.abspath(__file__)), "..")
+from program import TOP, Program
 
 PROGRAM = """
 #include <aecp.h>

@@ -1,9 +1,10 @@
 #!/usr/bin/env python3
 """Checks the limits of the house: limits.py [FOLDER]
 
-Prints each place of the crates, and each script of too many lines, that breaks a limit; what is wrong with the pages that are written by
-hand (page_limits.py: words, text in two pages, links); copies of a file that differ; and each exception that nothing needs. The last
-line counts the files that keep the limits, and the failures. Ends with status 1 if something failed.
+Prints each place of the crates, each script of too many lines, and each line of tests/ and tools/ of too many columns, that breaks a
+limit; what is wrong with the pages that are written by hand (page_limits.py: words, text in two pages, links); copies of a file that
+differ; and each exception that nothing needs. The last line counts the files that keep the limits, and the failures. Ends with status 1
+if something failed.
 
 Exempt are what the formatter puts on one line (`use`, attributes) and the rows of a table within a text.
 """
@@ -21,6 +22,7 @@ TOP = os.path.abspath(sys.argv[1] if len(sys.argv) > 1 else os.path.join(os.path
 CODE, DEFINITIONS = 400, 150  # lines of a file
 TEXT = 100  # columns of code, clauses and comments
 SPEC, PROOF = 120, 160  # columns of a definition, of a proof
+SCRIPT, SCRIPTS = 140, ("tests/", "tools/")  # columns of a script in Python, and the folders of those that keep to them
 BODY, DEFINITION, ANSWER = 40, 20, 20  # lines
 NAMES = 40  # of one `use`
 COPIES = ("asserts.rt", "tables.rt")  # crates of tests have copies of these, so that none waits for another's proof
@@ -36,7 +38,10 @@ ALLOWED = {
     ("crates/aec_edit/src/workspace.rt", "ghost written:"): "the formatter puts it on one line",
     ("crates/aec_block/proofs/reading/values/read_pairs/Answers.antt", "loop-i-preserved"): "one record, a line for each member",
     ("crates/aec_edit/proofs/workspace/Workspace/code_fresh/Answers.antt", "loop-left-preserved"): "one record, a line for each member",
-    ("crates/aec_interval/proofs/interval/write_known_intervals/Answers.antt", "loop-chunk-preserved"): "one record, a line for each member",
+    (
+        "crates/aec_interval/proofs/interval/write_known_intervals/Answers.antt",
+        "loop-chunk-preserved",
+    ): "one record, a line for each member",
     (
         "crates/aec_interval/proofs/interval/write_known_intervals/Answers.antt",
         "loop-chunk-preserved-then-place-interval",
@@ -83,6 +88,10 @@ def wide_lines(path, lines):
             is_comment = line.lstrip().startswith("--")
             most = TEXT if is_comment else SPEC if "/specs/" in path else PROOF
             if len(line) > most and not USE.match(line):
+                yield Place(path, number, f"{len(line)} columns", line.strip())
+    elif path.endswith(".py") and path.startswith(SCRIPTS):
+        for number, line in enumerate(lines, 1):
+            if len(line) > SCRIPT:
                 yield Place(path, number, f"{len(line)} columns", line.strip())
 
 
@@ -178,8 +187,8 @@ def main():
     print("".join(f"{wrong}\n" for wrong in wrongs), end="")
     passed, failed = passed + max(pages - len(wrongs), 0), failed + len(wrongs)
     print(f"{passed} passed, {failed} failed")
-    sys.exit(failed > 0)
+    return 1 if failed else 0
 
 
 if __name__ == "__main__":
-    main()
+    sys.exit(main())

@@ -22,10 +22,11 @@ import tempfile
 import time
 import zipfile
 
-HERE = os.path.dirname(os.path.abspath(__file__))
-TOP = os.path.dirname(HERE)
-sys.path.insert(0, os.path.join(TOP, "packaging"))
 sys.dont_write_bytecode = True
+
+from program import TOP, Tally
+
+sys.path.insert(0, os.path.join(TOP, "packaging"))
 
 import elf
 import package_modules
@@ -33,7 +34,6 @@ import package_roots
 import proved
 import stage
 import wheel
-from program import Tally
 
 DIST = os.path.join(TOP, "dist")
 LIB = "usr/lib/x86_64-linux-gnu"

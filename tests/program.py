@@ -6,6 +6,8 @@ import subprocess
 import tempfile
 from concurrent.futures import ProcessPoolExecutor
 
+# The folder of the repository.
+TOP = os.path.dirname(os.path.dirname(os.path.abspath(__file__)))
 SECONDS = 20
 
 
@@ -49,6 +51,18 @@ class Program:
         return None if status is None else self.read("dest")
 
 
+def add_case_options(parser, cases, what=None):
+    """Adds the options of a test with random cases: the seed, how many cases there are (`what` says of what), or the one to try."""
+    parser.add_argument("--seed", type=int, default=121)
+    parser.add_argument("--cases", type=int, default=cases, help=what)
+    parser.add_argument("--only", type=int, help="the number of the one case to try")
+
+
+def numbers_of(asked):
+    """Returns the numbers of the cases that these options ask for."""
+    return range(asked.cases) if asked.only is None else [asked.only]
+
+
 def asked_of(description, cases, other=False):
     """Parses the arguments of a test with random cases: the program, another one if two are compared, the seed, and the numbers
     of the cases. Prints the seed and how many cases there are."""
@@ -56,11 +70,9 @@ def asked_of(description, cases, other=False):
     words.add_argument("program")
     if other:
         words.add_argument("other")
-    words.add_argument("--seed", type=int, default=121)
-    words.add_argument("--cases", type=int, default=cases)
-    words.add_argument("--only", type=int, help="the number of the one case to try")
+    add_case_options(words, cases)
     asked = words.parse_args()
-    asked.numbers = range(asked.cases) if asked.only is None else [asked.only]
+    asked.numbers = numbers_of(asked)
     print(f"seed {asked.seed}, {len(asked.numbers)} cases", flush=True)
     return asked
 
@@ -110,6 +122,15 @@ def short(it):
     """Returns a text for what was found or wanted, cut if it is long."""
     text = it.hex(" ") if isinstance(it, bytes) else repr(it)
     return text if len(text) <= 200 else f"{text[:200]}.. ({len(text)} characters)"
+
+
+def raised(call):
+    """Returns the exception that a call raises, or None."""
+    try:
+        call()
+    except Exception as fault:  # noqa: BLE001 - the caller checks which one it is
+        return fault
+    return None
 
 
 def said(message):

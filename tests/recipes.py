@@ -17,11 +17,9 @@ import subprocess
 import sys
 import tempfile
 
-from program import Program, Tally, asked_of
+from program import TOP, Program, Tally, asked_of
 from recipe_calls import EXAMPLES, hiding
 
-HERE = os.path.dirname(os.path.abspath(__file__))
-TOP = os.path.dirname(HERE)
 PAGE = os.path.join(TOP, "docs", "RECIPES.md")
 LIBRARY = os.path.join(TOP, "bin", "libaecp.so")
 SAMPLES = "/usr/share/eccodes/ifs_samples/grib1_mlgrib2_ccsds"
@@ -41,7 +39,7 @@ def interpreter_with(module, environment=None):
 
 def begun(python, name, asked, environment=None):
     """Starts a test in a process of its own, with the same seed and cases."""
-    words = [python, os.path.join(HERE, name), asked.program]
+    words = [python, os.path.join(TOP, "tests", name), asked.program]
     words += ["--seed", str(asked.seed), "--cases", str(asked.cases)]
     words += [] if asked.only is None else ["--only", str(asked.only)]
     pipes = {"stdout": subprocess.PIPE, "stderr": subprocess.STDOUT, "text": True}

@@ -26,10 +26,10 @@ import tempfile
 from concurrent.futures import ThreadPoolExecutor
 from typing import NamedTuple
 
-from program import Program, Tally
+from program import TOP, Program, Tally
 from refusing import Growths, build, has_compiler, print_skipped, ways
 
-ROWS = os.path.join(os.path.dirname(__file__), "..", "crates", "aec_memory_tests", "stdout")
+ROWS = os.path.join(TOP, "crates", "aec_memory_tests", "stdout")
 WANT = "out of memory"
 # The calls that go on without one growth, in order: the one that makes room in advance, and those that apply a script's overwrite.
 GOING_ON = ["encode_bytes", "edit", "perform --edit script source dest"]

@@ -16,12 +16,10 @@ import re
 import sys
 import tempfile
 
-from program import Program, Tally, asked_of, said, short
+from program import TOP, Program, Tally, asked_of, said, short
 from script_cases import some_count, some_samples, some_script, some_settings
 from script_examples import BAD_LINES, EXAMPLES, SKIPPED_LINES, ZEROS
 from script_model import Refused, edited, edits_of
-
-TOP = os.path.join(os.path.dirname(os.path.abspath(__file__)), "..")
 
 
 def try_example(example, program, tally):

@@ -16,7 +16,7 @@ import sys
 import tempfile
 
 from jobs import JOBS, LARGE_JOBS
-from program import SECONDS, Program, Tally, said
+from program import SECONDS, Program, Tally
 
 KIB, MIB = 1024, 1024 * 1024
 STEP = 4 * KIB  # a page

@@ -16,9 +16,8 @@ import tempfile
 
 sys.path.insert(0, os.path.dirname(os.path.abspath(__file__)))
 
-from program import Program, Tally
+from program import TOP, Program, Tally
 
-TOP = os.path.join(os.path.dirname(os.path.abspath(__file__)), "..")
 EXAMPLE = re.compile(r"^- (?:without options|`(-[^`]*)`)(?: with `([^`]*)`)?: `([0-9A-F ]+)` becomes `([0-9A-F ]+)`\.$", re.M)
 
 

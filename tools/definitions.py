@@ -19,7 +19,7 @@ import os
 import re
 import sys
 
-from sources import TOP, all_crates, files_below, text_of
+from sources import TOP, all_crates, ended, files_below, text_of, write_or_compare
 from theorem import DECLARED, Library, Word
 
 PAGE = "docs/DEFINITIONS.md"
@@ -198,16 +198,11 @@ def written_page():
 
 def main():
     page, wrongs, counts = written_page()
-    if sys.argv[1:] == ["--check"]:
-        if not os.path.exists(os.path.join(TOP, PAGE)) or text_of(PAGE) != page:
-            wrongs.append(f"{PAGE} isn't what `make pages` writes")
-    else:
-        with open(os.path.join(TOP, PAGE), "w", encoding="utf-8") as file:
-            file.write(page)
+    is_check = sys.argv[1:] == ["--check"]
+    wrongs += write_or_compare(PAGE, page, "make pages", is_check)
+    if not is_check:
         print(f"{PAGE}: {counts[0]} definitions that public contracts cite, {counts[1]} that laws alone cite, {counts[2]} others")
-    print("".join(f"FAILED: {wrong}\n" for wrong in wrongs), end="")
-    print(f"{sum(counts)} passed, {len(wrongs)} failed")
-    return 1 if wrongs else 0
+    return ended(sum(counts), wrongs)
 
 
 if __name__ == "__main__":

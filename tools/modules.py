@@ -14,7 +14,7 @@ import os
 import re
 import sys
 
-from sources import TOP, all_crates, exports_of, files_below, module_of, text_of
+from sources import TOP, all_crates, ended, exports_of, files_below, module_of, text_of, write_or_compare
 
 NOTE = "<!-- Written by `make pages` from the comments of the modules. -->\n"
 OF_TESTS = "<!-- Written by `make pages` from the comments of the crates of tests. -->\n"
@@ -116,14 +116,8 @@ def main():
     wrongs += [f"no {readme_of(it)}" for it in crates if not (has_readme(it) or it.name.endswith(TESTS))]
     pages[PAGE] = tests_written(crates, wrongs)
     for path, page in pages.items():
-        if sys.argv[1:] != ["--check"]:
-            with open(os.path.join(TOP, path), "w", encoding="utf-8") as file:
-                file.write(page)
-        elif text_of(path) != page:
-            wrongs.append(f"{path} isn't what `make pages` writes")
-    print("".join(f"FAILED: {wrong}\n" for wrong in wrongs), end="")
-    print(f"{len(pages)} passed, {len(wrongs)} failed")
-    return 1 if wrongs else 0
+        wrongs += write_or_compare(path, page, "make pages", sys.argv[1:] == ["--check"])
+    return ended(len(pages), wrongs)
 
 
 if __name__ == "__main__":

@@ -33,7 +33,7 @@ import re
 import sys
 from typing import NamedTuple
 
-from sources import TOP, all_crates, edits_of, files_below, text_of
+from sources import TOP, all_crates, edits_of, ended, files_below, text_of, write_or_compare
 
 PAGE = "docs/PROOFS.md"
 FRAME = "docs/claims.txt"
@@ -315,15 +315,8 @@ def main():
     names.judge_rest()
     names.judge_guards()
     names.judge_gate()
-    if sys.argv[1:] == ["--check"]:
-        if not os.path.exists(os.path.join(TOP, PAGE)) or text_of(PAGE) != page:
-            names.wrongs.append(f"{PAGE} isn't what `make pages` writes")
-    else:
-        with open(os.path.join(TOP, PAGE), "w", encoding="utf-8") as file:
-            file.write(page)
-    print("".join(f"FAILED: {wrong}\n" for wrong in names.wrongs), end="")
-    print(f"{len(names.named)} passed, {len(names.wrongs)} failed")
-    return 1 if names.wrongs else 0
+    names.wrongs += write_or_compare(PAGE, page, "make pages", sys.argv[1:] == ["--check"])
+    return ended(len(names.named), names.wrongs)
 
 
 if __name__ == "__main__":

@@ -1,4 +1,5 @@
-"""Reads the sources of the crates: functions, the names of their clauses, must-fail edits."""
+"""Reads the sources of the crates: functions, the names of their clauses, must-fail edits. Also writes or compares the page of a
+script, and prints how the script ended."""
 
 import os
 import re
@@ -119,3 +120,20 @@ def edits_of(crate, folders=("must-fail", "more-must-fail")):
     """Returns the names of the must-fail edits of a crate."""
     paths = [it for folder in folders for it in files_below(f"crates/{crate}/{folder}", ".edit")]
     return [os.path.basename(path).removesuffix(".edit") for path in paths]
+
+
+def write_or_compare(path, page, command, is_check):
+    """Writes a page, or if `is_check` compares it with the one that is there. Returns the messages of what is wrong, at most one."""
+    if not is_check:
+        with open(os.path.join(TOP, path), "w", encoding="utf-8") as file:
+            file.write(page)
+    elif not os.path.exists(os.path.join(TOP, path)) or text_of(path) != page:
+        return [f"{path} isn't what `{command}` writes"]
+    return []
+
+
+def ended(passed, wrongs):
+    """Prints what is wrong, and last the counts. Returns the status of the script."""
+    print("".join(f"FAILED: {wrong}\n" for wrong in wrongs), end="")
+    print(f"{passed} passed, {len(wrongs)} failed")
+    return 1 if wrongs else 0

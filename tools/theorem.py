@@ -15,7 +15,7 @@ import re
 import sys
 from typing import NamedTuple
 
-from sources import OWNER, TOP, files_below, text_of
+from sources import OWNER, TOP, ended, files_below, text_of, write_or_compare
 
 FOLDER = "docs/theorems"
 NOTE = "<!-- Written by `make theorem`. -->\n\n"
@@ -300,12 +300,9 @@ def write_pages(is_check):
         path = f"{FOLDER}/{file}.md"
         page, counts, silent = page_of(*theorem)
         wrongs += [f"{path}: {name} has no sentence" for name in silent]
+        wrongs += write_or_compare(path, page, "make theorem", is_check)
         if not is_check:
             print(f"{path}: {counts}")
-            with open(os.path.join(TOP, path), "w", encoding="utf-8") as out:
-                out.write(page)
-        elif not os.path.exists(os.path.join(TOP, path)) or text_of(path) != page:
-            wrongs.append(f"{path} isn't what `make theorem` writes")
     return wrongs
 
 
@@ -316,9 +313,7 @@ def main():
         print(page_of(crate, name, asked[1:], asked[0])[0], end="")
         return 0
     wrongs = write_pages("--check" in sys.argv)
-    print("".join(f"FAILED: {wrong}\n" for wrong in wrongs), end="")
-    print(f"{max(len(PAGES) - len(wrongs), 0)} passed, {len(wrongs)} failed")
-    return 1 if wrongs else 0
+    return ended(max(len(PAGES) - len(wrongs), 0), wrongs)
 
 
 if __name__ == "__main__":

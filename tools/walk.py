@@ -17,7 +17,7 @@ import sys
 from collections import deque
 from typing import NamedTuple
 
-from sources import all_crates, text_of
+from sources import all_crates, ended, text_of
 
 
 class Way(NamedTuple):
@@ -33,21 +33,22 @@ LIBRARIES = ("aec_params", "aec_bits", "aec_block", "aec_interval", "aec_edit", 
 WAYS = [
     Way(
         "A coded sample, of a whole block that is split",
-        ["aec_engine::engine::coding::encode", "StreamCoder::feed", "pieces::take_part", "shortest::write_shortest_of", "writing::put_split",
-         "writing::put_low_groups", "Gathered::put", "packed::push_reserved_number"],
+        ["aec_engine::engine::coding::encode", "StreamCoder::feed", "pieces::take_part", "shortest::write_shortest_of",
+         "writing::put_split", "writing::put_low_groups", "Gathered::put", "packed::push_reserved_number"],
         22,
         11,
     ),
     Way(
         "A decoded sample, of a block read at once",
-        ["aec_engine::engine::decoding::decode", "StreamReader::next_few", "reading::plain::fill_plain_blocks", "plain::read_plain", "BitReader::read_sequences", "BitBuf::word_from"],
+        ["aec_engine::engine::decoding::decode", "StreamReader::next_few", "reading::plain::fill_plain_blocks", "plain::read_plain",
+         "BitReader::read_sequences", "BitBuf::word_from"],
         20,
         11,
     ),
     Way(
         "A line of a script, an overwrite",
-        ["aec_engine::engine::editing::edit", "Workspace::apply", "Workspace::overwrite", "Codec::code", "shortest::write_shortest_of", "writing::put_split",
-         "writing::put_low_groups", "Gathered::put", "packed::push_reserved_number"],
+        ["aec_engine::engine::editing::edit", "Workspace::apply", "Workspace::overwrite", "Codec::code", "shortest::write_shortest_of",
+         "writing::put_split", "writing::put_low_groups", "Gathered::put", "packed::push_reserved_number"],
         30,
         14,
     ),
@@ -73,14 +74,13 @@ def bodies(path, functions):
         yield one, re.sub(r'"[^"\n]*"', "", text)
 
 
-class House:
+class CallGraph:
     """The functions of the crates, and which functions each one calls."""
 
     def __init__(self):
         crates = all_crates()
-        self.functions = [
-            one for crate in crates.values() if not crate.name.endswith(("_tests", "_example")) for one in crate.functions if not one.is_test
-        ]
+        judged = [crate for crate in crates.values() if not crate.name.endswith(("_tests", "_example"))]
+        self.functions = [one for crate in judged for one in crate.functions if not one.is_test]
         self.impls = {pair for crate in crates.values() for pair in crate.impls if pair[0]}
         self.by_name = {}
         for one in self.functions:
@@ -138,10 +138,10 @@ class House:
         return found
 
 
-def way_through(house, way):
-    chain = [house.find(MAIN)]
+def way_through(graph, way):
+    chain = [graph.find(MAIN)]
     for part in way.through:
-        piece = house.chain(chain[-1], house.find(part))
+        piece = graph.chain(chain[-1], graph.find(part))
         if not piece:
             sys.exit(f"FAILED: no calls lead from {chain[-1].path()} to {part}")
         chain += piece[1:]
@@ -154,9 +154,9 @@ def clauses_of(crate):
 
 
 def main():
-    house, wrongs = House(), []
+    graph, wrongs = CallGraph(), []
     for way in WAYS:
-        chain = way_through(house, way)
+        chain = way_through(graph, way)
         files = list(dict.fromkeys(one.file for one in chain))
         if sys.argv[1:] != ["--check"]:
             print(f"{way.what}: {len(chain) - 1} calls, {len(files)} files")
@@ -168,9 +168,7 @@ def main():
         for name in LIBRARIES:
             clauses, functions = clauses_of(crates[name])
             print(f"{name}: {clauses / functions:.2f} clauses a function ({clauses} of {functions})")
-    print("".join(f"FAILED: {wrong}\n" for wrong in wrongs), end="")
-    print(f"{len(WAYS) - len(wrongs)} passed, {len(wrongs)} failed")
-    return 1 if wrongs else 0
+    return ended(len(WAYS) - len(wrongs), wrongs)
 
 
 if __name__ == "__main__":

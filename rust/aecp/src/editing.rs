@@ -63,7 +63,7 @@ pub fn edit(
             }
             raw::NO_ROOM if told.reply.len > room => room = told.reply.len,
             _ => {
-                let line = if told.line == 0 { None } else { Some(told.line) };
+                let line = (told.line != 0).then_some(told.line);
                 return Err(EditError { line, error: Error::of(told.reply) });
             }
         }

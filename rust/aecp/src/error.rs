@@ -55,11 +55,11 @@ impl Error {
             Error::Options { number }
             | Error::Stream { number, .. }
             | Error::Limit { number, .. } => number,
-            Error::Sample { .. } => 5,
-            Error::Range { .. } => 10,
-            Error::Spent => 11,
-            Error::Memory => 12,
-            Error::Script { .. } => 15,
+            Error::Sample { .. } => raw::SAMPLE_RANGE,
+            Error::Range { .. } => raw::OUT_OF_RANGE,
+            Error::Spent => raw::SPENT,
+            Error::Memory => raw::MEMORY,
+            Error::Script { .. } => raw::SCRIPT,
             Error::ElementType => raw::OK,
         }
     }
@@ -80,14 +80,20 @@ impl Error {
     pub(crate) fn of(reply: raw::Reply) -> Error {
         let (number, place) = (reply.fault, reply.place);
         match number {
-            1..=4 | 17 => Error::Options { number },
-            5 => Error::Sample { index: place },
-            6..=8 => Error::Stream { number, bit: place },
-            9 | 16 => Error::Limit { number, limit: place },
-            10 => Error::Range { count: place },
-            11 => Error::Spent,
-            12 => Error::Memory,
-            15 => Error::Script { line: place },
+            raw::BITS_PER_SAMPLE
+            | raw::BLOCK_SIZE
+            | raw::INTERVAL
+            | raw::RESTRICTED_WIDTH
+            | raw::EVEN_BLOCK_SIZE => Error::Options { number },
+            raw::SAMPLE_RANGE => Error::Sample { index: place },
+            raw::TRUNCATED | raw::VALUE_TOO_LARGE | raw::RUN_TOO_LONG => {
+                Error::Stream { number, bit: place }
+            }
+            raw::TOO_MANY_SAMPLES | raw::STREAM_TOO_LONG => Error::Limit { number, limit: place },
+            raw::OUT_OF_RANGE => Error::Range { count: place },
+            raw::SPENT => Error::Spent,
+            raw::MEMORY => Error::Memory,
+            raw::SCRIPT => Error::Script { line: place },
             _ => panic!("libaecp.a returned the fault {number}, which the crate aecp doesn't know"),
         }
     }

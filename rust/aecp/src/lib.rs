@@ -23,12 +23,17 @@
 //!
 //! The contracts of the library's calls are proved. This crate is tested, not proved. A thread
 //! needs at least 32 KiB of stack.
+//!
+//! # Panics
+//! Each call that takes options, [`Options::bound`] too, panics if the linked `libaecp.a` has
+//! another major version than this crate, or an older minor one. Such a library may have other
+//! structures, or lack calls. Every call panics if the library returns a fault that this crate
+//! doesn't know.
 #![warn(missing_docs)]
 
 mod editing;
 mod error;
 mod options;
-#[allow(missing_docs)]
 mod raw;
 mod sample;
 mod streams;
@@ -40,6 +45,8 @@ pub use options::Options;
 pub use sample::Sample;
 pub use streams::{Decoder, Encoder};
 pub use workspace::Workspace;
+
+use std::mem::size_of;
 
 /// More samples than a byte of a stream can contain. At most, each 7 bits are a run of 64 blocks of
 /// 64 zeros.
@@ -123,17 +130,16 @@ fn most_stored(coded: &[u8], count: u64, options: &Options) -> u64 {
 /// Returns a vector that a call fills. `room` is a guess of its bytes. If the call asks for more
 /// bytes, it is repeated.
 pub(crate) fn filled<T: Sample>(
-    room: u64,
+    mut room: u64,
     call: impl Fn(&mut [u8]) -> raw::Reply,
 ) -> Result<Vec<T>, Error> {
-    let mut room = room;
     loop {
-        let size = std::mem::size_of::<T>() as u64;
+        let size = size_of::<T>() as u64;
         let mut out: Vec<T> = zeros(room / size + u64::from(room % size != 0))?;
         let reply = call(raw::bytes_of_mut(&mut out));
         match reply.fault {
             raw::OK => {
-                out.truncate(reply.len as usize / std::mem::size_of::<T>());
+                out.truncate(reply.len as usize / size_of::<T>());
                 return Ok(out);
             }
             raw::NO_ROOM if reply.len > room => room = reply.len,

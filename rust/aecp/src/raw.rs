@@ -3,11 +3,29 @@
 
 use std::cell::UnsafeCell;
 use std::ffi::c_void;
+use std::mem::size_of_val;
 
 /// The version of the header that this file restates: 10,000, 100 and 1 times its three numbers.
 pub const VERSION: u32 = 10000;
 
+// The faults of `aecp.h`, except AECP_NOT_OPEN: this crate calls only with a handle, coder or
+// reader that is open.
 pub const OK: u32 = 0;
+pub const BITS_PER_SAMPLE: u32 = 1;
+pub const BLOCK_SIZE: u32 = 2;
+pub const INTERVAL: u32 = 3;
+pub const RESTRICTED_WIDTH: u32 = 4;
+pub const SAMPLE_RANGE: u32 = 5;
+pub const TRUNCATED: u32 = 6;
+pub const VALUE_TOO_LARGE: u32 = 7;
+pub const RUN_TOO_LONG: u32 = 8;
+pub const TOO_MANY_SAMPLES: u32 = 9;
+pub const OUT_OF_RANGE: u32 = 10;
+pub const SPENT: u32 = 11;
+pub const MEMORY: u32 = 12;
+pub const SCRIPT: u32 = 15;
+pub const STREAM_TOO_LONG: u32 = 16;
+pub const EVEN_BLOCK_SIZE: u32 = 17;
 pub const NO_ROOM: u32 = 18;
 
 /// A sample count that stands for all samples of a stream.
@@ -182,37 +200,42 @@ pub fn version() -> u32 {
     unsafe { aecp_version() }
 }
 
-/// Fails if the linked library's structures may differ from those of [`VERSION`], or if it lacks calls of that version.
+/// Fails if the linked library's structures may differ from those of [`VERSION`], or if it lacks
+/// calls of that version.
 fn assert_version() {
     let fits = version() / 10_000 == VERSION / 10_000 && version() / 100 >= VERSION / 100;
     assert!(fits, "libaecp.a has another version than the crate aecp");
 }
 
+/// Makes one call. Returns the reply that it fills, which also has the fault that it returns.
+fn replied<R: Default>(call: impl FnOnce(&mut R) -> u32) -> R {
+    let mut reply = R::default();
+    call(&mut reply);
+    reply
+}
+
 /// Codes stored samples into `out`.
 pub fn encode(options: &Options, samples: &[u8], out: &mut [u8]) -> Reply {
     assert_version();
-    let mut reply = Reply::default();
     // SAFETY: the pointers and lengths are those of live slices; `out` and `reply` are exclusive
     // borrows, so they overlap nothing.
-    unsafe {
+    replied(|reply| unsafe {
         aecp_encode(
             options,
             samples.as_ptr().cast(),
             samples.len(),
             out.as_mut_ptr(),
             out.len(),
-            &mut reply,
-        );
-    }
-    reply
+            reply,
+        )
+    })
 }
 
 /// Decodes the first `count` samples into `out`, as they are stored.
 pub fn decode(options: &Options, count: u64, coded: &[u8], out: &mut [u8]) -> Reply {
     assert_version();
-    let mut reply = Reply::default();
     // SAFETY: as in `encode`.
-    unsafe {
+    replied(|reply| unsafe {
         aecp_decode(
             options,
             count,
@@ -220,10 +243,9 @@ pub fn decode(options: &Options, count: u64, coded: &[u8], out: &mut [u8]) -> Re
             coded.len(),
             out.as_mut_ptr().cast(),
             out.len(),
-            &mut reply,
-        );
-    }
-    reply
+            reply,
+        )
+    })
 }
 
 /// Decodes `len` of these samples, from place `first` on.
@@ -236,13 +258,11 @@ pub fn range(
     out: &mut [u8],
 ) -> Reply {
     assert_version();
-    let mut reply = Reply::default();
     let (at, room) = (out.as_mut_ptr().cast(), out.len());
     // SAFETY: as in `encode`.
-    unsafe {
-        aecp_range(options, count, first, len, coded.as_ptr(), coded.len(), at, room, &mut reply);
-    }
-    reply
+    replied(|reply| unsafe {
+        aecp_range(options, count, first, len, coded.as_ptr(), coded.len(), at, room, reply)
+    })
 }
 
 /// Applies a script of edits to the first `count` samples, and writes the edited stream into `out`.
@@ -254,9 +274,8 @@ pub fn edit(
     out: &mut [u8],
 ) -> EditReply {
     assert_version();
-    let mut reply = EditReply::default();
     // SAFETY: as in `encode`.
-    unsafe {
+    replied(|reply| unsafe {
         aecp_edit(
             options,
             count,
@@ -266,10 +285,9 @@ pub fn edit(
             coded.len(),
             out.as_mut_ptr(),
             out.len(),
-            &mut reply,
-        );
-    }
-    reply
+            reply,
+        )
+    })
 }
 
 /// A length in bytes that suffices for the code of so many samples. 0 if the options are refused.
@@ -290,15 +308,13 @@ pub fn text(reply: &Reply, out: &mut [u8]) -> usize {
 pub fn bytes_of<T: crate::Sample>(samples: &[T]) -> &[u8] {
     // SAFETY: `Sample` is sealed, and each type that has it is an integer: no padding, and each
     // byte is initialised.
-    unsafe { std::slice::from_raw_parts(samples.as_ptr().cast(), std::mem::size_of_val(samples)) }
+    unsafe { std::slice::from_raw_parts(samples.as_ptr().cast(), size_of_val(samples)) }
 }
 
 /// The same, to be filled.
 pub fn bytes_of_mut<T: crate::Sample>(samples: &mut [T]) -> &mut [u8] {
     // SAFETY: as in `bytes_of`; every pattern of bits is a value of an integer.
-    unsafe {
-        std::slice::from_raw_parts_mut(samples.as_mut_ptr().cast(), std::mem::size_of_val(samples))
-    }
+    unsafe { std::slice::from_raw_parts_mut(samples.as_mut_ptr().cast(), size_of_val(samples)) }
 }
 
 /// A handle with a workspace, or with none. Its calls take `&self`, since the type isn't `Sync`.
@@ -324,10 +340,8 @@ impl Handle {
     }
 
     /// Makes one call with the handle.
-    fn with(&self, call: impl FnOnce(*mut CHandle, &mut Reply)) -> Reply {
-        let mut reply = Reply::default();
-        call(self.0.get(), &mut reply);
-        reply
+    fn with(&self, call: impl FnOnce(*mut CHandle, &mut Reply) -> u32) -> Reply {
+        replied(|reply| call(self.0.get(), reply))
     }
 
     /// A handle with an empty workspace, or with none if the reply has a fault.
@@ -335,9 +349,7 @@ impl Handle {
         assert_version();
         let handle = Handle::empty();
         // SAFETY: the handle is AECP_HANDLE, and no other thread has it.
-        let reply = handle.with(|at, reply| unsafe {
-            aecp_open(options, at, reply);
-        });
+        let reply = handle.with(|at, reply| unsafe { aecp_open(options, at, reply) });
         (handle, reply)
     }
 
@@ -347,7 +359,7 @@ impl Handle {
         let handle = Handle::empty();
         // SAFETY: as in `open`; pointer and length are those of a live slice.
         let reply = handle.with(|at, reply| unsafe {
-            aecp_load(options, count, coded.as_ptr(), coded.len(), at, reply);
+            aecp_load(options, count, coded.as_ptr(), coded.len(), at, reply)
         });
         (handle, reply)
     }
@@ -356,51 +368,43 @@ impl Handle {
         // SAFETY: the handle is the library's own since `open` or `load`; pointer and length are
         // those of a live slice. The type isn't `Sync` and no call runs another, so one thread at a
         // time has the handle.
-        self.with(|at, reply| unsafe {
-            aecp_append(at, values.as_ptr(), values.len(), reply);
-        })
+        self.with(|at, reply| unsafe { aecp_append(at, values.as_ptr(), values.len(), reply) })
     }
 
     pub fn truncate(&mut self, count: u64) -> Reply {
         // SAFETY: as in `append`.
-        self.with(|at, reply| unsafe {
-            aecp_truncate(at, count, reply);
-        })
+        self.with(|at, reply| unsafe { aecp_truncate(at, count, reply) })
     }
 
     pub fn remove(&mut self, first: u64, len: u64) -> Reply {
         // SAFETY: as in `append`.
-        self.with(|at, reply| unsafe {
-            aecp_remove(at, first, len, reply);
-        })
+        self.with(|at, reply| unsafe { aecp_remove(at, first, len, reply) })
     }
 
     pub fn overwrite(&mut self, first: u64, values: &[i64]) -> Reply {
         // SAFETY: as in `append`.
         self.with(|at, reply| unsafe {
-            aecp_overwrite(at, first, values.as_ptr(), values.len(), reply);
+            aecp_overwrite(at, first, values.as_ptr(), values.len(), reply)
         })
     }
 
     pub fn insert(&mut self, first: u64, values: &[i64]) -> Reply {
         // SAFETY: as in `append`.
         self.with(|at, reply| unsafe {
-            aecp_insert(at, first, values.as_ptr(), values.len(), reply);
+            aecp_insert(at, first, values.as_ptr(), values.len(), reply)
         })
     }
 
     pub fn read(&self, first: u64, len: u64, out: &mut [i64]) -> Reply {
         // SAFETY: as in `append`; `out` is an exclusive borrow.
         self.with(|at, reply| unsafe {
-            aecp_read(at, first, len, out.as_mut_ptr(), out.len(), reply);
+            aecp_read(at, first, len, out.as_mut_ptr(), out.len(), reply)
         })
     }
 
     pub fn write(&self, out: &mut [u8]) -> Reply {
         // SAFETY: as in `read`.
-        self.with(|at, reply| unsafe {
-            aecp_write(at, out.as_mut_ptr(), out.len(), reply);
-        })
+        self.with(|at, reply| unsafe { aecp_write(at, out.as_mut_ptr(), out.len(), reply) })
     }
 
     pub fn size(&self) -> u64 {
@@ -432,40 +436,27 @@ impl Coder {
     pub fn open(options: &Options) -> (Coder, Reply) {
         assert_version();
         let mut coder = Coder(CHandle::empty());
-        let mut reply = Reply::default();
         // SAFETY: the coder is AECP_CODER, and no other thread has it.
-        unsafe {
-            aecp_coder_open(options, &mut coder.0, &mut reply);
-        }
+        let reply = replied(|reply| unsafe { aecp_coder_open(options, &mut coder.0, reply) });
         (coder, reply)
     }
 
     pub fn feed(&mut self, samples: &[u8]) -> Reply {
-        let mut reply = Reply::default();
         // SAFETY: the coder is the library's own since `open`, and is borrowed exclusively; pointer
         // and length are those of a live slice.
-        unsafe {
-            aecp_coder_feed(&mut self.0, samples.as_ptr().cast(), samples.len(), &mut reply);
-        }
-        reply
+        replied(|reply| unsafe {
+            aecp_coder_feed(&mut self.0, samples.as_ptr().cast(), samples.len(), reply)
+        })
     }
 
     pub fn finish(&mut self) -> Reply {
-        let mut reply = Reply::default();
         // SAFETY: as in `feed`.
-        unsafe {
-            aecp_coder_finish(&mut self.0, &mut reply);
-        }
-        reply
+        replied(|reply| unsafe { aecp_coder_finish(&mut self.0, reply) })
     }
 
     pub fn take(&mut self, out: &mut [u8]) -> Reply {
-        let mut reply = Reply::default();
         // SAFETY: as in `feed`; `out` is an exclusive borrow.
-        unsafe {
-            aecp_coder_take(&mut self.0, out.as_mut_ptr(), out.len(), &mut reply);
-        }
-        reply
+        replied(|reply| unsafe { aecp_coder_take(&mut self.0, out.as_mut_ptr(), out.len(), reply) })
     }
 }
 
@@ -487,32 +478,25 @@ impl Reader {
     pub fn open(options: &Options, count: u64, coded: &[u8]) -> (Reader, Reply) {
         assert_version();
         let mut reader = Reader(CHandle::empty());
-        let mut reply = Reply::default();
         let (at, len) = (coded.as_ptr(), coded.len());
         // SAFETY: the reader is AECP_READER, and no other thread has it; pointer and length are
         // those of a live slice, of which the library keeps a copy.
-        unsafe {
-            aecp_reader_open(options, count, at, len, &mut reader.0, &mut reply);
-        }
+        let reply = replied(|reply| unsafe {
+            aecp_reader_open(options, count, at, len, &mut reader.0, reply)
+        });
         (reader, reply)
     }
 
     pub fn next(&mut self, out: &mut [u8]) -> Reply {
-        let mut reply = Reply::default();
         // SAFETY: the reader is the library's own since `open`, and is borrowed exclusively, as
         // `out` is.
-        unsafe {
-            aecp_reader_next(&mut self.0, out.as_mut_ptr().cast(), out.len(), &mut reply);
-        }
-        reply
+        replied(|reply| unsafe {
+            aecp_reader_next(&mut self.0, out.as_mut_ptr().cast(), out.len(), reply)
+        })
     }
 
     pub fn go_to(&mut self, interval: u64) -> Reply {
-        let mut reply = Reply::default();
         // SAFETY: as in `next`.
-        unsafe {
-            aecp_reader_go_to(&mut self.0, interval, &mut reply);
-        }
-        reply
+        replied(|reply| unsafe { aecp_reader_go_to(&mut self.0, interval, reply) })
     }
 }

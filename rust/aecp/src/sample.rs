@@ -1,4 +1,5 @@
 use crate::{Error, Options};
+use std::mem::size_of;
 
 /// The types of elements that are coded and decoded.
 ///
@@ -44,7 +45,7 @@ impl sealed::Integer for u8 {
 
 /// Fails if a type's elements aren't stored samples of these options.
 pub(crate) fn check_type<T: Sample>(options: &Options) -> Result<(), Error> {
-    let size = std::mem::size_of::<T>();
+    let size = size_of::<T>();
     let has_order = size == 1 || options.0.msb_first == cfg!(target_endian = "big");
     if T::IS_BYTE || size == options.storage() && T::IS_SIGNED == options.0.is_signed && has_order {
         Ok(())

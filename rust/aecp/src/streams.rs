@@ -1,6 +1,7 @@
 use crate::{checked, number_of, raw, sample, zeros, Error, Options, Sample};
 use std::fmt;
 use std::marker::PhantomData;
+use std::mem::size_of;
 
 /// Codes samples that come in pieces. However they are cut, the bytes of all calls are together
 /// those of one [`encode`](crate::encode) of all samples.
@@ -112,7 +113,7 @@ impl<T: Sample> Decoder<T> {
     pub fn new(coded: &[u8], count: Option<u64>, options: &Options) -> Result<Decoder<T>, Error> {
         sample::check_type::<T>(options)?;
         let (reader, reply) = raw::Reader::open(&options.0, number_of(count), coded);
-        let most = checked(reply)? / std::mem::size_of::<T>() as u64;
+        let most = checked(reply)? / size_of::<T>() as u64;
         Ok(Decoder { reader, options: *options, most, is_over: false, elements: PhantomData })
     }
 
@@ -131,7 +132,7 @@ impl<T: Sample> Decoder<T> {
     fn read(&mut self) -> Result<Vec<T>, Error> {
         let mut out: Vec<T> = zeros(self.most)?;
         let len = checked(self.reader.next(raw::bytes_of_mut(&mut out)))?;
-        out.truncate(len as usize / std::mem::size_of::<T>());
+        out.truncate(len as usize / size_of::<T>());
         Ok(out)
     }
 }
