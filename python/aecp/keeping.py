@@ -107,7 +107,7 @@ def leftovers_in(folder: str) -> dict[str, list[str]]:
     return found
 
 
-class Held(NamedTuple):
+class Locks(NamedTuple):
     """The locks of a run. In each folder the first pair has a lock file of its own, until `stack` is closed. The lock files of the other
     pairs are links to it."""
 
@@ -136,7 +136,7 @@ def keep_all(keeping: Keeping, files: list[Found]) -> list[Outcome]:
     kept = [it for it in done if it is not None]
     for folder in {os.path.dirname(os.path.realpath(it.path)) for it in kept if it.kind == "kept"}:
         sync_folder(folder)
-    return [removed(keeping, it) for it in kept] if keeping.remove else kept
+    return [remove_original(it) for it in kept] if keeping.remove else kept
 
 
 def keep(keeping: Keeping, file: Found) -> Outcome:
@@ -149,9 +149,9 @@ def keep_together(keeping: Keeping, files: list[Found], wait: bool) -> list[Opti
     runs that hold locks must not wait for each other."""
     sys.setswitchinterval(0.0001)  # so that a thread that is back from the disk soon gets its turn
     with contextlib.ExitStack() as stack:
-        held = Held(stack, {})
+        locks = Locks(stack, {})
         pool = stack.enter_context(ThreadPoolExecutor(AT_ONCE))
-        outcomes = list(pool.map(lambda it: refusing(it.path, lambda: keep_or_refuse(keeping, it, held, wait)), files))
+        outcomes = list(pool.map(lambda it: refusing(it.path, lambda: keep_or_refuse(keeping, it, locks, wait)), files))
     return outcomes
 
 
@@ -176,12 +176,12 @@ def said_of(error: OSError, path: str) -> str:
     return text if name is None or name == path else f"{text}: {shown(name if isinstance(name, str) else os.fsdecode(name))}"
 
 
-def keep_or_refuse(keeping: Keeping, file: Found, held: Held, wait: bool) -> Optional[Outcome]:
+def keep_or_refuse(keeping: Keeping, file: Found, locks: Locks, wait: bool) -> Optional[Outcome]:
     """Keeps a file under its lock. Returns None if another run has the lock."""
     pair = Pair(file.path + STREAM)
     if pair.is_kept() and pair.name not in leftovers_in(pair.folder):
         return judge_kept(keeping, file.path, pair)
-    with held.locked(pair, wait) as is_locked:
+    with locks.locked(pair, wait) as is_locked:
         return keep_locked(keeping, file, pair) if is_locked else None
 
 
@@ -279,8 +279,8 @@ def judge_kept(keeping: Keeping, path: str, pair: Pair, mended: str = "") -> Out
     return Outcome(path, "skipped", mended)
 
 
-def removed(keeping: Keeping, outcome: Outcome) -> Outcome:
-    """Removes an original if its stream decodes to it now."""
+def remove_original(outcome: Outcome) -> Outcome:
+    """Removes an original if its stream decodes to it now. Returns the outcome, or one that says why it isn't removed."""
     if outcome.kind not in ("kept", "skipped"):
         return outcome
     path = outcome.path

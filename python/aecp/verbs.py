@@ -100,6 +100,12 @@ def with_progress(parts: Any, total: Optional[int] = None) -> Any:
     return tqdm(parts, total=len(parts) if total is None else total, leave=False, unit="batch")
 
 
+def report(outcome: keeping.Outcome) -> None:
+    """Prints what there is to say of a file."""
+    if outcome.said:
+        complain(f"{shown(outcome.path)}: {outcome.said}")
+
+
 def do_keep(asked: argparse.Namespace) -> int:
     if asked.jobs is not None and asked.jobs < 1:
         return usage(asked, "--jobs must be 1 or more")
@@ -108,30 +114,29 @@ def do_keep(asked: argparse.Namespace) -> int:
     except (Refused, ValueError) as error:
         return usage(asked, str(error))
     how = keeping.Keeping(options, asked.rehash, asked.anyway, asked.remove)
-    said: list[keeping.Outcome] = []
-    files = list(keeping.files_of(asked.paths, asked.include, asked.exclude, said))
-    for outcome in said:
-        complain(f"{shown(outcome.path)}: {outcome.said}")
+    complaints: list[keeping.Outcome] = []
+    files = list(keeping.files_of(asked.paths, asked.include, asked.exclude, complaints))
+    for outcome in complaints:
+        report(outcome)
     counts: dict[str, int] = {}
     before = after = 0
     for outcome in spread(partial(keeping.keep_all, how), files, asked.jobs):
-        if outcome.said:
-            complain(f"{shown(outcome.path)}: {outcome.said}")
+        report(outcome)
         counts[outcome.kind] = counts.get(outcome.kind, 0) + 1
         before, after = before + outcome.bytes, after + outcome.coded
     names = {"kept": "kept", "skipped": "kept already", "passed": "passed over", "changed": "changed", "refused": "refused"}
     text = ", ".join(f"{counts[kind]} {name}" for kind, name in names.items() if kind in counts) or "no files"
     print(f"{text}; {before} bytes became {after}" if before else text)
-    return int(any(it.kind == "refused" for it in said) or "refused" in counts or "changed" in counts)
+    return int(any(it.kind == "refused" for it in complaints) or "refused" in counts or "changed" in counts)
 
 
 def do_check(asked: argparse.Namespace) -> int:
     if asked.jobs is not None and asked.jobs < 1:
         return usage(asked, "--jobs must be 1 or more")
-    said: list[keeping.Outcome] = []
-    paths = list(checking.kept_in(asked.paths, said))
-    for outcome in said:
-        complain(f"{shown(outcome.path)}: {outcome.said}")
+    complaints: list[keeping.Outcome] = []
+    paths = list(checking.kept_in(asked.paths, complaints))
+    for outcome in complaints:
+        report(outcome)
     bad, count = [], 0
     for verdict in spread(checking.check_all, paths, asked.jobs):
         count += 1
@@ -144,15 +149,21 @@ def do_check(asked: argparse.Namespace) -> int:
         print(json.dumps({"checked": count, "sound": count - len(bad), "faults": faults}, indent=1))
     else:
         print(f"{count} checked, {count - len(bad)} sound, {len(bad)} damaged")
-    return int(bool(bad) or any(it.kind == "refused" for it in said))
+    return int(bool(bad) or any(it.kind == "refused" for it in complaints))
 
 
-def pair_of(path: str, mend: bool = True) -> Pair:
-    """Returns the pair of a stream. With `mend`, first finishes what a stopped run left, and says so."""
+def pair_of(path: str) -> Pair:
+    """Returns the pair that the path of a stream, a note or an original names. Raises Refused if there is neither a stream nor a note."""
     pair = Pair(checking.stream_of(path) if os.path.basename(path) != STREAM else path)
     if not os.path.lexists(pair.path) and not os.path.lexists(pair.note_path):
         raise Refused("it is a folder: name a file in it" if os.path.isdir(path) else "there is no such file")
-    if mend and os.access(pair.folder, os.W_OK) and (os.path.exists(pair.lock_path) or pair.leftovers()):
+    return pair
+
+
+def mended_pair(path: str) -> Pair:
+    """Finishes what a stopped run left of a pair, and says so; not if another run has the lock. Returns the pair."""
+    pair = pair_of(path)
+    if os.access(pair.folder, os.W_OK) and (os.path.exists(pair.lock_path) or pair.leftovers()):
         with pair.locked(wait=False) as is_locked:
             if is_locked:
                 say_mended(pair)
@@ -160,13 +171,15 @@ def pair_of(path: str, mend: bool = True) -> Pair:
 
 
 def say_mended(pair: Pair) -> None:
+    """Finishes what a stopped run left of a locked pair, and prints what was done."""
     done = pair.mend()
     if done:
         complain(f"{shown(pair.name)}: {done}")
 
 
-def opened(path: str) -> Opened:
-    return pair_of(path).open()
+def open_pair(path: str) -> Opened:
+    """Returns the note and the stream of a pair. First finishes what a stopped run left of it."""
+    return mended_pair(path).open()
 
 
 def do_back(asked: argparse.Namespace) -> int:
@@ -176,7 +189,7 @@ def do_back(asked: argparse.Namespace) -> int:
         return usage(asked, str(error))
 
     def work() -> int:
-        pair = pair_of(asked.file)
+        pair = mended_pair(asked.file)
         out = asked.out or (asked.file[: -len(STREAM)] if asked.file.endswith(STREAM) else pair.path[: -len(STREAM)])
         reading.write_out(out, reading.samples_of(pair.open(), part))
         return 0
@@ -188,7 +201,7 @@ def under_lock(path: str, work: Callable[[Pair], str]) -> int:
     """Does a piece of work on a pair that no other run is changing, and prints its text. Returns the status."""
 
     def locked() -> int:
-        pair = pair_of(path, mend=False)
+        pair = pair_of(path)
         with pair.locked():
             say_mended(pair)
             print(f"{shown(path)}: {work(pair)}")
@@ -215,7 +228,7 @@ def do_undo(asked: argparse.Namespace) -> int:
 
 def do_log(asked: argparse.Namespace) -> int:
     def work() -> int:
-        note = opened(asked.file).note
+        note = open_pair(asked.file).note
         if asked.script is not None:
             reading.write_out("-", editing.script_in(note, asked.script))
             return 0
@@ -227,11 +240,11 @@ def do_log(asked: argparse.Namespace) -> int:
 
 def do_diff(asked: argparse.Namespace) -> int:
     def work() -> int:
-        first = opened(asked.first)
+        first = open_pair(asked.first)
         return refusing(asked.second, lambda: compare(first))
 
     def compare(first: Opened) -> int:
-        second = opened(asked.second)
+        second = open_pair(asked.second)
         ours, theirs = editing.compared(first, second)
         change = change_of(ours, theirs, first.note.options.storage)
         for line in difference(ours, theirs, change, first.note.options):
@@ -262,7 +275,7 @@ def do_info(asked: argparse.Namespace) -> int:
     for path in asked.paths:
 
         def work() -> int:
-            note = pair_of(path).note()
+            note = mended_pair(path).note()
             print(f"{shown(path)}\n  " + "\n  ".join(reading.info_lines(note)))
             return 0
 
@@ -335,7 +348,7 @@ def do_view(asked: argparse.Namespace) -> int:
             stream = input_of(asked.file)
             samples = reading.part_of(stream, asked.count, part, options_of(asked))
         else:
-            kept = opened(asked.file)
+            kept = open_pair(asked.file)
             samples = reading.listed(reading.samples_of(kept, part), kept.note.options)
         print(reading.view(samples, asked.out, asked.width))
         return 0
