@@ -12,13 +12,13 @@ import sys
 from collections.abc import Iterable, Iterator
 from concurrent.futures import ThreadPoolExecutor
 from dataclasses import dataclass, replace
-from typing import Any, Callable, NamedTuple, Optional, TypeVar, Union
+from typing import Any, Callable, NamedTuple, Optional
 
 from aecp.calls import decode_bytes, encode
 from aecp.faults import Fault, OptionsRefused, SampleRefused
 from aecp.notes import WRITER, BadNote, Note, Sum, note_of, now, sha256_of, words_of
 from aecp.options import Options
-from aecp.pairs import NOTE, OLD_NOTE, STREAM, Damaged, Pair, Refused, read_if_there, shown
+from aecp.pairs import NOTE, OLD_NOTE, STREAM, Pair, Refused, read_if_there, shown
 from aecp.writing import sync_folder
 
 OURS = (STREAM, NOTE, OLD_NOTE)
@@ -26,7 +26,7 @@ HIDDEN = re.compile(r"\.(.*\.aec)\.([0-9a-f]{12}\.new|json\.new|lock)", re.S)
 TEXTS = ["README*", *(f"*.{end}" for end in ("txt", "md", "csv", "tsv", "json", "xml", "html", "log", "py", "sh", "toml", "yaml", "yml"))]
 FRONT = 1 << 18  # bytes of a file that a hint tries
 AT_ONCE = 5  # files that a process codes or writes at the same time
-T = TypeVar("T")
+FAILURES = (Refused, OSError, MemoryError, Fault)  # what work on a file may raise
 
 
 class Outcome(NamedTuple):
@@ -151,22 +151,23 @@ def keep_together(keeping: Keeping, files: list[Found], wait: bool) -> list[Opti
     with contextlib.ExitStack() as stack:
         locks = Locks(stack, {})
         pool = stack.enter_context(ThreadPoolExecutor(AT_ONCE))
-        outcomes = list(pool.map(lambda it: refusing(it.path, lambda: keep_or_refuse(keeping, it, locks, wait)), files))
+        outcomes = list(pool.map(lambda it: outcome_of(it.path, lambda: keep_or_refuse(keeping, it, locks, wait)), files))
     return outcomes
 
 
-def refusing(path: str, work: Callable[[], T]) -> Union[T, Outcome]:
-    """Returns the result of a piece of work on a file, or why it was refused."""
+def outcome_of(path: str, work: Callable[[], Optional[Outcome]]) -> Optional[Outcome]:
+    """Returns the outcome of a piece of work on a file. If the work fails, returns one that says why."""
     try:
         return work()
-    except Refused as refusal:
-        return Outcome(path, "refused", str(refusal))
-    except OSError as error:
-        return Outcome(path, "refused", said_of(error, path))
-    except MemoryError:
-        return Outcome(path, "refused", "out of memory")
-    except Fault as fault:
-        return Outcome(path, "refused", str(fault))
+    except FAILURES as error:
+        return Outcome(path, "refused", reason(error, path))
+
+
+def reason(error: Exception, path: str) -> str:
+    """Returns the text that says why work on the file `path` failed. `error` is one of FAILURES."""
+    if isinstance(error, OSError):
+        return said_of(error, path)
+    return "out of memory" if isinstance(error, MemoryError) else str(error)
 
 
 def said_of(error: OSError, path: str) -> str:
@@ -291,10 +292,8 @@ def remove_original(outcome: Outcome) -> Outcome:
             return outcome._replace(kind="refused", said="it isn't removed: its stream was edited since, or the file has changed")
         if stat.S_ISREG(os.lstat(path).st_mode):
             os.unlink(path)
-    except (Damaged, Fault) as error:
-        return outcome._replace(kind="refused", said=f"it isn't removed: {error}")
-    except OSError as error:
-        return outcome._replace(kind="refused", said=f"it isn't removed: {said_of(error, path)}")
+    except FAILURES as error:
+        return outcome._replace(kind="refused", said=f"it isn't removed: {reason(error, path)}")
     return outcome
 
 

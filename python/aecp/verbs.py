@@ -15,7 +15,6 @@ from typing import Any, Callable, Optional, TypeVar
 
 from aecp import checking, editing, fitting, keeping, reading
 from aecp.cli import complain
-from aecp.faults import Fault
 from aecp.options import FLAGS, NUMBERS, Options
 from aecp.pairs import STREAM, Damaged, Opened, Pair, Refused, read_if_there, shown
 from aecp.scripts import change_of, difference
@@ -27,20 +26,14 @@ R = TypeVar("R")
 
 
 def refusing(path: str, work: Callable[[], int]) -> int:
-    """Returns the status of a piece of work on a file. If the work is refused, prints why, with the file's name."""
+    """Returns the status of a piece of work on a file. If the work fails, prints why, with the file's name."""
     try:
         return work()
-    except Refused as refusal:
-        more = "; `aecp rescue` reads what is left of it" if isinstance(refusal, Damaged) and refusal.kind == "other bytes" else ""
-        return complain(f"{shown(path)}: {refusal}{more}")
     except BrokenPipeError:
         raise
-    except OSError as error:
-        return complain(f"{shown(path)}: {keeping.said_of(error, path)}")
-    except MemoryError:
-        return complain(f"{shown(path)}: out of memory")
-    except Fault as fault:
-        return complain(f"{shown(path)}: {fault}")
+    except keeping.FAILURES as error:
+        more = "; `aecp rescue` reads what is left of it" if isinstance(error, Damaged) and error.kind == "other bytes" else ""
+        return complain(f"{shown(path)}: {keeping.reason(error, path)}{more}")
 
 
 def options_of(asked: argparse.Namespace) -> Options:
