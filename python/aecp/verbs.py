@@ -204,15 +204,11 @@ def under_lock(path: str, work: Callable[[Pair], str]) -> int:
 
 
 def do_edit(asked: argparse.Namespace) -> int:
-    scripts: list[bytes] = []
+    def work() -> int:
+        script = input_of(asked.script)
+        return under_lock(asked.file, lambda pair: editing.edit(pair, script, asked.allow_empty))
 
-    def read() -> int:
-        scripts.append(input_of(asked.script))
-        return 0
-
-    if refusing(asked.script, read):
-        return 1
-    return under_lock(asked.file, lambda pair: editing.edit(pair, scripts[0], asked.allow_empty))
+    return refusing(asked.script, work)
 
 
 def do_undo(asked: argparse.Namespace) -> int:
@@ -319,11 +315,11 @@ def do_rescue(asked: argparse.Namespace) -> int:
         options = note.options if asked.bits is None else options_of(asked)
         count = asked.count if asked.count is not None else note.count if note is not None else None
         found = reading.rescued(stream, count, options)
-        text = reading.rescue_text(found, stream, note, count is not None)
+        text, is_sound = reading.rescue_text(found, stream, note, count is not None)
         if asked.out is not None:
             reading.write_out(asked.out, found.samples)
         print(f"{shown(asked.file)}: {text}", file=sys.stderr if asked.out == "-" else sys.stdout)
-        return int(not (found.is_whole and "wrong" not in text))
+        return int(not is_sound)
 
     return refusing(asked.file, work)
 
