@@ -19,7 +19,9 @@ __version__ = "1.0.0"
 
 try:
     from aecp.calls import decode, decode_bytes, decode_range, decode_range_bytes, encode
-    from aecp.faults import Fault, LimitPassed, NoMemory, OptionsRefused, RangeRefused, SampleRefused, ScriptRefused, StreamRefused
+    from aecp.faults import (
+        Fault, LimitPassed, NoMemory, NoRoom, NotOpen, OptionsRefused, RangeRefused, SampleRefused, ScriptRefused, StreamRefused,
+    )  # fmt: skip
     from aecp.options import Options
     from aecp.streams import Decoder, Encoder, edit
     from aecp.workspace import Workspace
@@ -29,6 +31,7 @@ except ImportError:
         raise
 
 __all__ = [
-    "Decoder", "Encoder", "Fault", "LimitPassed", "NoMemory", "Options", "OptionsRefused", "RangeRefused", "SampleRefused", "ScriptRefused",
-    "StreamRefused", "Workspace", "__version__", "decode", "decode_bytes", "decode_range", "decode_range_bytes", "edit", "encode",
+    "Decoder", "Encoder", "Fault", "LimitPassed", "NoMemory", "NoRoom", "NotOpen", "Options", "OptionsRefused", "RangeRefused",
+    "SampleRefused", "ScriptRefused", "StreamRefused", "Workspace", "__version__", "decode", "decode_bytes", "decode_range",
+    "decode_range_bytes", "edit", "encode",
 ]  # fmt: skip

@@ -118,8 +118,8 @@ def decode_bytes(coded: Any, count: Optional[int], options: Options, out: Option
     out: contiguous memory that can be written, such as a bytearray. It is filled from its start. After a fault it is unchanged.
 
     Raises OptionsRefused; StreamRefused if the stream is cut or damaged; LimitPassed for more than 2^32 samples or 2^40 coded bytes;
-    NoMemory, or another MemoryError, if an allocation fails; a Fault with the number 18 if `out` is too short; TypeError for objects
-    without such a buffer; ValueError if `count` isn't 0 to 2^64 - 1.
+    NoMemory, or another MemoryError, if an allocation fails; NoRoom if `out` is too short; TypeError for objects without such a buffer;
+    ValueError if `count` isn't 0 to 2^64 - 1.
     """
     source, before = Source(coded, "coded"), [c_options(options), number_of(count)]
     if out is not None:

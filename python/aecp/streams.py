@@ -73,7 +73,7 @@ class Encoder(Alone):
         """Codes more samples, given as for encode; in bytes, a sample may be cut in two. Returns the bytes of the intervals that became
         complete.
 
-        Raises what encode raises. After a Fault each later feed raises it again; after finish a feed raises a Fault with the number 19.
+        Raises what encode raises. After a Fault each later feed raises it again; after finish a feed raises NotOpen.
         """
         source, reply = Source(native(samples, self.options), "samples"), Reply()
         with self._lock:
@@ -85,7 +85,7 @@ class Encoder(Alone):
         """Ends the stream. Returns its last bytes. An incomplete sample is dropped.
 
         Raises the fault of an earlier feed, or NoMemory; then the samples of the last interval are lost. After finish, also a failed
-        one, feed and finish raise a Fault with the number 19.
+        one, feed and finish raise NotOpen.
         """
         reply = Reply()
         with self._lock:
