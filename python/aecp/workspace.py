@@ -7,7 +7,7 @@ from array import array
 from collections.abc import Iterable, Iterator, MutableSequence, Sequence
 from typing import Any, Callable, Optional, SupportsIndex, Union, overload
 
-from aecp.buffers import Source, Target, numpy_if_there, room_for
+from aecp.buffers import Readable, Source, Target, numpy_if_there, room_for
 from aecp.calls import number_of, place
 from aecp.faults import NO_ROOM, SAMPLE_RANGE, Fault, NotOpen, fault_of
 from aecp.library import LIBRARY, Handle, Reply, c_options, text_of
@@ -49,7 +49,7 @@ class Workspace(MutableSequence[int]):
             raise
 
     @classmethod
-    def of_coded(cls, coded: Any, count: Optional[int], options: Options) -> Workspace:
+    def of_coded(cls, coded: Readable, count: Optional[int], options: Options) -> Workspace:
         """Returns a workspace with the first `count` samples of a stream, or all with count None. Raises what decode_bytes raises."""
         work, source = cls(options), Source(coded, "coded")
         work._call("aecp_load", c_options(options), number_of(count), source.at, source.size, front=True)
