@@ -26,7 +26,8 @@ try:
     from aecp.streams import Decoder, Encoder, edit
     from aecp.workspace import Workspace
 except ImportError:
-    # The command aecp prints a line of its own if there is no library, and gives help without one.
+    # The command aecp prints a line of its own if there is no library, and gives help without one. While Python looks for the module of
+    # `python -m aecp`, sys.argv is ["-m"].
     if sys.argv[:1] != ["-m"] and os.path.basename(sys.argv[0]) != "aecp":
         raise
 
