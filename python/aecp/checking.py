@@ -48,6 +48,7 @@ def stream_of(path: str) -> str:
 
 
 def streams_in(folder: str, complaints: list[Outcome]) -> set[str]:
+    """Returns the paths of the streams in a folder and below it; for a lone note, the path that its stream would have."""
     found: set[str] = set()
     for top, folders, names in os.walk(folder, onerror=lambda error: complaints.append(Outcome(folder, "refused", str(error)))):
         for name in folders + names:
@@ -59,6 +60,7 @@ def streams_in(folder: str, complaints: list[Outcome]) -> set[str]:
 
 
 def check_all(paths: list[str]) -> list[Verdict]:
+    """Returns the verdict on each stream."""
     return [check(path) for path in paths]
 
 

@@ -123,6 +123,7 @@ def candidates(fixed: Options, given: set[str]) -> Iterator[Options]:
 
 
 def read_by(stream: bytes, count: int, options: Options) -> Optional[Any]:
+    """Returns the samples of a stream, or None if they can't be decoded with these options."""
     try:
         return decode_bytes(stream, count, options)
     except Fault:

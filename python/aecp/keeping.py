@@ -72,6 +72,7 @@ def files_of(paths: Iterable[str], include: list[str], exclude: list[str], compl
 
 
 def files_in(folder: str, top: str, include: list[str], exclude: list[str], complaints: list[Outcome]) -> Iterator[Found]:
+    """Yields the files to keep in a folder and below it, sorted by name in each folder. `top` is the folder that was named."""
     try:
         entries = sorted(os.scandir(folder), key=lambda it: it.name)
     except OSError as error:
@@ -93,6 +94,7 @@ def files_in(folder: str, top: str, include: list[str], exclude: list[str], comp
 
 
 def matches(names: tuple[str, ...], patterns: list[str]) -> bool:
+    """Returns whether one of the names matches one of the patterns."""
     return any(fnmatch.fnmatchcase(name, pattern) for name in names for pattern in patterns)
 
 

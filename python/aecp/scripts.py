@@ -56,6 +56,7 @@ def cut(word: str) -> str:
 
 
 def number_in(word: str, least: int, end: int, what: str) -> int:
+    """Returns a word as a number. Raises BadLine, which calls it a `what`, if it isn't one from `least` to `end` - 1."""
     if not re.fullmatch(r"-?[0-9]+" if least < 0 else r"[0-9]+", word):
         raise BadLine(f"{cut(word)!r} is no {what}")
     if len(word) > 25 or not least <= int(word) < end:
@@ -121,12 +122,14 @@ class Store:
         self.letter = letter if self.signed else letter.upper()
 
     def bytes_of(self, values: list[int]) -> bytes:
+        """Returns numbers as stored samples."""
         if self.letter:
             return struct.pack(f"{self.order}{len(values)}{self.letter}", *values)
         order: Any = "big" if self.order == ">" else "little"
         return b"".join(value.to_bytes(self.width, order, signed=self.signed) for value in values)
 
     def values_of(self, data: bytes) -> list[int]:
+        """Returns stored samples as numbers."""
         if self.letter:
             return list(struct.unpack(f"{self.order}{len(data) // self.width}{self.letter}", data))
         order: Any = "big" if self.order == ">" else "little"
