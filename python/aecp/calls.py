@@ -12,7 +12,7 @@ from aecp.library import LIBRARY, Reply, c_options, text_of
 from aecp.options import Options, whole
 
 ALL = 2**64 - 1
-MOST_A_BYTE = 64 * 64 * 8  # the most samples that a coded byte can mean
+MOST_A_BYTE = 64 * 64 * 8  # at least as many samples as a coded byte can mean
 GUESS = 8  # bytes of samples for a coded byte, if no count is given
 
 

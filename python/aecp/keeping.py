@@ -3,6 +3,7 @@
 from __future__ import annotations
 
 import contextlib
+import errno
 import fnmatch
 import functools
 import os
@@ -174,7 +175,7 @@ def reason(error: Exception, path: str) -> str:
 
 def said_of(error: OSError, path: str) -> str:
     """Returns the text of a failure of the system, with the name of its file if that isn't `path`."""
-    text = "no space left on the device" if error.errno == 28 else str(error.strerror or error)
+    text = "no space left on the device" if error.errno == errno.ENOSPC else str(error.strerror or error)
     name = error.filename
     return text if name is None or name == path else f"{text}: {shown(name if isinstance(name, str) else os.fsdecode(name))}"
 

@@ -98,11 +98,9 @@ def rescued(stream: bytes, count: Optional[int], options: Options) -> Rescued:
     try:
         samples = decode_bytes(stream, count, options)
         return Rescued(samples, len(samples) // options.storage, "", True)
-    except StreamRefused as fault:
-        why = str(fault)
     except OptionsRefused as fault:
         raise Refused(str(fault)) from None
-    except LimitPassed as fault:
+    except (StreamRefused, LimitPassed) as fault:
         why = str(fault)
     least, most = 0, MOST_SAMPLES if count is None else count
     step = 1 << 12

@@ -14,7 +14,7 @@ from functools import partial
 from typing import Any, Callable, Optional, TypeVar
 
 from aecp import checking, editing, fitting, keeping, reading
-from aecp.cli import complain
+from aecp.cli import STOPS, complain
 from aecp.options import FLAGS, NUMBERS, Options
 from aecp.pairs import STREAM, Damaged, Opened, Pair, Refused, read_if_there, shown
 from aecp.scripts import change_of, difference
@@ -62,7 +62,7 @@ def input_of(path: str) -> bytes:
 def leave_stops() -> None:
     """Ignores signals to stop, in a process of a pool. The first process handles them, and lets the pool finish what it has
     begun."""
-    for number in (signal.SIGINT, signal.SIGTERM, signal.SIGHUP):
+    for number in STOPS:
         signal.signal(number, signal.SIG_IGN)
 
 
