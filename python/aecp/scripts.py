@@ -101,7 +101,8 @@ def judged(script: bytes, count: int, options: Options, allow_empty: bool = Fals
     """Returns the edits of a script for `count` samples. Each bad line is a complaint, and the lines after it are checked without it."""
     edits, complaints = [], []
     for line, data in enumerate(script.split(b"\n"), 1):
-        words = [word for word in re.split("[ \t]", data[: -1 if data.endswith(b"\r") else None].decode("utf-8", "backslashreplace")) if word]
+        text = data.removesuffix(b"\r").decode("utf-8", "backslashreplace")
+        words = [word for word in re.split("[ \t]", text) if word]
         if not words or words[0].startswith("#"):
             continue
         try:

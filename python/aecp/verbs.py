@@ -285,7 +285,8 @@ def do_fit(asked: argparse.Namespace) -> int:
             raise Refused("it is empty")
         if asked.bits is None:
             guess = fitting.guessed_bits(data)
-            print(f"-n isn't given; the start of the file takes the fewest bytes as samples of {guess.bits} bits{' with -m' if guess.msb_first else ''}")
+            text = f"samples of {guess.bits} bits{' with -m' if guess.msb_first else ''}"
+            print(f"-n isn't given; the start of the file takes the fewest bytes as {text}")
             asked.bits, asked.msb_first = guess.bits, guess.msb_first
         options = options_of(asked)
         piece = data if asked.all else data[: fitting.PIECE]
