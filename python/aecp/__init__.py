@@ -19,16 +19,20 @@ __version__ = "1.0.0"
 
 try:
     from aecp.calls import decode, decode_bytes, decode_range, decode_range_bytes, encode
-    from aecp.faults import Fault, LimitPassed, NoMemory, OptionsRefused, RangeRefused, SampleRefused, ScriptRefused, StreamRefused
+    from aecp.faults import (
+        Fault, LimitPassed, NoMemory, NoRoom, NotOpen, OptionsRefused, RangeRefused, SampleRefused, ScriptRefused, StreamRefused,
+    )  # fmt: skip
     from aecp.options import Options
     from aecp.streams import Decoder, Encoder, edit
     from aecp.workspace import Workspace
 except ImportError:
-    # The command aecp prints a line of its own if there is no library, and gives help without one.
+    # The command aecp prints a line of its own if there is no library, and gives help without one. While Python looks for the module of
+    # `python -m aecp`, sys.argv is ["-m"].
     if sys.argv[:1] != ["-m"] and os.path.basename(sys.argv[0]) != "aecp":
         raise
 
 __all__ = [
-    "Decoder", "Encoder", "Fault", "LimitPassed", "NoMemory", "Options", "OptionsRefused", "RangeRefused", "SampleRefused", "ScriptRefused",
-    "StreamRefused", "Workspace", "__version__", "decode", "decode_bytes", "decode_range", "decode_range_bytes", "edit", "encode",
+    "Decoder", "Encoder", "Fault", "LimitPassed", "NoMemory", "NoRoom", "NotOpen", "Options", "OptionsRefused", "RangeRefused",
+    "SampleRefused", "ScriptRefused", "StreamRefused", "Workspace", "__version__", "decode", "decode_bytes", "decode_range",
+    "decode_range_bytes", "edit", "encode",
 ]  # fmt: skip

@@ -8,14 +8,15 @@ import sys
 from typing import TYPE_CHECKING, Any, Optional, Union
 
 if TYPE_CHECKING:
-    from _typeshed import WriteableBuffer
+    from _typeshed import ReadableBuffer, WriteableBuffer
     from numpy import integer
     from numpy.typing import NDArray
 
     Array = NDArray[integer[Any]]  # a numpy array of whole numbers
+    Readable = Union[ReadableBuffer, NDArray[Any]]  # memory that a call can read
     Writable = Union[WriteableBuffer, NDArray[Any]]  # memory that a call can fill
 else:
-    Array = Writable = Any
+    Array = Readable = Writable = Any
 
 SMALL = 1 << 20  # bytes; to clear fewer takes no time
 ORDERS = "@=<>!"  # the byte orders with which the format of a buffer may begin

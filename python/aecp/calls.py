@@ -6,17 +6,17 @@ import ctypes
 from array import array
 from typing import Any, Optional, Union, overload
 
-from aecp.buffers import BYTES, Array, Source, Target, Writable, is_big_endian, item_type, numpy_if_there, numpy_type, room_for
+from aecp.buffers import BYTES, Array, Readable, Source, Target, Writable, is_big_endian, item_type, numpy_if_there, numpy_type, room_for
 from aecp.faults import NO_ROOM, fault_of
 from aecp.library import LIBRARY, Reply, c_options, text_of
 from aecp.options import Options, whole
 
 ALL = 2**64 - 1
-MOST_A_BYTE = 64 * 64 * 8  # the most samples that a coded byte can mean
+MOST_A_BYTE = 64 * 64 * 8  # at least as many samples as a coded byte can mean
 GUESS = 8  # bytes of samples for a coded byte, if no count is given
 
 
-def encode(samples: Any, options: Options) -> bytes:
+def encode(samples: Readable, options: Options) -> bytes:
     """Codes samples. Returns the stream as bytes.
 
     samples: stored samples, as bytes or a contiguous buffer of bytes (bytes at the end that make no whole sample are dropped); or
@@ -83,7 +83,7 @@ def wrong_samples(options: Options, given: str) -> TypeError:
     return TypeError(f"samples must be {wanted}, not {given}")
 
 
-def decode(coded: Any, count: Optional[int], options: Options, out: Optional[Array] = None) -> Array:
+def decode(coded: Readable, count: Optional[int], options: Options, out: Optional[Array] = None) -> Array:
     """Decodes samples. Returns a numpy array of one dimension, with the dtype options.dtype.
 
     coded, count: as for decode_bytes.
@@ -95,21 +95,21 @@ def decode(coded: Any, count: Optional[int], options: Options, out: Optional[Arr
     return array_of(decode_bytes(coded, count, options, of_dtype(out, options)), options)
 
 
-def decode_range(coded: Any, count: Optional[int], first: int, length: int, options: Options, out: Optional[Array] = None) -> Array:
+def decode_range(coded: Readable, count: Optional[int], first: int, length: int, options: Options, out: Optional[Array] = None) -> Array:
     """Decodes `length` of the first `count` samples, from sample `first` on, counted from 0. Returns an array as decode does. Also
     checks the samples outside the range. Raises what decode raises, and RangeRefused if the range is outside the samples."""
     return array_of(decode_range_bytes(coded, count, first, length, options, of_dtype(out, options)), options)
 
 
 @overload
-def decode_bytes(coded: Any, count: Optional[int], options: Options, out: None = None) -> bytearray: ...
+def decode_bytes(coded: Readable, count: Optional[int], options: Options, out: None = None) -> bytearray: ...
 
 
 @overload
-def decode_bytes(coded: Any, count: Optional[int], options: Options, out: Writable) -> memoryview: ...
+def decode_bytes(coded: Readable, count: Optional[int], options: Options, out: Writable) -> memoryview: ...
 
 
-def decode_bytes(coded: Any, count: Optional[int], options: Options, out: Optional[Writable] = None) -> Union[bytearray, memoryview]:
+def decode_bytes(coded: Readable, count: Optional[int], options: Options, out: Optional[Writable] = None) -> Union[bytearray, memoryview]:
     """Decodes samples. Returns a bytearray of stored samples, options.storage bytes each; with `out`, a memoryview of the filled part of
     `out`.
 
@@ -118,8 +118,8 @@ def decode_bytes(coded: Any, count: Optional[int], options: Options, out: Option
     out: contiguous memory that can be written, such as a bytearray. It is filled from its start. After a fault it is unchanged.
 
     Raises OptionsRefused; StreamRefused if the stream is cut or damaged; LimitPassed for more than 2^32 samples or 2^40 coded bytes;
-    NoMemory, or another MemoryError, if an allocation fails; a Fault with the number 18 if `out` is too short; TypeError for objects
-    without such a buffer; ValueError if `count` isn't 0 to 2^64 - 1.
+    NoMemory, or another MemoryError, if an allocation fails; NoRoom if `out` is too short; TypeError for objects without such a buffer;
+    ValueError if `count` isn't 0 to 2^64 - 1.
     """
     source, before = Source(coded, "coded"), [c_options(options), number_of(count)]
     if out is not None:
@@ -128,15 +128,15 @@ def decode_bytes(coded: Any, count: Optional[int], options: Options, out: Option
 
 
 @overload
-def decode_range_bytes(coded: Any, count: Optional[int], first: int, length: int, options: Options, out: None = None) -> bytearray: ...
+def decode_range_bytes(coded: Readable, count: Optional[int], first: int, length: int, options: Options, out: None = None) -> bytearray: ...
 
 
 @overload
-def decode_range_bytes(coded: Any, count: Optional[int], first: int, length: int, options: Options, out: Writable) -> memoryview: ...
+def decode_range_bytes(coded: Readable, count: Optional[int], first: int, length: int, options: Options, out: Writable) -> memoryview: ...
 
 
 def decode_range_bytes(
-    coded: Any, count: Optional[int], first: int, length: int, options: Options, out: Optional[Writable] = None
+    coded: Readable, count: Optional[int], first: int, length: int, options: Options, out: Optional[Writable] = None
 ) -> Union[bytearray, memoryview]:
     """Decodes a range as decode_range does. Returns stored samples, and takes `out`, as decode_bytes does."""
     source = Source(coded, "coded")

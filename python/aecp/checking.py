@@ -7,6 +7,7 @@ from collections.abc import Iterator
 from typing import NamedTuple, Optional
 
 from aecp.calls import decode_bytes
+from aecp.editing import judge_samples
 from aecp.faults import Fault, StreamRefused
 from aecp.keeping import Outcome, said_of
 from aecp.notes import Note
@@ -43,11 +44,12 @@ def stream_of(path: str) -> str:
     """Returns the path of the stream for its own path, for that of its note, or for that of an original."""
     for end in (NOTE, OLD_NOTE):
         if path.endswith(end):
-            return path[: len(path) - len(end)] + STREAM
+            return path.removesuffix(end) + STREAM
     return path if path.endswith(STREAM) else path + STREAM
 
 
 def streams_in(folder: str, complaints: list[Outcome]) -> set[str]:
+    """Returns the paths of the streams in a folder and below it; for a lone note, the path that its stream would have."""
     found: set[str] = set()
     for top, folders, names in os.walk(folder, onerror=lambda error: complaints.append(Outcome(folder, "refused", str(error)))):
         for name in folders + names:
@@ -59,6 +61,7 @@ def streams_in(folder: str, complaints: list[Outcome]) -> set[str]:
 
 
 def check_all(paths: list[str]) -> list[Verdict]:
+    """Returns the verdict on each stream."""
     return [check(path) for path in paths]
 
 
@@ -81,8 +84,6 @@ def check(path: str) -> Verdict:
 
 def judged(path: str, stream: bytes, note: Note) -> Verdict:
     """Returns the verdict on a stream that has its note's sum: whether it decodes to the samples of the note."""
-    from aecp.editing import judge_samples
-
     try:
         samples = decode_bytes(stream, note.count, note.options)
     except Fault as fault:

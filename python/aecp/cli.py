@@ -58,15 +58,25 @@ def add_options(parser: argparse.ArgumentParser, needs_bits: bool) -> None:
 
 
 def add_verb(verbs: Any, name: str, text: str) -> argparse.ArgumentParser:
+    """Adds a verb, with its help. Returns its parser, still without arguments."""
     usual = argparse.RawDescriptionHelpFormatter
     made: argparse.ArgumentParser = verbs.add_parser(name, help=text, description=text, epilog=EXAMPLES[name], formatter_class=usual)
     return made
 
 
-def words() -> argparse.ArgumentParser:
+def command_parser() -> argparse.ArgumentParser:
+    """Returns the parser of the command's words."""
     parser = argparse.ArgumentParser(prog="aecp", description=ABOUT)
     parser.add_argument("--version", action="version", version=f"aecp {__version__}")
     verbs = parser.add_subparsers(dest="verb", metavar="VERB", required=True)
+    add_keeping_verbs(verbs)
+    add_editing_verbs(verbs)
+    add_reading_verbs(verbs)
+    return parser
+
+
+def add_keeping_verbs(verbs: Any) -> None:
+    """Adds the verbs keep, back and check."""
     keep = add_verb(verbs, "keep", "codes files and folders; decodes and compares each stream before FILE.aec and its note appear")
     keep.add_argument("paths", nargs="+", metavar="PATH", help="a file, or a folder with all below it")
     add_options(keep, needs_bits=True)
@@ -85,6 +95,10 @@ def words() -> argparse.ArgumentParser:
     check.add_argument("paths", nargs="+", metavar="PATH", help="a kept stream, or a folder with all below it")
     check.add_argument("--json", action="store_true", help="print the result as JSON")
     check.add_argument("--jobs", type=int, metavar="N", help="processes at once (one a core)")
+
+
+def add_editing_verbs(verbs: Any) -> None:
+    """Adds the verbs edit, undo, log, diff and pixels."""
     edit = add_verb(verbs, "edit", "edits a kept stream by a script; `aecp undo` undoes it bit for bit")
     edit.add_argument("file", metavar="FILE.aec")
     edit.add_argument("script", metavar="SCRIPT", help="lines such as 'overwrite 20 1 2 3'; - is standard input")
@@ -101,6 +115,10 @@ def words() -> argparse.ArgumentParser:
     pixels.add_argument("--shape", required=True, metavar="ROWSxCOLS")
     pixels.add_argument("--frame", type=int, default=0, metavar="K", help="the frame, counted from 0")
     pixels.add_argument("table", metavar="TABLE", help="CSV or TSV, rows and columns counted from 0; - is standard input")
+
+
+def add_reading_verbs(verbs: Any) -> None:
+    """Adds the verbs info, fit, rescue and view."""
     info = add_verb(verbs, "info", "prints what the notes of kept streams say")
     info.add_argument("paths", nargs="+", metavar="FILE.aec")
     fit = add_verb(verbs, "fit", "prints which options suit a file, and what an edit costs with them")
@@ -120,13 +138,12 @@ def words() -> argparse.ArgumentParser:
     view.add_argument("--range", metavar="FIRST:LEN", help="LEN samples from place FIRST on")
     view.add_argument("--count", type=int, metavar="N", help="the number of samples; only with -n, which ignores the note")
     add_options(view, needs_bits=False)
-    return parser
 
 
 def parsed(argv: Optional[list[str]]) -> argparse.Namespace:
     """Returns what the words ask for. File names may also come after options: argparse returns them as unknown, and they are added
     here."""
-    parser = words()
+    parser = command_parser()
     asked, late = parser.parse_known_args(argv)
     if late and all(word == "-" or not word.startswith("-") for word in late):
         if "paths" in asked:

@@ -36,8 +36,9 @@ def judge_samples(samples: Any, note: Note) -> None:
         raise Damaged("other samples", "the samples aren't those of the note: their SHA-256 is another. The options may be wrong")
 
 
-def begun(pair: Pair, pool: ThreadPoolExecutor) -> tuple[Opened, Future[None]]:
-    """Returns the note and the stream of a locked pair, and a future that raises Damaged if the stream doesn't have its note's sum."""
+def begin(pair: Pair, pool: ThreadPoolExecutor) -> tuple[Opened, Future[None]]:
+    """Begins to check the sum of a locked pair's stream. Returns the note and the stream, and a future that raises Damaged if the
+    stream doesn't have its note's sum."""
     note, stream = pair.note(), read_if_there(pair.path)
     if stream is None or len(stream) != note.stream.bytes:
         note, stream = pair.open()
@@ -53,7 +54,7 @@ def judge_stream(stream: bytes, note: Note) -> None:
 def edit(pair: Pair, script: bytes, allow_empty: bool) -> str:
     """Edits a kept stream by a script, under the lock. Returns the text that says what was done."""
     with ThreadPoolExecutor(4) as pool:
-        opened, has_sum = begun(pair, pool)
+        opened, has_sum = begin(pair, pool)
         note, options, decoding = opened.note, opened.note.options, pool.submit(samples_in, opened)
         checked = judged(script, note.count, options, allow_empty)
         has_sum.result()
@@ -114,7 +115,7 @@ def last_edit(note: Note) -> Optional[int]:
 def undo(pair: Pair) -> str:
     """Undoes the last edit of a kept stream, under the lock. Returns the text that says what was done."""
     with ThreadPoolExecutor(4) as pool:
-        opened, has_sum = begun(pair, pool)
+        opened, has_sum = begin(pair, pool)
         note, place = opened.note, last_edit(opened.note)
         if place is None:
             has_sum.result()

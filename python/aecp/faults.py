@@ -67,11 +67,19 @@ class NoMemory(Fault, MemoryError):
     """An allocation failed. No sample was changed. `Workspace.calls` also counts intervals that were coded before the failure."""
 
 
+class NoRoom(Fault):
+    """`out` is too short. The text says how many bytes the samples take."""
+
+
+class NotOpen(Fault):
+    """The workspace is closed, or the encoder is finished."""
+
+
 KINDS: dict[int, type[Fault]] = {
     BITS_PER_SAMPLE: OptionsRefused, BLOCK_SIZE: OptionsRefused, INTERVAL: OptionsRefused, RESTRICTED_WIDTH: OptionsRefused,
     EVEN_BLOCK_SIZE: OptionsRefused, SAMPLE_RANGE: SampleRefused, TRUNCATED: StreamRefused, VALUE_TOO_LARGE: StreamRefused,
     RUN_TOO_LONG: StreamRefused, OUT_OF_RANGE: RangeRefused, TOO_MANY_SAMPLES: LimitPassed, STREAM_TOO_LONG: LimitPassed,
-    MEMORY: NoMemory, SCRIPT: ScriptRefused,
+    MEMORY: NoMemory, SCRIPT: ScriptRefused, NO_ROOM: NoRoom, NOT_OPEN: NotOpen,
 }  # fmt: skip
 
 

@@ -82,16 +82,16 @@ def better_storage(data: bytes, options: Options) -> list[str]:
     """Returns a line for each other byte order, sign or prediction that takes over 1 % fewer bytes."""
     usual = len(encode(data, options))
     said = []
-    for words, change in (("-m", "msb_first"), ("-s", "signed"), ("-N", "preprocess")):
-        changed: dict[str, Any] = {change: not getattr(options, change)}
-        other = replace(options, **changed)
+    for flag, name, value_by_flag in (("-m", "msb_first", True), ("-s", "signed", True), ("-N", "preprocess", False)):
+        value = getattr(options, name)
+        changed: dict[str, Any] = {name: not value}
         try:
-            size = len(encode(data, other))
+            size = len(encode(data, replace(options, **changed)))
         except Fault:
             continue
         if size * 100 < usual * 99:
-            word = words if getattr(other, change) != (change == "preprocess") else f"no {words}"
-            said.append(f"{word}: {size} bytes instead of {usual}. Is it forgotten?" if word == words else f"{word}: {size} bytes instead of {usual}")
+            text = f"{size} bytes instead of {usual}"
+            said.append(f"no {flag}: {text}" if value == value_by_flag else f"{flag}: {text}. Is it forgotten?")
     return said
 
 
@@ -123,6 +123,7 @@ def candidates(fixed: Options, given: set[str]) -> Iterator[Options]:
 
 
 def read_by(stream: bytes, count: int, options: Options) -> Optional[Any]:
+    """Returns the samples of a stream, or None if they can't be decoded with these options."""
     try:
         return decode_bytes(stream, count, options)
     except Fault:

@@ -3,6 +3,7 @@
 from __future__ import annotations
 
 import contextlib
+import errno
 import fnmatch
 import functools
 import os
@@ -12,13 +13,13 @@ import sys
 from collections.abc import Iterable, Iterator
 from concurrent.futures import ThreadPoolExecutor
 from dataclasses import dataclass, replace
-from typing import Any, Callable, NamedTuple, Optional, TypeVar, Union
+from typing import Any, Callable, NamedTuple, Optional
 
 from aecp.calls import decode_bytes, encode
 from aecp.faults import Fault, OptionsRefused, SampleRefused
 from aecp.notes import WRITER, BadNote, Note, Sum, note_of, now, sha256_of, words_of
 from aecp.options import Options
-from aecp.pairs import NOTE, OLD_NOTE, STREAM, Damaged, Pair, Refused, read_if_there, shown
+from aecp.pairs import NOTE, OLD_NOTE, STREAM, Pair, Refused, read_if_there, shown
 from aecp.writing import sync_folder
 
 OURS = (STREAM, NOTE, OLD_NOTE)
@@ -26,7 +27,7 @@ HIDDEN = re.compile(r"\.(.*\.aec)\.([0-9a-f]{12}\.new|json\.new|lock)", re.S)
 TEXTS = ["README*", *(f"*.{end}" for end in ("txt", "md", "csv", "tsv", "json", "xml", "html", "log", "py", "sh", "toml", "yaml", "yml"))]
 FRONT = 1 << 18  # bytes of a file that a hint tries
 AT_ONCE = 5  # files that a process codes or writes at the same time
-T = TypeVar("T")
+FAILURES = (Refused, OSError, MemoryError, Fault)  # what work on a file may raise
 
 
 class Outcome(NamedTuple):
@@ -72,6 +73,7 @@ def files_of(paths: Iterable[str], include: list[str], exclude: list[str], compl
 
 
 def files_in(folder: str, top: str, include: list[str], exclude: list[str], complaints: list[Outcome]) -> Iterator[Found]:
+    """Yields the files to keep in a folder and below it, sorted by name in each folder. `top` is the folder that was named."""
     try:
         entries = sorted(os.scandir(folder), key=lambda it: it.name)
     except OSError as error:
@@ -93,6 +95,7 @@ def files_in(folder: str, top: str, include: list[str], exclude: list[str], comp
 
 
 def matches(names: tuple[str, ...], patterns: list[str]) -> bool:
+    """Returns whether one of the names matches one of the patterns."""
     return any(fnmatch.fnmatchcase(name, pattern) for name in names for pattern in patterns)
 
 
@@ -107,7 +110,7 @@ def leftovers_in(folder: str) -> dict[str, list[str]]:
     return found
 
 
-class Held(NamedTuple):
+class Locks(NamedTuple):
     """The locks of a run. In each folder the first pair has a lock file of its own, until `stack` is closed. The lock files of the other
     pairs are links to it."""
 
@@ -136,7 +139,7 @@ def keep_all(keeping: Keeping, files: list[Found]) -> list[Outcome]:
     kept = [it for it in done if it is not None]
     for folder in {os.path.dirname(os.path.realpath(it.path)) for it in kept if it.kind == "kept"}:
         sync_folder(folder)
-    return [removed(keeping, it) for it in kept] if keeping.remove else kept
+    return [remove_original(it) for it in kept] if keeping.remove else kept
 
 
 def keep(keeping: Keeping, file: Found) -> Outcome:
@@ -149,39 +152,40 @@ def keep_together(keeping: Keeping, files: list[Found], wait: bool) -> list[Opti
     runs that hold locks must not wait for each other."""
     sys.setswitchinterval(0.0001)  # so that a thread that is back from the disk soon gets its turn
     with contextlib.ExitStack() as stack:
-        held = Held(stack, {})
+        locks = Locks(stack, {})
         pool = stack.enter_context(ThreadPoolExecutor(AT_ONCE))
-        outcomes = list(pool.map(lambda it: refusing(it.path, lambda: keep_or_refuse(keeping, it, held, wait)), files))
+        outcomes = list(pool.map(lambda it: outcome_of(it.path, lambda: keep_or_refuse(keeping, it, locks, wait)), files))
     return outcomes
 
 
-def refusing(path: str, work: Callable[[], T]) -> Union[T, Outcome]:
-    """Returns the result of a piece of work on a file, or why it was refused."""
+def outcome_of(path: str, work: Callable[[], Optional[Outcome]]) -> Optional[Outcome]:
+    """Returns the outcome of a piece of work on a file. If the work fails, returns one that says why."""
     try:
         return work()
-    except Refused as refusal:
-        return Outcome(path, "refused", str(refusal))
-    except OSError as error:
-        return Outcome(path, "refused", said_of(error, path))
-    except MemoryError:
-        return Outcome(path, "refused", "out of memory")
-    except Fault as fault:
-        return Outcome(path, "refused", str(fault))
+    except FAILURES as error:
+        return Outcome(path, "refused", reason(error, path))
+
+
+def reason(error: Exception, path: str) -> str:
+    """Returns the text that says why work on the file `path` failed. `error` is one of FAILURES."""
+    if isinstance(error, OSError):
+        return said_of(error, path)
+    return "out of memory" if isinstance(error, MemoryError) else str(error)
 
 
 def said_of(error: OSError, path: str) -> str:
     """Returns the text of a failure of the system, with the name of its file if that isn't `path`."""
-    text = "no space left on the device" if error.errno == 28 else str(error.strerror or error)
+    text = "no space left on the device" if error.errno == errno.ENOSPC else str(error.strerror or error)
     name = error.filename
     return text if name is None or name == path else f"{text}: {shown(name if isinstance(name, str) else os.fsdecode(name))}"
 
 
-def keep_or_refuse(keeping: Keeping, file: Found, held: Held, wait: bool) -> Optional[Outcome]:
+def keep_or_refuse(keeping: Keeping, file: Found, locks: Locks, wait: bool) -> Optional[Outcome]:
     """Keeps a file under its lock. Returns None if another run has the lock."""
     pair = Pair(file.path + STREAM)
     if pair.is_kept() and pair.name not in leftovers_in(pair.folder):
         return judge_kept(keeping, file.path, pair)
-    with held.locked(pair, wait) as is_locked:
+    with locks.locked(pair, wait) as is_locked:
         return keep_locked(keeping, file, pair) if is_locked else None
 
 
@@ -279,8 +283,8 @@ def judge_kept(keeping: Keeping, path: str, pair: Pair, mended: str = "") -> Out
     return Outcome(path, "skipped", mended)
 
 
-def removed(keeping: Keeping, outcome: Outcome) -> Outcome:
-    """Removes an original if its stream decodes to it now."""
+def remove_original(outcome: Outcome) -> Outcome:
+    """Removes an original if its stream decodes to it now. Returns the outcome, or one that says why it isn't removed."""
     if outcome.kind not in ("kept", "skipped"):
         return outcome
     path = outcome.path
@@ -291,10 +295,8 @@ def removed(keeping: Keeping, outcome: Outcome) -> Outcome:
             return outcome._replace(kind="refused", said="it isn't removed: its stream was edited since, or the file has changed")
         if stat.S_ISREG(os.lstat(path).st_mode):
             os.unlink(path)
-    except (Damaged, Fault) as error:
-        return outcome._replace(kind="refused", said=f"it isn't removed: {error}")
-    except OSError as error:
-        return outcome._replace(kind="refused", said=f"it isn't removed: {said_of(error, path)}")
+    except FAILURES as error:
+        return outcome._replace(kind="refused", said=f"it isn't removed: {reason(error, path)}")
     return outcome
 
 

@@ -79,7 +79,8 @@ class Pair:
         except BadNote as error:
             path = self.note_path if old is None else self.old_note_path
             name = shown(os.path.basename(path))
-            raise Damaged("bad note", f"the note {name} can't be used: {error}; `aecp rescue` with -n and --count reads the stream") from None
+            text = f"the note {name} can't be used: {error}; `aecp rescue` with -n and --count reads the stream"
+            raise Damaged("bad note", text) from None
         if not os.path.lexists(self.path):
             raise Damaged("not kept", "there is neither a stream nor a note: `aecp keep` writes both")
         raise Damaged("no note", "there is no note: `aecp keep` writes one; `aecp rescue` reads a stream with none")

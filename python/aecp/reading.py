@@ -98,11 +98,9 @@ def rescued(stream: bytes, count: Optional[int], options: Options) -> Rescued:
     try:
         samples = decode_bytes(stream, count, options)
         return Rescued(samples, len(samples) // options.storage, "", True)
-    except StreamRefused as fault:
-        why = str(fault)
     except OptionsRefused as fault:
         raise Refused(str(fault)) from None
-    except LimitPassed as fault:
+    except (StreamRefused, LimitPassed) as fault:
         why = str(fault)
     least, most = 0, MOST_SAMPLES if count is None else count
     step = 1 << 12
@@ -117,22 +115,23 @@ def rescued(stream: bytes, count: Optional[int], options: Options) -> Rescued:
     return Rescued(best, least, why, False)
 
 
-def rescue_text(found: Rescued, stream: bytes, note: Optional[Note], has_count: bool) -> str:
-    """Returns a text that says what was rescued."""
+def rescue_text(found: Rescued, stream: bytes, note: Optional[Note], has_count: bool) -> tuple[str, bool]:
+    """Returns a text that says what was rescued, and False if samples are known to be missing or wrong."""
     if found.is_whole and note is not None:
         try:
             judge_samples(found.samples, note)
-            return f"all {found.number} samples are sound: their SHA-256 is that of the note"
+            return f"all {found.number} samples are sound: their SHA-256 is that of the note", True
         except Refused:
-            return f"{found.number} samples, all that the note names; but some are wrong: their SHA-256 isn't that of the note. No checksum can show which"
+            text = f"{found.number} samples, all that the note names; but some are wrong: their SHA-256 isn't that of the note"
+            return f"{text}. No checksum can show which", False
     if found.is_whole:
         more = "no checksum shows whether they are right" if has_count else "without --count the last ones may be filler"
-        return f"{found.number} samples: the whole stream decodes; {more}"
+        return f"{found.number} samples: the whole stream decodes; {more}", True
     wanted = f" of {note.count}" if note is not None else ""
     text = f"{found.number}{wanted} samples: {found.why}"
     if note is not None and len(stream) == note.stream.bytes:
         text += ". The damage may lie before that bit, and the last samples before it may be wrong"
-    return text
+    return text, False
 
 
 def grey(samples: list[int]) -> bytes:

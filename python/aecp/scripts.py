@@ -5,7 +5,7 @@ from __future__ import annotations
 import re
 import struct
 from collections.abc import Iterable, Iterator
-from typing import Any, NamedTuple, Optional
+from typing import Callable, Literal, NamedTuple, Optional
 
 from aecp.options import Options
 
@@ -56,6 +56,7 @@ def cut(word: str) -> str:
 
 
 def number_in(word: str, least: int, end: int, what: str) -> int:
+    """Returns a word as a number. Raises BadLine, which calls it a `what`, if it isn't one from `least` to `end` - 1."""
     if not re.fullmatch(r"-?[0-9]+" if least < 0 else r"[0-9]+", word):
         raise BadLine(f"{cut(word)!r} is no {what}")
     if len(word) > 25 or not least <= int(word) < end:
@@ -100,7 +101,8 @@ def judged(script: bytes, count: int, options: Options, allow_empty: bool = Fals
     """Returns the edits of a script for `count` samples. Each bad line is a complaint, and the lines after it are checked without it."""
     edits, complaints = [], []
     for line, data in enumerate(script.split(b"\n"), 1):
-        words = [word for word in re.split("[ \t]", data[: -1 if data.endswith(b"\r") else None].decode("utf-8", "backslashreplace")) if word]
+        text = data.removesuffix(b"\r").decode("utf-8", "backslashreplace")
+        words = [word for word in re.split("[ \t]", text) if word]
         if not words or words[0].startswith("#"):
             continue
         try:
@@ -116,22 +118,24 @@ class Store:
     """How samples are stored as bytes."""
 
     def __init__(self, options: Options) -> None:
-        self.width, self.order, self.signed = options.storage, ">" if options.msb_first else "<", options.signed
+        self.width, self.signed = options.storage, options.signed
+        self.byte_order: Literal["big", "little"] = "big" if options.msb_first else "little"
+        self.order = ">" if options.msb_first else "<"
         letter = {1: "b", 2: "h", 4: "i"}.get(self.width, "")
         self.letter = letter if self.signed else letter.upper()
 
     def bytes_of(self, values: list[int]) -> bytes:
+        """Returns numbers as stored samples."""
         if self.letter:
             return struct.pack(f"{self.order}{len(values)}{self.letter}", *values)
-        order: Any = "big" if self.order == ">" else "little"
-        return b"".join(value.to_bytes(self.width, order, signed=self.signed) for value in values)
+        return b"".join(value.to_bytes(self.width, self.byte_order, signed=self.signed) for value in values)
 
     def values_of(self, data: bytes) -> list[int]:
+        """Returns stored samples as numbers."""
         if self.letter:
             return list(struct.unpack(f"{self.order}{len(data) // self.width}{self.letter}", data))
-        order: Any = "big" if self.order == ">" else "little"
         parts = (data[i : i + self.width] for i in range(0, len(data), self.width))
-        return [int.from_bytes(part, order, signed=self.signed) for part in parts]
+        return [int.from_bytes(part, self.byte_order, signed=self.signed) for part in parts]
 
 
 def edited(samples: bytearray, edits: list[Edit], options: Options) -> bytearray:
@@ -192,37 +196,38 @@ def differing_places(before: bytes, after: bytes, first: int, length: int, width
     yield from differing_places(before, after, first + half, length - half, width)
 
 
-def equal_front(before: bytes, after: bytes, width: int) -> int:
-    """Returns how many samples at the front are equal."""
-    most = min(len(before), len(after)) // width
-    least = 0
-    step = PART
-    while least < most:
-        step = min(step, most - least)
-        if before[least * width : (least + step) * width] == after[least * width : (least + step) * width]:
-            least += step
+def longest(most: int, is_equal: Callable[[int, int], bool]) -> int:
+    """Returns how many samples are equal before the first that differs, at most `most`. `is_equal(first, last)` compares those from place
+    `first` on and before place `last`. All places count from the front, or all from the end."""
+    count, step = 0, PART
+    while count < most:
+        step = min(step, most - count)
+        if is_equal(count, count + step):
+            count += step
         elif step == 1:
             break
         else:
             step = (step + 1) // 2
-    return least
+    return count
+
+
+def equal_front(before: bytes, after: bytes, width: int) -> int:
+    """Returns how many samples at the front are equal."""
+
+    def is_equal(first: int, last: int) -> bool:
+        return before[first * width : last * width] == after[first * width : last * width]
+
+    return longest(min(len(before), len(after)) // width, is_equal)
 
 
 def equal_end(before: bytes, after: bytes, width: int, front: int) -> int:
     """Returns how many samples at the end are equal, without the front."""
-    most = min(len(before), len(after)) // width - front
-    same = 0
-    step = PART
-    while same < most:
-        step = min(step, most - same)
-        size = (same + step) * width
-        if before[len(before) - size : len(before) - same * width] == after[len(after) - size : len(after) - same * width]:
-            same += step
-        elif step == 1:
-            break
-        else:
-            step = (step + 1) // 2
-    return same
+
+    def is_equal(first: int, last: int) -> bool:
+        ours, theirs = (data[len(data) - last * width : len(data) - first * width] for data in (before, after))
+        return ours == theirs
+
+    return longest(min(len(before), len(after)) // width - front, is_equal)
 
 
 class Change(NamedTuple):

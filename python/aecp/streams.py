@@ -5,7 +5,7 @@ from __future__ import annotations
 import threading
 from typing import Any, Optional, Union
 
-from aecp.buffers import Array, Source, Target, room_for
+from aecp.buffers import Array, Readable, Source, Target, room_for
 from aecp.calls import native, needed_numpy, number_of, place
 from aecp.faults import NO_ROOM, fault_of
 from aecp.library import LIBRARY, Coder, EditReply, Reader, Reply, c_options, text_of
@@ -14,7 +14,7 @@ from aecp.options import Options
 SPARE = 4096  # bytes that are tried for an edited stream, beyond those of the stream and the script
 
 
-def edit(coded: Any, count: Optional[int], script: Union[str, Any], options: Options) -> tuple[bytes, int]:
+def edit(coded: Readable, count: Optional[int], script: Union[str, Readable], options: Options) -> tuple[bytes, int]:
     """Applies a script of edits to the first `count` samples of a stream, or to all with count None. Returns the edited stream and its
     number of samples. All lines apply, or none.
 
@@ -69,11 +69,11 @@ class Encoder(Alone):
         """The number of whole samples that were fed."""
         return self._bytes // self.options.storage
 
-    def feed(self, samples: Any) -> bytes:
+    def feed(self, samples: Readable) -> bytes:
         """Codes more samples, given as for encode; in bytes, a sample may be cut in two. Returns the bytes of the intervals that became
         complete.
 
-        Raises what encode raises. After a Fault each later feed raises it again; after finish a feed raises a Fault with the number 19.
+        Raises what encode raises. After a Fault each later feed raises it again; after finish a feed raises NotOpen.
         """
         source, reply = Source(native(samples, self.options), "samples"), Reply()
         with self._lock:
@@ -85,7 +85,7 @@ class Encoder(Alone):
         """Ends the stream. Returns its last bytes. An incomplete sample is dropped.
 
         Raises the fault of an earlier feed, or NoMemory; then the samples of the last interval are lost. After finish, also a failed
-        one, feed and finish raise a Fault with the number 19.
+        one, feed and finish raise NotOpen.
         """
         reply = Reply()
         with self._lock:
@@ -115,7 +115,7 @@ class Decoder(Alone):
     threads may call: each interval is returned to one of them.
     """
 
-    def __init__(self, coded: Any, count: Optional[int], options: Options) -> None:
+    def __init__(self, coded: Readable, count: Optional[int], options: Options) -> None:
         self.options = options
         self._lock = threading.Lock()
         self._reader = Reader()

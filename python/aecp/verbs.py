@@ -14,8 +14,7 @@ from functools import partial
 from typing import Any, Callable, Optional, TypeVar
 
 from aecp import checking, editing, fitting, keeping, reading
-from aecp.cli import complain
-from aecp.faults import Fault
+from aecp.cli import STOPS, complain
 from aecp.options import FLAGS, NUMBERS, Options
 from aecp.pairs import STREAM, Damaged, Opened, Pair, Refused, read_if_there, shown
 from aecp.scripts import change_of, difference
@@ -27,20 +26,14 @@ R = TypeVar("R")
 
 
 def refusing(path: str, work: Callable[[], int]) -> int:
-    """Returns the status of a piece of work on a file. If the work is refused, prints why, with the file's name."""
+    """Returns the status of a piece of work on a file. If the work fails, prints why, with the file's name."""
     try:
         return work()
-    except Refused as refusal:
-        more = "; `aecp rescue` reads what is left of it" if isinstance(refusal, Damaged) and refusal.kind == "other bytes" else ""
-        return complain(f"{shown(path)}: {refusal}{more}")
     except BrokenPipeError:
         raise
-    except OSError as error:
-        return complain(f"{shown(path)}: {keeping.said_of(error, path)}")
-    except MemoryError:
-        return complain(f"{shown(path)}: out of memory")
-    except Fault as fault:
-        return complain(f"{shown(path)}: {fault}")
+    except keeping.FAILURES as error:
+        more = "; `aecp rescue` reads what is left of it" if isinstance(error, Damaged) and error.kind == "other bytes" else ""
+        return complain(f"{shown(path)}: {keeping.reason(error, path)}{more}")
 
 
 def options_of(asked: argparse.Namespace) -> Options:
@@ -69,7 +62,7 @@ def input_of(path: str) -> bytes:
 def leave_stops() -> None:
     """Ignores signals to stop, in a process of a pool. The first process handles them, and lets the pool finish what it has
     begun."""
-    for number in (signal.SIGINT, signal.SIGTERM, signal.SIGHUP):
+    for number in STOPS:
         signal.signal(number, signal.SIG_IGN)
 
 
@@ -100,6 +93,12 @@ def with_progress(parts: Any, total: Optional[int] = None) -> Any:
     return tqdm(parts, total=len(parts) if total is None else total, leave=False, unit="batch")
 
 
+def report(outcome: keeping.Outcome) -> None:
+    """Prints what there is to say of a file."""
+    if outcome.said:
+        complain(f"{shown(outcome.path)}: {outcome.said}")
+
+
 def do_keep(asked: argparse.Namespace) -> int:
     if asked.jobs is not None and asked.jobs < 1:
         return usage(asked, "--jobs must be 1 or more")
@@ -108,30 +107,29 @@ def do_keep(asked: argparse.Namespace) -> int:
     except (Refused, ValueError) as error:
         return usage(asked, str(error))
     how = keeping.Keeping(options, asked.rehash, asked.anyway, asked.remove)
-    said: list[keeping.Outcome] = []
-    files = list(keeping.files_of(asked.paths, asked.include, asked.exclude, said))
-    for outcome in said:
-        complain(f"{shown(outcome.path)}: {outcome.said}")
+    complaints: list[keeping.Outcome] = []
+    files = list(keeping.files_of(asked.paths, asked.include, asked.exclude, complaints))
+    for outcome in complaints:
+        report(outcome)
     counts: dict[str, int] = {}
     before = after = 0
     for outcome in spread(partial(keeping.keep_all, how), files, asked.jobs):
-        if outcome.said:
-            complain(f"{shown(outcome.path)}: {outcome.said}")
+        report(outcome)
         counts[outcome.kind] = counts.get(outcome.kind, 0) + 1
         before, after = before + outcome.bytes, after + outcome.coded
     names = {"kept": "kept", "skipped": "kept already", "passed": "passed over", "changed": "changed", "refused": "refused"}
     text = ", ".join(f"{counts[kind]} {name}" for kind, name in names.items() if kind in counts) or "no files"
     print(f"{text}; {before} bytes became {after}" if before else text)
-    return int(any(it.kind == "refused" for it in said) or "refused" in counts or "changed" in counts)
+    return int(any(it.kind == "refused" for it in complaints) or "refused" in counts or "changed" in counts)
 
 
 def do_check(asked: argparse.Namespace) -> int:
     if asked.jobs is not None and asked.jobs < 1:
         return usage(asked, "--jobs must be 1 or more")
-    said: list[keeping.Outcome] = []
-    paths = list(checking.kept_in(asked.paths, said))
-    for outcome in said:
-        complain(f"{shown(outcome.path)}: {outcome.said}")
+    complaints: list[keeping.Outcome] = []
+    paths = list(checking.kept_in(asked.paths, complaints))
+    for outcome in complaints:
+        report(outcome)
     bad, count = [], 0
     for verdict in spread(checking.check_all, paths, asked.jobs):
         count += 1
@@ -144,15 +142,21 @@ def do_check(asked: argparse.Namespace) -> int:
         print(json.dumps({"checked": count, "sound": count - len(bad), "faults": faults}, indent=1))
     else:
         print(f"{count} checked, {count - len(bad)} sound, {len(bad)} damaged")
-    return int(bool(bad) or any(it.kind == "refused" for it in said))
+    return int(bool(bad) or any(it.kind == "refused" for it in complaints))
 
 
-def pair_of(path: str, mend: bool = True) -> Pair:
-    """Returns the pair of a stream. With `mend`, first finishes what a stopped run left, and says so."""
+def pair_of(path: str) -> Pair:
+    """Returns the pair that the path of a stream, a note or an original names. Raises Refused if there is neither a stream nor a note."""
     pair = Pair(checking.stream_of(path) if os.path.basename(path) != STREAM else path)
     if not os.path.lexists(pair.path) and not os.path.lexists(pair.note_path):
         raise Refused("it is a folder: name a file in it" if os.path.isdir(path) else "there is no such file")
-    if mend and os.access(pair.folder, os.W_OK) and (os.path.exists(pair.lock_path) or pair.leftovers()):
+    return pair
+
+
+def mended_pair(path: str) -> Pair:
+    """Finishes what a stopped run left of a pair, and says so; not if another run has the lock. Returns the pair."""
+    pair = pair_of(path)
+    if os.access(pair.folder, os.W_OK) and (os.path.exists(pair.lock_path) or pair.leftovers()):
         with pair.locked(wait=False) as is_locked:
             if is_locked:
                 say_mended(pair)
@@ -160,13 +164,15 @@ def pair_of(path: str, mend: bool = True) -> Pair:
 
 
 def say_mended(pair: Pair) -> None:
+    """Finishes what a stopped run left of a locked pair, and prints what was done."""
     done = pair.mend()
     if done:
         complain(f"{shown(pair.name)}: {done}")
 
 
-def opened(path: str) -> Opened:
-    return pair_of(path).open()
+def open_pair(path: str) -> Opened:
+    """Returns the note and the stream of a pair. First finishes what a stopped run left of it."""
+    return mended_pair(path).open()
 
 
 def do_back(asked: argparse.Namespace) -> int:
@@ -176,7 +182,7 @@ def do_back(asked: argparse.Namespace) -> int:
         return usage(asked, str(error))
 
     def work() -> int:
-        pair = pair_of(asked.file)
+        pair = mended_pair(asked.file)
         out = asked.out or (asked.file[: -len(STREAM)] if asked.file.endswith(STREAM) else pair.path[: -len(STREAM)])
         reading.write_out(out, reading.samples_of(pair.open(), part))
         return 0
@@ -188,7 +194,7 @@ def under_lock(path: str, work: Callable[[Pair], str]) -> int:
     """Does a piece of work on a pair that no other run is changing, and prints its text. Returns the status."""
 
     def locked() -> int:
-        pair = pair_of(path, mend=False)
+        pair = pair_of(path)
         with pair.locked():
             say_mended(pair)
             print(f"{shown(path)}: {work(pair)}")
@@ -198,15 +204,11 @@ def under_lock(path: str, work: Callable[[Pair], str]) -> int:
 
 
 def do_edit(asked: argparse.Namespace) -> int:
-    scripts: list[bytes] = []
+    def work() -> int:
+        script = input_of(asked.script)
+        return under_lock(asked.file, lambda pair: editing.edit(pair, script, asked.allow_empty))
 
-    def read() -> int:
-        scripts.append(input_of(asked.script))
-        return 0
-
-    if refusing(asked.script, read):
-        return 1
-    return under_lock(asked.file, lambda pair: editing.edit(pair, scripts[0], asked.allow_empty))
+    return refusing(asked.script, work)
 
 
 def do_undo(asked: argparse.Namespace) -> int:
@@ -215,7 +217,7 @@ def do_undo(asked: argparse.Namespace) -> int:
 
 def do_log(asked: argparse.Namespace) -> int:
     def work() -> int:
-        note = opened(asked.file).note
+        note = open_pair(asked.file).note
         if asked.script is not None:
             reading.write_out("-", editing.script_in(note, asked.script))
             return 0
@@ -227,11 +229,11 @@ def do_log(asked: argparse.Namespace) -> int:
 
 def do_diff(asked: argparse.Namespace) -> int:
     def work() -> int:
-        first = opened(asked.first)
+        first = open_pair(asked.first)
         return refusing(asked.second, lambda: compare(first))
 
     def compare(first: Opened) -> int:
-        second = opened(asked.second)
+        second = open_pair(asked.second)
         ours, theirs = editing.compared(first, second)
         change = change_of(ours, theirs, first.note.options.storage)
         for line in difference(ours, theirs, change, first.note.options):
@@ -262,7 +264,7 @@ def do_info(asked: argparse.Namespace) -> int:
     for path in asked.paths:
 
         def work() -> int:
-            note = pair_of(path).note()
+            note = mended_pair(path).note()
             print(f"{shown(path)}\n  " + "\n  ".join(reading.info_lines(note)))
             return 0
 
@@ -283,7 +285,8 @@ def do_fit(asked: argparse.Namespace) -> int:
             raise Refused("it is empty")
         if asked.bits is None:
             guess = fitting.guessed_bits(data)
-            print(f"-n isn't given; the start of the file takes the fewest bytes as samples of {guess.bits} bits{' with -m' if guess.msb_first else ''}")
+            text = f"samples of {guess.bits} bits{' with -m' if guess.msb_first else ''}"
+            print(f"-n isn't given; the start of the file takes the fewest bytes as {text}")
             asked.bits, asked.msb_first = guess.bits, guess.msb_first
         options = options_of(asked)
         piece = data if asked.all else data[: fitting.PIECE]
@@ -313,11 +316,11 @@ def do_rescue(asked: argparse.Namespace) -> int:
         options = note.options if asked.bits is None else options_of(asked)
         count = asked.count if asked.count is not None else note.count if note is not None else None
         found = reading.rescued(stream, count, options)
-        text = reading.rescue_text(found, stream, note, count is not None)
+        text, is_sound = reading.rescue_text(found, stream, note, count is not None)
         if asked.out is not None:
             reading.write_out(asked.out, found.samples)
         print(f"{shown(asked.file)}: {text}", file=sys.stderr if asked.out == "-" else sys.stdout)
-        return int(not (found.is_whole and "wrong" not in text))
+        return int(not is_sound)
 
     return refusing(asked.file, work)
 
@@ -335,7 +338,7 @@ def do_view(asked: argparse.Namespace) -> int:
             stream = input_of(asked.file)
             samples = reading.part_of(stream, asked.count, part, options_of(asked))
         else:
-            kept = opened(asked.file)
+            kept = open_pair(asked.file)
             samples = reading.listed(reading.samples_of(kept, part), kept.note.options)
         print(reading.view(samples, asked.out, asked.width))
         return 0

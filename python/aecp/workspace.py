@@ -7,9 +7,9 @@ from array import array
 from collections.abc import Iterable, Iterator, MutableSequence, Sequence
 from typing import Any, Callable, Optional, SupportsIndex, Union, overload
 
-from aecp.buffers import Source, Target, numpy_if_there, room_for
+from aecp.buffers import Readable, Source, Target, numpy_if_there, room_for
 from aecp.calls import number_of, place
-from aecp.faults import NO_ROOM, NOT_OPEN, SAMPLE_RANGE, Fault, fault_of
+from aecp.faults import NO_ROOM, SAMPLE_RANGE, Fault, NotOpen, fault_of
 from aecp.library import LIBRARY, Handle, Reply, c_options, text_of
 from aecp.options import Options, whole
 from aecp.samples import Held, Samples, several
@@ -31,7 +31,7 @@ class Workspace(MutableSequence[int]):
     OptionsRefused, and what append raises. Iteration, `in`, `index` and `count` decode all samples once.
 
     Any number of threads may use a workspace: its calls run one after the other. A copy, also by pickle, has samples of its own. After
-    close, which the end of the `with` block calls, the length is 0, and edits raise a Fault with the number 19.
+    close, which the end of the `with` block calls, the length is 0, and edits raise NotOpen.
     """
 
     __hash__ = None  # type: ignore[assignment]
@@ -49,7 +49,7 @@ class Workspace(MutableSequence[int]):
             raise
 
     @classmethod
-    def of_coded(cls, coded: Any, count: Optional[int], options: Options) -> Workspace:
+    def of_coded(cls, coded: Readable, count: Optional[int], options: Options) -> Workspace:
         """Returns a workspace with the first `count` samples of a stream, or all with count None. Raises what decode_bytes raises."""
         work, source = cls(options), Source(coded, "coded")
         work._call("aecp_load", c_options(options), number_of(count), source.at, source.size, front=True)
@@ -169,7 +169,7 @@ class Workspace(MutableSequence[int]):
         return work
 
     def __reduce__(self) -> tuple[Callable[..., Any], tuple[Any, ...]]:
-        """Makes copies and pickles from the stream. Raises a Fault with the number 19 if the workspace is closed."""
+        """Makes copies and pickles from the stream. Raises NotOpen if the workspace is closed."""
         with self._lock:
             return type(self).of_coded, (self.tobytes(), len(self), self.options)
 
@@ -206,8 +206,10 @@ class Workspace(MutableSequence[int]):
         with self._lock:
             try:
                 front, count = self.read(0, min(len(self), SHOWN)), len(self)
+            except NotOpen:
+                return f"<closed {type(self).__name__}>"
             except Fault as fault:
-                return f"<closed {type(self).__name__}>" if fault.number == NOT_OPEN else f"<{type(self).__name__}: {fault}>"
+                return f"<{type(self).__name__}: {fault}>"
         more = f", .. ({count} samples)" if count > SHOWN else ""
         return f"{type(self).__name__}({self.options}, [{', '.join(map(str, front))}{more}])"
 
