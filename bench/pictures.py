@@ -117,10 +117,15 @@ def stream():
     for number, at in ((0, 0), (1, 1), (2, 3)):
         middle = left + 2 * number * (block + apart) + block
         parts.append(line(middle, 168, begins[at] + 4, 204))
-    said = (("blue", "how the rest is coded"), ("sand", "the interval's first sample, as it is"), ("green", "differences, or the length of a run"))
+    said = (
+        ("blue", "how the rest is coded"),
+        ("sand", "the interval's first sample, as it is"),
+        ("green", "differences, or the length of a run"),
+    )
     for number, (colour, words) in enumerate(said):
         parts += [box(left + 250 * number, 258, 12, 12, colour, "edge"), text(left + 18 + 250 * number, 269, words, size=13)]
-    parts.append(text(left, 296, "An edit writes the code of the intervals that it touches anew. Not in the stream: options, count, checksum.", size=13))
+    below = "An edit writes the code of the intervals that it touches anew. Not in the stream: options, count, checksum."
+    parts.append(text(left, 296, below, size=13))
     return picture(312, "48 samples, their blocks and intervals, and their code", parts)
 
 

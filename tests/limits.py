@@ -22,7 +22,7 @@ TOP = os.path.abspath(sys.argv[1] if len(sys.argv) > 1 else os.path.join(os.path
 CODE, DEFINITIONS = 400, 150  # lines of a file
 TEXT = 100  # columns of code, clauses and comments
 SPEC, PROOF = 120, 160  # columns of a definition, of a proof
-SCRIPT, SCRIPTS = 140, ("tests/", "tools/")  # columns of a script in Python, and the folders of those that keep to them
+SCRIPT = 140  # columns of Python
 BODY, DEFINITION, ANSWER = 40, 20, 20  # lines
 NAMES = 40  # of one `use`
 COPIES = ("asserts.rt", "tables.rt")  # crates of tests have copies of these, so that none waits for another's proof
@@ -89,7 +89,7 @@ def wide_lines(path, lines):
             most = TEXT if is_comment else SPEC if "/specs/" in path else PROOF
             if len(line) > most and not USE.match(line):
                 yield Place(path, number, f"{len(line)} columns", line.strip())
-    elif path.endswith(".py") and path.startswith(SCRIPTS):
+    elif path.endswith(".py"):
         for number, line in enumerate(lines, 1):
             if len(line) > SCRIPT:
                 yield Place(path, number, f"{len(line)} columns", line.strip())
