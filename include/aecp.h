@@ -60,6 +60,7 @@ typedef struct {
     uint64_t len;
 } aecp_reply;
 
+/* The faults. These numbers keep their meaning. */
 enum {
     AECP_OK = 0,
     AECP_BITS_PER_SAMPLE = 1,
