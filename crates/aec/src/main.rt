@@ -7,9 +7,7 @@ use std::process::ExitCode;
 /// Runs the program on the words of its process, or prints why it can't.
 fn main(rt: HostRuntime) -> ExitCode {
     ExitCode::from(match start(&rt) {
-        Ok(words) => {
-            perform(&rt, rt.alloc(), words, &mut rt.stdout(), &mut rt.stderr()).status()
-        }
+        Ok(words) => perform(&rt, rt.alloc(), words, &mut rt.stdout(), &mut rt.stderr()),
         Err(fault) => {
             let _ = eprintln!(rt; "aec: {fault}");
             fault.status()

@@ -78,7 +78,7 @@ impl BitBuf {
     }
 
     /// Returns the bit at place `i`.
-    pub fn bit(&self, i: u64) -> bool
+    pub fn get(&self, i: u64) -> bool
         requires { i < length self.now.list }
         ensures { result ≡ slice_index_or self.now.list i false }
     {
@@ -279,11 +279,13 @@ impl BitBuf {
     /// Appends zeros up to a multiple of 8 bits; the room shrinks by their number. Allocates
     /// nothing: the last word also holds the rest of the last byte.
     #[tactic(auto, using(crate::proofs::BitBufLemmas::padded, crate::proofs::PackedLemmas::packed_lengths))]
-    pub fn pad_to_byte(&mut self)
+    pub fn pad_to_byte(&mut self) -> Result<(), Fault>
+        ensures ok { IsOk result }
         ensures list { self.new.list ≡ padded_to_byte self.old.list }
         ensures room { self.old.room ≡ self.new.room + up_to_multiple 8 (length self.old.list) }
     {
         self.len += missing_bits(self.len);
+        Ok(())
     }
 
     /// Returns the bits of bytes, the most significant bit of each first. Fails with `Memory` if an

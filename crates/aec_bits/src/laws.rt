@@ -9,6 +9,7 @@ use crate::bit_buf::BitBuf;
 use crate::bit_reader::BitReader;
 use crate::codec::Codec;
 use aec_params::Fault;
+use std::alloc::Global;
 
 /// A codec of the samples 0 to 255, each in eight bits, in intervals of at most four.
 #[derive(Debug, Drop)]
@@ -21,8 +22,8 @@ pub struct Octets {
 impl Octets {
     ghost use Rattle.std.specs.Prelude.{◌≡◌};
 
-    /// Returns a codec whose count of coded intervals begins at `calls`.
-    pub fn new(calls: u64) -> Octets
+    /// Returns a codec whose count of coded intervals begins at `calls`. Allocates nothing.
+    pub fn new(_alloc: Global, calls: u64) -> Octets
         ensures format { ⟦<Octets as Codec>⟧.format result ≡ octets }
         ensures calls { ⟦<Octets as Codec>⟧.called result ≡ calls }
         ensures reads { ⟦<Octets as Codec>⟧.read result ≡ 0 }

@@ -113,6 +113,6 @@ pub fn unmap(params: &Params, p: i64, m: u32) -> i64
         let offset = unmap_offset(top, offset_of(params, p), m);
         sample_at(params, offset)
     } else {
-        params.sample_of_pattern(m)
+        params.value(m)
     }
 }

@@ -86,7 +86,7 @@ fn finish_open(made: &mut OpenCoder) -> Reply
     };
     match coder.finish(&mut made.bits) {
         Ok(()) => {
-            made.bits.pad_to_byte();
+            made.bits.pad_to_byte().unwrap();
             answered(whole_bytes(&made.bits))
         }
         Err(fault) => refused(fault),

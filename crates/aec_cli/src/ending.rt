@@ -4,11 +4,11 @@ ghost use Rattle.std.specs.Prelude.{◌≡◌};
 ghost use Rattle.aec_cli.specs.Ends.{end_status};
 
 use crate::done::Done;
-use crate::failure::Failure;
+use crate::failure::{Failure, status};
 
 /// How the program ended.
 #[derive(Debug, PartialEq, Eq, Drop)]
-pub enum End {
+pub(crate) enum End {
     /// Parsing the words ended the run: help, the version or a mistake in them was printed.
     Unstarted { status: u8 },
     /// The job is done.
@@ -20,13 +20,13 @@ pub enum End {
 
 impl End {
     /// Returns the status of the process.
-    pub fn status(&self) -> u8
+    pub(crate) fn status(&self) -> u8
         ensures { result ≡ end_status self.now }
     {
         match self {
             End::Unstarted { status } => *status,
             End::Done(_) => 0,
-            End::Failed(failure) => failure.status(),
+            End::Failed(failure) => status(failure),
         }
     }
 }

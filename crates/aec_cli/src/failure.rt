@@ -22,15 +22,13 @@ pub enum Failure {
     Edit(EditFault),
 }
 
-impl Failure {
-    /// Returns the status that the program ends with: 2 if the words make no job, else 1. Lack of
-    /// memory is no fault of the words.
-    pub fn status(&self) -> u8
-        ensures { result ≡ status_of self.now }
-    {
-        match self {
-            Failure::Usage(Usage::Jobs | Usage::Count | Usage::Range | Usage::Setting(_)) => 2,
-            Failure::Usage(Usage::Memory) | Failure::Fault(_) | Failure::Edit(_) => 1,
-        }
+/// Returns the status that the program ends with after a failure: 2 if the words make no job, else
+/// 1. Lack of memory is no fault of the words.
+pub fn status(failure: &Failure) -> u8
+    ensures { result ≡ status_of failure.now }
+{
+    match failure {
+        Failure::Usage(Usage::Jobs | Usage::Count | Usage::Range | Usage::Setting(_)) => 2,
+        Failure::Usage(Usage::Memory) | Failure::Fault(_) | Failure::Edit(_) => 1,
     }
 }

@@ -67,7 +67,7 @@ pub struct Job {
 /// Returns the job that the matches of a parse ask for. The refusals in their order: `Jobs`,
 /// `Count` and `Range`, which concern the action; `Setting`; and `Memory` only if there is no
 /// other.
-pub fn read_job(alloc: Global, matches: &ArgMatches<'_>) -> Result<Job, Usage>
+pub fn settings(alloc: Global, matches: &ArgMatches<'_>) -> Result<Job, Usage>
     ensures ok { IfOk result (λ job. job_of (found_of matches.now) ≡ Ok (task_of job)) }
     ensures refuses { IfErr (job_of (found_of matches.now)) (λ usage. result ≡ Err usage) }
     ensures memory { IfErr result

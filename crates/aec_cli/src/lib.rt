@@ -13,12 +13,11 @@ mod start;
 mod usage;
 mod words;
 
-pub use aec_engine::{EditFault, decode, encode, range};
+pub use aec_engine::{EditFault, Script, decode, edit, encode, range, script};
 pub use done::Done;
-pub use ending::End;
-pub use failure::Failure;
+pub use failure::{Failure, status};
 pub use files::{DestSink, FileSource};
-pub use job::{Action, Job, read_job};
+pub use job::{Action, Job, settings};
 pub use program::perform;
 pub use start::{StartFault, fill_if_closed, process_words};
 pub use usage::Usage;

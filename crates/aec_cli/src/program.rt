@@ -7,6 +7,7 @@ ghost use Rattle.clap.specs.Values.{kind_of};
 ghost use Rattle.clap.specs.Walk.{Text};
 ghost use Rattle.aec_cli.specs.Actions.{HasNoScript, IsAnswerOf, are_enough, program_caps};
 ghost use Rattle.aec_cli.specs.Commands.{aec_app};
+ghost use Rattle.aec_cli.specs.declared.ending.End.{End as EndOfRun};
 ghost use Rattle.aec_cli.specs.Ends.{ConcernsJob, end_of_parse, end_of_run, end_status, EndsByMistake, EndsByWords, HasSynced};
 ghost use Rattle.aec_engine.specs.Editing.{LeavesEdited};
 ghost use Rattle.aec_engine.specs.Transfers.{Taking, taking_of, Putting, putting_of, Leaves};
@@ -15,7 +16,7 @@ use crate::done::Done;
 use crate::ending::End;
 use crate::failure::Failure;
 use crate::files::{DestSink, FileSource};
-use crate::job::{Action, Job, read_job};
+use crate::job::{Action, Job, settings};
 use crate::usage::Usage;
 use crate::words::parse;
 use aec_bits::{Sink, Source};
@@ -26,10 +27,27 @@ use std::alloc::Global;
 use std::io::Write;
 use std::rt::Files;
 
-/// Runs the program on its words, of which the first is the program's name, and returns how it
-/// ended, with the status 0, 1 or 2. A job ends with 0 only if its file is written out. Standard
-/// output goes to `out`, standard error to `err`; a fault of either changes nothing.
+/// Runs the program on its words, of which the first is the program's name, and returns the status
+/// that it ends with: 0, 1 or 2. A job ends with 0 only if its file is written out. Standard output
+/// goes to `out`, standard error to `err`; a fault of either changes nothing.
 pub fn perform<F: Files, O: Write, E: Write>(
+    rt: &F,
+    alloc: Global,
+    words: Vec<String>,
+    out: &mut O,
+    err: &mut E,
+) -> u8
+    ensures bound { result ≤ 2 }
+    ensures ends { let given : List Text = map string_bytes words.items in
+        (end : EndOfRun) × (result ≡ end_status end)
+        × EndsByMistake (fault_of aec_app given) end
+        × (fault_of aec_app given ≡ [] → EndsByWords given end) }
+{
+    run_words(rt, alloc, words, out, err).status()
+}
+
+/// Does what `perform` does, and returns how the program ends.
+fn run_words<F: Files, O: Write, E: Write>(
     rt: &F,
     alloc: Global,
     words: Vec<String>,
@@ -45,7 +63,7 @@ pub fn perform<F: Files, O: Write, E: Write>(
         Ok(matches) => matches,
         Err(error) => return unparsed(&error, out, err),
     };
-    let job = match read_job(alloc, &matches) {
+    let job = match settings(alloc, &matches) {
         Ok(job) => job,
         Err(usage) => return failed(Failure::Usage(usage), err),
     };

@@ -124,7 +124,7 @@ impl<C: Codec> Workspace<C> {
 
     /// Returns the bit where interval `i` begins in the code: the number of bits in the code of the
     /// samples before it. Returns `None` if there is no such interval.
-    pub fn interval_start(&self, i: u64) -> Option<u64>
+    pub fn offset(&self, i: u64) -> Option<u64>
         ensures { MatchOption result
             (interval_count (C.format self.now.codec) self.now.samples ≤ i)
             (λ start. (i < interval_count (C.format self.now.codec) self.now.samples)

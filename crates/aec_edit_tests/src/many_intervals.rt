@@ -47,7 +47,7 @@ fn many_coded_intervals_each_overwritten(rt: HostRuntime) -> Result<(), Fail> {
     same(&rt, (work.calls(), work.reads()), (2 * INTERVALS, 0));
     same(
         &rt,
-        work.interval_start(INTERVALS - 1),
+        work.offset(INTERVALS - 1),
         Some(BITS * (INTERVALS - 1)),
     );
     same(&rt, work.stream_bits(), BITS * INTERVALS);

@@ -19,7 +19,7 @@ use std::test::Fail;
 
 /// Returns an empty workspace whose codec's count begins at `calls`.
 pub(crate) fn workspace(alloc: Global, calls: u64, limit: u64) -> Workspace<Octets> {
-    Workspace::new(alloc, Octets::new(calls), limit.min(1 << 32))
+    Workspace::new(alloc, Octets::new(alloc, calls), limit.min(1 << 32))
 }
 
 // Where the codec's count begins, the limit, and the steps of a workspace that is empty at first.
@@ -315,7 +315,7 @@ fn writes_what_edits_leave(rt: HostRuntime) -> Result<(), Fail> {
         overwrite(alloc, 5, 1)?,
         overwrite(alloc, 4, 7)?,
     ];
-    let edited = write_edited(alloc, Octets::new(10), 8, &edits, &mut sink)?;
+    let edited = write_edited(alloc, Octets::new(alloc, 10), 8, &edits, &mut sink)?;
     let fault = Fault::OutOfRange { count: 5 };
     let outcomes = [
         Outcome::Done { coded: 2 },
@@ -352,7 +352,13 @@ impl Write for Full {
 fn a_failing_sink_is_named(rt: HostRuntime) -> Result<(), Fail> {
     let alloc = rt.alloc();
     let mut sink = WriteSink::new(Full);
-    let edited = write_edited(alloc, Octets::new(0), 8, &[zeros(alloc, 1)?], &mut sink);
+    let edited = write_edited(
+        alloc,
+        Octets::new(alloc, 0),
+        8,
+        &[zeros(alloc, 1)?],
+        &mut sink,
+    );
     same(&rt, edited.err(), Some(Fault::Write));
     same(&rt, sink.failures(), 1);
     Ok(())

@@ -57,7 +57,7 @@ pub(crate) fn counts<C: Codec>(work: &Workspace<C>) -> (u64, u64, u64) {
 
 /// Returns the bit where an interval begins, if it exists.
 pub(crate) fn start_of<C: Codec>(work: &Workspace<C>, i: u64) -> Option<u64> {
-    work.interval_start(i)
+    work.offset(i)
 }
 
 // Returns the values that a text spells. `0*48` is forty-eight zeros.

@@ -9,7 +9,7 @@ use Rattle.std.proofs.lemmas.Nat.{div-add-mod', mod_below}
 use Rattle.std.proofs.Common.{take}
 use Rattle.aec_params.specs.declared.settings.Settings.{Settings}
 use Rattle.aec_params.specs.declared.fault.Fault.{Fault}
-use Rattle.aec_params.specs.declared.fault.Fault.TheVariants.{Read}
+use Rattle.aec_params.specs.declared.fault.Fault.TheVariants.{Read, Memory}
 use Rattle.aec_params.specs.Limits.{Caps}
 use Rattle.aec_params.specs.Params.{IsAllowed, storage_len}
 use Rattle.aec_params.specs.Stored.{samples_of_bytes}
@@ -196,6 +196,12 @@ coded_answer s caps limit source bits all coder a counted fed_all is =
     (encoded so.samples (ap (λ o. option_or o None) (judged_so_far s caps.samples fed.bytes bits coder a fed.feeds)) so.taken))
 
 -- ---- bytes in memory, fed in one piece
+
+-- there is no room for the code
+pub refused_for_room : {X : Type 0} (view : X → List ℕ) (r : Result X Fault) (out : Fault) (s : Settings) (caps : Caps) (bytes : List ℕ) → r ≡ Err out
+    → out ≡ Memory → OrMemory (IsEncoded s caps (input_of bytes false)) (answer_by view r)
+refused_for_room view r out s caps bytes is memory =
+    subst (λ r. OrMemory (IsEncoded s caps (input_of bytes false)) (answer_by view r)) (sym (is ∙ ap Err memory)) (inl refl)
 
 stopped_whole : (s : Settings) (caps : Caps) (bytes : List ℕ) (before more : List Bool) (fault : Fault) → IsAllowed s
     → StopsFeeding (fresh_coder s caps.samples) bytes before more fault → OrMemory (IsEncoded s caps (input_of bytes false)) (Err fault)

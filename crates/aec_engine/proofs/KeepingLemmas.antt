@@ -12,11 +12,10 @@ use Rattle.aec_params.specs.Params.{IsAllowed, IsHeld, interval_len}
 use Rattle.aec_params.specs.Reading.{is_wanted, IsReading}
 use Rattle.aec_params.proofs.SettingLaws.{block_size-positive}
 use Rattle.aec_interval.specs.Reached.{count_refusal, RefusesReading, RefusesDecoding}
-use Rattle.aec_interval.specs.Pieces.{Place, IsPlace, place_at, is_wanted_at, ReadsIntervals}
+use Rattle.aec_interval.specs.Pieces.{Place, place_at, is_wanted_at, ReadsIntervals}
 use Rattle.aec_interval.proofs.PieceReadingLemmas.{has_read_nothing, has_read_several, has_read_front, has_read_few, has_read_all, piece_is_held}
-use Rattle.aec_interval.proofs.ReachedPlaceLemmas.{place-within}
 use Rattle.aec_engine.specs.Output.{all_stored, samples_from}
-use Rattle.aec_engine.specs.ReadingTwice.{AreFewKept, AreSamplesOf, HaveSamples, KeepsFront, DecodesBits, SettlesOne}
+use Rattle.aec_engine.specs.ReadingTwice.{AreSamplesOf, HaveSamples, KeepsFront, DecodesBits, SettlesOne}
 use Rattle.aec_engine.specs.Delivering.{Delivers}
 use Rattle.aec_engine.specs.ReadingTwice as twice
 use Rattle.aec_engine.specs.Transfers.{Putting}
@@ -126,37 +125,13 @@ first_are_all s count limit bits q n bytes a same none keeps is =
 
 -- ---- how many bytes are kept
 
--- 0 kept bytes are few (`AreFewKept`)
-pub few_none : (kept interval bits : ℕ) → kept ≡ 0 → AreFewKept kept interval bits
-few_none kept interval bits none past = absurd (omega (arith, none, past))
-
--- bytes that fit in room for few bytes are few
-pub few_within : (kept room interval bits : ℕ) → kept ≤ room → AreFewKept room interval bits → AreFewKept kept interval bits
-few_within kept room interval bits within few past =
-    let room_few = few (omega (arith, past, within)) in
-    (omega (arith, within, room_few.0), omega (arith, within, room_few.1))
-
--- a reader is within the bits that it began with
-pub bit-within : (start p : Place) → p ≡ place_from start p.block p.bit → IsPlace p → p.bit ≤ length start.bits
-bit-within start p same is =
-    place-within start.settings start.count start.limit start.bits p.block p.bit (subst IsPlace same is)
-
--- room for few bytes is still room for few bytes after more room was made
-pub few_then : (start p : Place) (room made len interval most : ℕ) → p ≡ place_from start p.block p.bit → IsPlace p → most ≤ p.bit → len ≡ interval
-    → ((bits : ℕ) → AreFewKept room (4 * len) bits → most ≤ bits → AreFewKept made (4 * len) bits) → AreFewKept room (4 * interval) (length start.bits)
-    → AreFewKept made (4 * interval) (length start.bits)
-few_then start p room made len interval most same there at_most is asks few =
-    subst (λ n. AreFewKept made (4 * n) (length start.bits)) is
-    (asks (length start.bits) (subst (λ n. AreFewKept room (4 * n) (length start.bits)) (sym is) few)
-    (omega (arith, at_most, bit-within start p same there)))
-
--- kept bytes and the bytes of more samples are few, if both fit in room for few bytes
-pub few_more : (start p : Place) (s : Settings) (len most room there count kept bits : ℕ) → p ≡ place_from start p.block p.bit → start.settings ≡ s
-    → len ≡ interval_len s → count ≤ max most (interval_len p.settings) → 4 * most ≤ room - there → there + 4 * len ≤ room → kept ≤ there + 4 * count
-    → AreFewKept room (4 * interval_len s) bits → AreFewKept kept (4 * interval_len s) bits
-few_more start p s len most room there count kept bits same is counted few within fits adds spare =
+-- kept bytes and the bytes of more samples fit, if there is room for those of an interval
+pub few_more : (start p : Place) (s : Settings) (len most room there count kept : ℕ) → p ≡ place_from start p.block p.bit → start.settings ≡ s
+    → len ≡ interval_len s → count ≤ max most (interval_len p.settings) → 4 * most ≤ room - there → 4 * len ≤ room - there → kept ≤ there + 4 * count
+    → there ≤ room → kept ≤ room
+few_more start p s len most room there count kept same is counted few within fits adds inside =
     let settings : interval_len p.settings ≡ interval_len s = ap interval_len (settings-same start p same ∙ is) in
-    few_within kept room (4 * interval_len s) bits (omega (arith, settings, counted, few, within, fits, adds)) spare
+    omega (arith, settings, counted, few, within, fits, adds, inside)
 
 -- ---- kept bytes and those of the rest
 

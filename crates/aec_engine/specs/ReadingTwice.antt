@@ -75,22 +75,6 @@ pub record KeepsFront (p : Place) (s : Settings) (before : ℕ) (bytes : List �
   pub few : p.block < 2 ^ 34
   pub begins : is_wanted_at p ≡ true → p.block % p.settings.interval ≡ 0
 
--- Few bytes are kept: they fit into 65,536 bytes and those of an interval, or they are at most
--- 2^24, and at most those of an interval and two for each bit.
-abbrev pub AreFewKept : ℕ → ℕ → ℕ → Type 0
-AreFewKept kept interval bits = 65536 + interval < kept → (kept ≤ 2 ^ 24) × (kept ≤ 2 * bits + interval)
-
--- The capacity for kept bytes is as before, or it is at most 2^24 bytes, and at most the bytes of
--- an interval and twice the bytes that may be kept.
-abbrev pub GrowsForFew : ℕ → ℕ → ℕ → ℕ → Type 0
-GrowsForFew before after interval most = (after ≡ before) ⊎ ((after ≤ 2 ^ 24) × (after ≤ 2 * most + interval))
-
--- a vector's items are unchanged, and its room is no less
-pub record KeepsItems {X Z : Type 0} (old new : Vec X Z) : Type 0 where
-  pub items : new.items ≡ old.items
-  pub len : vec_len new ≡ vec_len old
-  pub capacity : vec_capacity old ≤ vec_capacity new
-
 -- a vector has at most `more` more items, and no less room
 pub record HasSpare {X Z : Type 0} (old new : Vec X Z) (more : ℕ) : Type 0 where
   pub len : vec_len new ≤ vec_len old + more

@@ -1,6 +1,6 @@
 //! Codes stored samples in memory, without a source and a sink.
 
-ghost use Rattle.std.specs.Prelude.{◌≡◌, ◌⊎◌, [], Some, Ok, false, length, IfOk, IfErr};
+ghost use Rattle.std.specs.Prelude.{◌≡◌, ◌⊎◌, ◌+◌, ◌*◌, ◌≤◌, [], Some, Ok, false, length, IfOk, IfErr};
 ghost use Rattle.aec_params.specs.declared.fault.Fault.TheVariants.{Memory};
 ghost use Rattle.aec_params.specs.Codewords.{bytes_of};
 ghost use Rattle.aec_engine.specs.Transfers.{input_of, answer_by};
@@ -17,15 +17,23 @@ use std::alloc::Global;
 /// it is made.
 const MAX_SHORT_INPUT_BYTES: usize = 65536;
 
-/// Returns an empty list with room for the code of `len` bytes of samples, or of
-/// `MAX_SHORT_INPUT_BYTES` if that is less: code seldom takes more than nine bits a byte. If the
-/// allocation fails, it has no room.
-fn roomy_bits(alloc: Global, len: usize) -> BitBuf
-    ensures { result.list ≡ [] }
+/// Returns for how many bits of code room is made before `len` bytes of samples are coded, at most
+/// `MAX_SHORT_INPUT_BYTES` of them: code seldom takes more than nine bits a byte.
+fn first_bits(len: usize) -> u64
+    ensures short { result ≤ 9 * len + 64 }
+    ensures long { result ≤ 9 * 65536 + 64 }
+{
+    9 * len.min(MAX_SHORT_INPUT_BYTES) as u64 + 64
+}
+
+/// Returns an empty list with room for `first_bits(len)` bits.
+fn roomy_bits(alloc: Global, len: usize) -> Result<BitBuf, Fault>
+    ensures empty { IfOk result (λ bits. bits.list ≡ []) }
+    ensures fault { IfErr result (λ e. e ≡ Memory) }
 {
     let mut bits = BitBuf::new(alloc);
-    let _ = bits.reserve(9 * len.min(MAX_SHORT_INPUT_BYTES) as u64 + 64);
-    bits
+    bits.reserve(first_bits(len))?;
+    Ok(bits)
 }
 
 /// Returns the code of stored samples.
@@ -35,7 +43,7 @@ fn coded_bits(alloc: Global, params: &Params, limits: Limits, bytes: &[u8]) -> R
 {
     params.known_allowed();
     let mut coder = StreamCoder::new(alloc, *params, limits.samples());
-    let mut bits = roomy_bits(alloc, bytes.len());
+    let mut bits = roomy_bits(alloc, bytes.len())?;
     coder.feed(bytes, &mut bits)?;
     coder.finish(&mut bits)?;
     Ok(bits)

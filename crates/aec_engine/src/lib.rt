@@ -26,5 +26,5 @@ pub use edited_streams::{Decoded, decode_edited};
 pub use engine::{carry_out, decode, decode_into, edit, edit_over, encode, range, range_into};
 pub use in_memory::decode_bytes;
 pub use numerals::parse_range;
-pub use script_reading::parse_script;
+pub use script_reading::script;
 pub use scripts::{EditFault, Script};

@@ -13,7 +13,7 @@ use crate::script_reading::{cut_line, edit_on_line};
 use aec_params::{Edit, Fault};
 use std::alloc::Global;
 
-/// Fails with `Script` and the line's number if `parse_script` doesn't read the line.
+/// Fails with `Script` and the line's number if `script` doesn't read the line.
 fn judge_line(number: u64, text: &[u8]) -> Result<(), Fault>
     ensures ok { IfOk result (λ _. meaning_of text.now ≢ unknown) }
     ensures refuses { IfErr result (λ e.
@@ -26,7 +26,7 @@ fn judge_line(number: u64, text: &[u8]) -> Result<(), Fault>
 }
 
 /// Judges the lines of a script, and keeps nothing. Fails with `Script` and the number of the first
-/// line that `parse_script` doesn't read.
+/// line that `script` doesn't read.
 #[tactic(auto, using(crate::proofs::ScriptLineLemmas::listed_known))]
 pub(crate) fn judge_script(bytes: &[u8]) -> Result<(), Fault>
     ensures ok { IfOk result (λ _. (listing_of bytes.now).bad ≡ None) }

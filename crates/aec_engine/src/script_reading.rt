@@ -74,7 +74,7 @@ fn take_line(alloc: Global, number: u64, text: &[u8], read: &mut Script) -> Resu
 ///
 /// Fails with `Script` at the first line that is none of these, counted from 1 among all lines.
 /// Fails with `Memory` only if there is an edit before that line. Takes time linear in the length.
-pub fn parse_script(alloc: Global, bytes: &[u8]) -> Result<Script, Fault>
+pub fn script(alloc: Global, bytes: &[u8]) -> Result<Script, Fault>
     ensures ok { let read : Listing = listing_of bytes.now in
         IfOk result (λ s. (read.bad ≡ None) × (s.edits.items ≡ read.edits)
         × (s.lines.items ≡ read.lines)) }

@@ -5,7 +5,7 @@ use crate::asserts::{holds, same, same_at};
 use crate::devices::{After, Marked, Pieces};
 use aec_bits::WriteSink;
 use aec_edit::Workspace;
-use aec_engine::{EditFault, carry_out, edit_over, parse_script};
+use aec_engine::{EditFault, carry_out, edit_over, script};
 use aec_interval::AecCodec;
 use aec_params::{Edit, Fault, Limits, Params, Samples, Settings};
 use std::alloc::Global;
@@ -80,7 +80,7 @@ fn carried<R: Abort>(
     work: &mut Workspace<AecCodec>,
     text: &str,
 ) -> Result<Option<EditFault>, Fail> {
-    let script = parse_script(alloc, text.as_bytes())?;
+    let script = script(alloc, text.as_bytes())?;
     holds(rt, script.edits.len() <= script.lines.len());
     Ok(carry_out(work, &script).err())
 }

@@ -1,7 +1,7 @@
 //! Scripts, and the edits that their lines stand for.
 
 use crate::asserts::{holds, same, same_at};
-use aec_engine::{Script, parse_script};
+use aec_engine::{Script, script};
 use aec_params::{Edit, Fault};
 use std::alloc::{AllocError, Global};
 use std::fmt::Write;
@@ -106,7 +106,7 @@ const READ: [(&str, &str); 30] = [
 
 // Calls `script`, and keeps its clauses out of the callers' proofs.
 fn read(alloc: Global, text: &[u8]) -> Result<Script, Fault> {
-    parse_script(alloc, text)
+    script(alloc, text)
 }
 
 #[test]
@@ -179,7 +179,7 @@ fn the_first_bad_line_is_named(rt: HostRuntime) -> Result<(), Fail> {
 fn empty_lines_are_counted(rt: HostRuntime) -> Result<(), Fail> {
     let mut text = vec![in rt.alloc(); b'\n'; 65536]?;
     text.extend_from_slice(b"append x")?;
-    let refusal = parse_script(rt.alloc(), &text).err();
+    let refusal = script(rt.alloc(), &text).err();
     same(&rt, refusal, Some(Fault::Script { line: 65537 }));
     Ok(())
 }

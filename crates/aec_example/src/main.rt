@@ -79,7 +79,7 @@ fn print_intervals<R: Print>(rt: &R, workspace: &Workspace<AecCodec>) {
     let (bits, intervals) = (workspace.stream_bits(), workspace.intervals());
     let _ = print!(rt; "{bits} bits, in {intervals} intervals from bits");
     for i in 0..intervals {
-        if let Some(bit) = workspace.interval_start(i) {
+        if let Some(bit) = workspace.offset(i) {
             let _ = print!(rt; " {bit}");
         }
     }

@@ -11,10 +11,12 @@ use borrow.Rule.Slice.PartMut.{put_mid}
 use Rattle.std.specs.List.{AllByRecursion}
 use Rattle.std.specs.Int.{div_ceil, next_multiple_of}
 use Rattle.aec_params.specs.declared.settings.Settings.{Settings}
-use Rattle.aec_params.specs.declared.fault.Fault.TheVariants.{RunTooLong, TooManySamples}
+use Rattle.aec_params.specs.declared.fault.Fault.{Fault}
+use Rattle.aec_params.specs.declared.fault.Fault.TheVariants.{RunTooLong, TooManySamples, Memory}
+use Rattle.aec_params.specs.CodedDataSets.{CodedDataSet}
 use Rattle.aec_params.specs.Params.{IsAllowed, IsHeld}
 use Rattle.aec_params.specs.Places.{segment_left, is_reference_block, block_of_values}
-use Rattle.aec_params.specs.Reading.{is_wanted, keeps_limit, begin_of}
+use Rattle.aec_params.specs.Reading.{is_wanted, keeps_limit, begin_of, LeadsTo}
 use Rattle.aec_params.proofs.SettingLaws.{block_size-positive, interval-positive}
 use Rattle.aec_bits.specs.BitReader.{Cursor, has_one}
 use Rattle.aec_block.specs.declared.cds.RunLen.TheVariants.{Blocks}
@@ -28,6 +30,7 @@ use Rattle.aec_interval.specs.NextSet.{block_behind, kept_count}
 use Rattle.aec_interval.specs.Steps.{IsUntestedEnd}
 use Rattle.aec_interval.specs.declared.reading.Wanted.{Wanted}
 use Rattle.aec_interval.specs.PlainBlocks.{IsUntestedAt, ReadsPlain}
+use Rattle.aec_interval.specs.Reached.{IsReached, LeadsBehindOne, RefusesUpTo, no_room}
 use Rattle.aec_interval.proofs.BlockLemmas.{all-append}
 use Rattle.aec_interval.proofs.ReadIntervalLemmas.{place-behind}
 use Rattle.aec_interval.proofs.NextFillLemmas.{fills_block_plain}
@@ -203,7 +206,7 @@ front_of_extended items more extended all true from is same place = rw (same, is
 front_of_extended items more extended all false from is same place = rw (same, is) (take_all from items (omega (arith, place)))
 
 -- blocks were read into places that were added after the samples; only filled places are kept
-pub reads_kept : (s : Settings) (n j from : ℕ) (old new : Cursor) (items more extended all filled kept : List ℤ) (b : Bool)
+reads_kept : (s : Settings) (n j from : ℕ) (old new : Cursor) (items more extended all filled kept : List ℤ) (b : Bool)
     → extended ≡ (if b then items ++ more else items) → all ≡ extended → from ≡ length items → j ≡ s.block_size → kept ≡ take (from + n * j) filled
     → ReadsPlain s n old (take from all) new (take (from + n * s.block_size) filled) → ReadsPlain s n old items new kept
 reads_kept s n j from old new items more extended all filled kept b is same place size cut read =
@@ -233,8 +236,52 @@ len-joined old mid new block next read size forward front more =
     let sum : next + read - block ≡ next - block + read = omega (arith, forward) in
     omega (arith, ap (λ n. n * size) sum, front, more, add-mul (next - block) read size)
 
--- a reading goes n blocks further, to a block that needs no test either
-pub untested_further : (s : Settings) (wanted : Wanted) (last next n : ℕ) (old start new : Cursor) (samples more : List ℤ) → start ≡ old
-    → IsUntestedAt s wanted last next old samples → n ≤ last - next → ReadsPlain s n start samples new more → IsUntestedAt s wanted last (next + n) new more
-untested_further s wanted last next n old start new samples more same here few read =
-    read.leads wanted last next few (subst (λ cursor. IsUntestedAt s wanted last next cursor samples) (sym same) here)
+-- a capacity too small for the next blocks is too small for all up to the end
+pub len-lacking : (old mid block next end asked size j capacity grown : ℕ) → size ≡ j → block ≤ next → mid ≤ old + (next - block) * j
+    → next + asked ≤ end → capacity ≤ grown → grown < mid + asked * size → capacity < old + (end - block) * j
+len-lacking old mid block next end asked size j capacity grown is forward front within more full =
+    let all : (next - block + asked) * j ≤ (end - block) * j = mul-le-mul_right j (omega (arith, forward, within)) in
+    omega (arith, all, add-mul (next - block) asked j, ap (λ j. asked * j) is, front, more, full)
+
+-- a list that isn't empty has a last item
+last-of : {X : Type 0} (x : X) (xs : List X) → (front : List X) × (last : X) × (x ∷ xs ≡ front ++ (last ∷ []))
+last-of x [] = ([], x, refl)
+last-of x (y ∷ ys) = let rest = last-of y ys in (x ∷ rest.0, rest.1, ap (λ l. x ∷ l) rest.2)
+
+-- a reading that has come past a block was not refused at its first coded data set
+behind-one : (s : Settings) (count : Option ℕ) (limit : ℕ) (bits : List Bool) (first start i b : ℕ) (samples : List ℤ)
+    → IsReached s count limit bits first start i b samples → first < i → (h : LeadsBehindOne s count limit bits first start) × (h.block ≡ i)
+behind-one s count limit bits first start i b samples reached after = by_sets reached.sets reached.leads
+  where
+    by_sets : (sets : List CodedDataSet) → LeadsTo s count limit bits first start sets i b
+        → (h : LeadsBehindOne s count limit bits first start) × (h.block ≡ i)
+    by_sets [] leads = absurd (omega (arith, after, leads.0))
+    by_sets (c ∷ sets) leads =
+        let last = last-of c sets in (
+          record {
+            sets = last.0;
+            last = last.1;
+            block = i;
+            bit = b;
+            leads = subst (λ l. LeadsTo s count limit bits first start l i b) last.2 leads;
+          },
+          refl,
+        )
+
+-- there is no room for the samples of the next block
+pub lacks_room : (s : Settings) (wanted : Wanted) (last next end : ℕ) (before old : Cursor) (samples : List ℤ) (fault : Fault) → old ≡ before
+    → IsUntestedAt s wanted last next before samples → next ≤ end → fault ≡ Memory
+    → RefusesUpTo s wanted.count wanted.limit old.list wanted.first wanted.start end fault
+lacks_room s wanted last next end before old samples fault stays here within memory =
+    let one = behind-one s wanted.count wanted.limit before.list wanted.first wanted.start next before.pos samples here.reached here.behind in
+    subst (λ (cursor : Cursor). RefusesUpTo s wanted.count wanted.limit cursor.list wanted.first wanted.start end fault) (sym stays)
+    (subst (RefusesUpTo s wanted.count wanted.limit before.list wanted.first wanted.start end) (sym memory) (no_room one.0 (omega (arith, one.1, within))))
+
+-- so a reading goes n blocks further, to a block that needs no test either
+pub reads_further : (s : Settings) (wanted : Wanted) (last next n j from : ℕ) (before old new : Cursor) (items more extended all filled kept : List ℤ)
+    (b : Bool) → extended ≡ (if b then items ++ more else items) → all ≡ extended → from ≡ length items → j ≡ s.block_size
+    → kept ≡ take (from + n * j) filled → ReadsPlain s n old (take from all) new (take (from + n * s.block_size) filled) → old ≡ before
+    → IsUntestedAt s wanted last next before items → n ≤ last - next → ReadsPlain s n old items new kept × IsUntestedAt s wanted last (next + n) new kept
+reads_further s wanted last next n j from before old new items more extended all filled kept b is same place size cut read stays here few =
+    let whole = reads_kept s n j from old new items more extended all filled kept b is same place size cut read in
+    (whole, whole.leads wanted last next few (subst (λ cursor. IsUntestedAt s wanted last next cursor items) (sym stays) here))

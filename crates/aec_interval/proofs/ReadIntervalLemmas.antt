@@ -69,6 +69,12 @@ module _ (s : Settings) (count : Option ℕ) (limit : ℕ) (bits : List Bool) (f
       let ends : i + blocks_before_end s i ≡ first + s.interval = omega (arith, place, inside.after, before_end) in
       of_refusal r (P bits (first + s.interval)) fault exit (subst (λ e. P bits e fault) ends (subst (λ l. P l (i + blocks_before_end s i) fault) same refuses))
 
+  -- what holds of a refusal up to block `end` holds of it up to the end of the interval
+  pub by_block_end : {X : Type 0} (P : List Bool → ℕ → Fault → Type 0) (r : Result X Fault) (fault : Fault) (list : List Bool) → list ≡ bits
+      → IsErrAnd r (λ e. e ≡ fault) → P list end fault → IfErr r (λ fault. P bits (first + s.interval) fault)
+  by_block_end P r fault list same exit refuses =
+      of_refusal r (P bits (first + s.interval)) fault exit (subst (λ e. P bits e fault) inside.end_is (subst (λ l. P l end fault) same refuses))
+
   -- plain blocks that are read after a coded data set don't go past the end of the interval
   module _ (behind next : ℕ) (to : ComesNext s i behind) (after : behind ≤ next) (most : next ≤ max behind end) where
     pub comes-further : next < 2 ^ 34 → ComesNext s i next
@@ -84,6 +90,18 @@ module _ (s : Settings) (count : Option ℕ) (limit : ℕ) (bits : List Bool) (f
         let both : (behind - i) * s.block_size + (next - behind) * s.block_size ≡ (next - i) * s.block_size =
         both_parts (behind - i) (next - behind) (next - i) s.block_size (omega (arith, to.forward, after)) in
         omega (arith, both, few, more)
+
+  -- a capacity too small for the plain blocks up to the end of an interval is too small for a whole
+  -- interval
+  pub no_room-plain : (behind here len capacity before : ℕ) → ComesNext s i behind → here ≤ (i - first) * s.block_size
+      → len ≤ here + (behind - i) * s.block_size → before ≤ capacity → capacity < len + (end - behind) * s.block_size → before < interval_len s
+  no_room-plain behind here len capacity before to few more grown full =
+      let there : (i - first) * s.block_size + (behind - i) * s.block_size ≡ (behind - first) * s.block_size =
+      both_parts (i - first) (behind - i) (behind - first) s.block_size (omega (arith, to.forward, inside.after)) in
+      let all : (behind - first) * s.block_size + (end - behind) * s.block_size ≡ s.interval * s.block_size =
+      both_parts (behind - first) (end - behind) s.interval s.block_size
+      (omega (arith, place, inside.after, before_end, inside.end_is, to.forward, to.within)) in
+      omega (arith, there, all, few, more, grown, full)
 
   -- a coded data set that begins in an interval ends in it
   module _ (next : ℕ) (further : ComesNext s i next) where

@@ -1,5 +1,5 @@
 -- What holds of the refusal of a call holds of a result that passes the refusal on.
-use Rattle.std.proofs.Common.{◌≡◌, sym, subst, Result, IfErr}
+use Rattle.std.proofs.Common.{◌≡◌, sym, subst, Result, IfErr, OnErr}
 use Rattle.std.specs.Prelude.{MatchResult}
 use Rattle.std.specs.Result.{IsErrAnd}
 use Rattle.std.proofs.lemmas.Result.{err_from_is_err_and}
@@ -9,6 +9,11 @@ pub of_refusal : {X : Type 0} (result : Result X Fault) (P : Fault → Type 0) (
 of_refusal result P fault exit h =
     let refusal = err_from_is_err_and result exit in
     subst (λ r. IfErr r P) (sym refusal.1) (subst P (sym refusal.2) h)
+
+pub on_refusal : {X : Type 0} (result : Result X Fault) (P : Type 0) (fault : Fault) → IsErrAnd result (λ e. e ≡ fault) → P → OnErr result P
+on_refusal result P fault exit h =
+    let refusal = err_from_is_err_and result exit in
+    subst (λ r. OnErr r P) (sym refusal.1) h
 
 pub of_answer : {X : Type 0} (result : Result X Fault) (P : X → Type 0) (Q : Fault → Type 0) (fault : Fault) → IsErrAnd result (λ e. e ≡ fault)
     → Q fault → MatchResult result P Q

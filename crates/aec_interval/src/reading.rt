@@ -299,7 +299,7 @@ pub(crate) fn read_interval(
     loop {
         let place = block - wanted.first;
         let behind = read_next(params, wanted, reader, block, place, values, samples)?;
-        block = read_plain_blocks(params, wanted, reader, behind, end, samples);
+        block = read_plain_blocks(params, wanted, reader, behind, end, samples)?;
         if !goes_on(params, wanted, reader, block, end) {
             return Ok(block);
         }

@@ -14,9 +14,13 @@ use std::alloc::Global;
 use std::marker::Model;
 
 /// Codes stored samples that come in pieces, cut anywhere: each interval as soon as it is complete.
-/// Of the input it keeps only the number of samples so far, its refusal, fewer samples than an
+/// Between two calls it holds the number of samples so far, its refusal, fewer samples than an
 /// interval has, and fewer bytes than a sample has. After a refusal each call returns the same
 /// refusal.
+///
+/// `feed` takes up to 4,096 samples of a piece at once, or one longer interval, and codes them
+/// before it returns. The list that they are taken into keeps its length: places after the held
+/// samples contain samples that were coded before, which nothing reads again.
 #[derive(Debug, Drop)]
 pub struct StreamCoder {
     terms: Terms,

@@ -38,8 +38,7 @@ impl Bits {
     fn fill_up(&mut self) -> Result<(), Fault> {
         let len = self.list.len().min(5);
         self.list.truncate(len);
-        self.list.pad_to_byte();
-        Ok(())
+        self.list.pad_to_byte()
     }
 
     fn read_back(&mut self) -> Result<(), Fault> {

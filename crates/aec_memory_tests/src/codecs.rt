@@ -124,7 +124,7 @@ fn try_intervals<R: Print + Eprint>(rt: &R, alloc: Global, mut bits: BitBuf) -> 
 }
 
 fn try_octets<R: Print + Eprint>(rt: &R, alloc: Global, mut bits: BitBuf) -> Result<(), Fault> {
-    let mut octets = Octets::new(0);
+    let mut octets = Octets::new(alloc, 0);
     try_codec(rt, &mut octets, &[1, 2, 3], &mut bits, &mut Vec::new(alloc))
 }
 

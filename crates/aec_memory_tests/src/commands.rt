@@ -1,7 +1,7 @@
 //! Calls that make the command, and the jobs that its words ask for.
 
 use crate::trial::{Trial, try_calls};
-use aec_cli::{Job, Usage, command, parse, read_job};
+use aec_cli::{Job, Usage, command, parse, settings};
 use aec_params::Fault;
 use clap::{ArgMatches, Command};
 use std::alloc::{AllocError, Global};
@@ -46,7 +46,7 @@ struct Jobs<'a> {
 
 impl<'a> Trial for Jobs<'a> {
     fn call(&mut self, _number: usize) -> Result<(), Fault> {
-        match read_job(self.alloc, &self.matches) {
+        match settings(self.alloc, &self.matches) {
             Ok(job) => self.job = Some(job),
             Err(usage) => return Err(refusal_of(usage)),
         }
@@ -72,11 +72,11 @@ pub fn words_of(alloc: Global, call: &str) -> Result<Vec<String>, AllocError> {
 
 // Names of calls, each with its words.
 const JOBS: [&str; 5] = [
-    "read_job a b",
-    "read_job -d --count 8 b c",
-    "read_job --range 2:3 b c",
-    "read_job --edit script --count 48 b c",
-    "read_job -n 40 a b",
+    "settings a b",
+    "settings -d --count 8 b c",
+    "settings --range 2:3 b c",
+    "settings --edit script --count 48 b c",
+    "settings -n 40 a b",
 ];
 
 fn try_job<R: Print + Eprint>(rt: &R, alloc: Global, call: &str) -> Result<(), Fault> {

@@ -3,7 +3,7 @@
 use crate::trial::{Trial, print_bytes, print_samples, try_calls};
 use aec_bits::WriteSink;
 use aec_edit::{Outcome, Workspace};
-use aec_engine::parse_script;
+use aec_engine::script;
 use aec_interval::AecCodec;
 use aec_params::{Edit, Fault, Params, Settings};
 use std::alloc::Global;
@@ -19,7 +19,7 @@ fn print_work<R: Print>(rt: &R, alloc: Global, work: &Workspace<AecCodec>) {
         work.count()
     );
     for i in 0..work.intervals() {
-        if let Some(start) = work.interval_start(i) {
+        if let Some(start) = work.offset(i) {
             let _ = print!(rt; " {start}");
         }
     }
@@ -42,7 +42,7 @@ impl Edits {
         let codec = AecCodec::new(alloc, Params::new(Settings::USUAL)?);
         Ok(Edits {
             work: Workspace::new(alloc, codec, u64::from(limit)),
-            edits: parse_script(alloc, text.as_bytes())?.edits,
+            edits: script(alloc, text.as_bytes())?.edits,
             coded: 0,
             part: Vec::new(alloc),
             alloc,
@@ -125,7 +125,7 @@ struct Scripts<'a> {
 
 impl<'a> Trial for Scripts<'a> {
     fn call(&mut self, _number: usize) -> Result<(), Fault> {
-        let script = parse_script(self.alloc, self.text.as_bytes())?;
+        let script = script(self.alloc, self.text.as_bytes())?;
         self.edits = script.edits;
         self.lines = script.lines;
         Ok(())
@@ -238,11 +238,11 @@ fn try_script<R: Print + Eprint>(rt: &R, alloc: Global, text: &str) {
         lines: Vec::new(alloc),
         alloc,
     };
-    try_calls(rt, &[(0, "parse_script")], &mut scripts);
+    try_calls(rt, &[(0, "script")], &mut scripts);
 }
 
 fn try_runs<R: Print + Eprint>(rt: &R, alloc: Global) -> Result<(), Fault> {
-    let edits = parse_script(alloc, SPENT.as_bytes())?.edits;
+    let edits = script(alloc, SPENT.as_bytes())?.edits;
     let mut runs = Runs::new(alloc, Params::new(Settings::USUAL)?, edits);
     try_calls(
         rt,

@@ -41,8 +41,7 @@ impl<'a, F: Files + Alloc<A = Global>> Trial for Runs<'a, F> {
             words,
             &mut self.out,
             &mut self.line,
-        )
-        .status();
+        );
         self.status = Some(status);
         if status == 1 && self.line.ends_with(b"out of memory\n") {
             return Err(Fault::Memory);

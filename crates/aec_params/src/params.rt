@@ -242,7 +242,7 @@ impl Params {
     }
 
     /// Returns the sample of a pattern.
-    pub fn sample_of_pattern(&self, pattern: u32) -> i64
+    pub fn value(&self, pattern: u32) -> i64
         requires { pattern < 2 ^ self.now.bits }
         ensures value { result ≡ pattern_value self.now pattern }
         ensures held { IsHeld self.now result }

@@ -17,7 +17,7 @@ pub fn sample_of(params: &Params, group: &[u8]) -> Option<i64>
 {
     let number = number_of(params, group);
     if number < 1u64 << params.bits() {
-        return Some(params.sample_of_pattern(number as u32));
+        return Some(params.value(number as u32));
     }
     if params.signed() && has_sign_bits(params, number) {
         return Some(low_sample(params, number));
@@ -52,7 +52,7 @@ pub(crate) fn low_sample(params: &Params, number: u64) -> i64
     ensures value { result ≡ pattern_value params.now (number % 2 ^ params.now.bits) }
     ensures held { IsHeld params.now result }
 {
-    params.sample_of_pattern((number % (1u64 << params.bits())) as u32)
+    params.value((number % (1u64 << params.bits())) as u32)
 }
 
 /// Returns the number that all bits of a sample's bytes spell.

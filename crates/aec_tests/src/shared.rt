@@ -1,7 +1,7 @@
 //! What the tests share: jobs, and runs of an engine or of the program.
 
 use aec_bits::{Sink, Source};
-use aec_cli::{Action, Job, Usage, command, decode, encode, perform, range, read_job};
+use aec_cli::{Action, Job, Usage, command, decode, encode, perform, range, settings};
 use aec_engine_tests::devices::{Basin, Pieces};
 use aec_params::{Fault, Limits, Params, Settings};
 use std::alloc::{AllocError, Global};
@@ -16,7 +16,7 @@ pub(crate) const DEFAULTS: Settings = Settings::USUAL;
 pub(crate) fn job_by(alloc: Global, words: &[&str]) -> Result<Result<Job, Usage>, Fail> {
     let command = command(alloc)?;
     let matches = command.try_get_matches_from(words)?;
-    Ok(read_job(alloc, &matches))
+    Ok(settings(alloc, &matches))
 }
 
 /// Returns the same for the words of a text, which don't begin with that name.
@@ -99,6 +99,6 @@ pub(crate) fn run_of<F: Files>(
     let words = words_of(alloc, words)?;
     let mut out = Vec::new(alloc);
     let mut err = Vec::new(alloc);
-    let end = perform(rt, alloc, words, &mut out, &mut err);
-    Ok((end.status(), out, err))
+    let status = perform(rt, alloc, words, &mut out, &mut err);
+    Ok((status, out, err))
 }

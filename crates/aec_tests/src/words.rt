@@ -2,7 +2,7 @@
 
 use crate::asserts::{holds, holds_at, same, same_at};
 use crate::shared::{DEFAULTS, job_by, job_of, run_of, words_of};
-use aec_cli::{Action, EditFault, Failure, StartFault, Usage, perform};
+use aec_cli::{Action, EditFault, Failure, StartFault, Usage, perform, status};
 use aec_params::{Fault, Params, Settings};
 use std::io;
 use std::io::Write;
@@ -262,7 +262,7 @@ const FAILURES: [(Failure, &str, u8); 10] = [
 fn failures_have_their_texts(rt: HostRuntime) -> Result<(), Fail> {
     for (failure, text, expected) in FAILURES {
         same(&rt, failure.to_string(rt.alloc())?.as_str(), text);
-        same_at(&rt, failure.status(), expected, &text);
+        same_at(&rt, status(&failure), expected, &text);
     }
     Ok(())
 }
@@ -338,7 +338,7 @@ fn broken_streams_change_no_status(rt: HostRuntime) -> Result<(), Fail> {
         let words = words_of(rt.alloc(), words)?;
         same(
             &rt,
-            perform(&rt, rt.alloc(), words, &mut Broken, &mut Broken).status(),
+            perform(&rt, rt.alloc(), words, &mut Broken, &mut Broken),
             expected,
         );
     }

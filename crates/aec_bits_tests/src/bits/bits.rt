@@ -49,7 +49,7 @@ fn are(buf: &BitBuf, list: &[bool]) -> bool {
         return false;
     }
     for (i, bit) in list.iter().enumerate() {
-        if buf.bit(i as u64) != *bit {
+        if buf.get(i as u64) != *bit {
             return false;
         }
     }
@@ -101,10 +101,10 @@ fn builds_and_edits(rt: HostRuntime) -> Result<(), Fail> {
     same(&rt, bytes(alloc, &buf)?.as_slice(), [0x9B, 0x80].as_slice());
     holds(&rt, buf.len() == 9);
     buf.truncate(5);
-    buf.pad_to_byte();
+    buf.pad_to_byte()?;
     same(&rt, bytes(alloc, &buf)?.as_slice(), [0x98].as_slice());
     same(&rt, buf.len(), 8);
-    buf.pad_to_byte();
+    buf.pad_to_byte()?;
     same(&rt, buf.len(), 8);
     Ok(())
 }
@@ -114,7 +114,7 @@ fn grows_where_nothing_was_reserved(rt: HostRuntime) -> Result<(), Fail> {
     let alloc = rt.alloc();
     let mut buf = BitBuf::new(alloc);
     buf.append(&bits(alloc, &[true, false, true])?)?;
-    buf.pad_to_byte();
+    buf.pad_to_byte()?;
     same(&rt, bytes(alloc, &buf)?.as_slice(), [0xA0].as_slice());
     same(&rt, buf.len(), 8);
     let mut other = BitBuf::new(alloc);

@@ -28,7 +28,7 @@ fn there_and_back<C: Codec>(
 #[test]
 fn codes_octets_and_back(rt: HostRuntime) -> Result<(), Fail> {
     let alloc = rt.alloc();
-    let mut codec = Octets::new(0);
+    let mut codec = Octets::new(alloc, 0);
     same(&rt, codec.interval_len(), 4);
     same(
         &rt,
@@ -57,7 +57,7 @@ fn codes_octets_and_back(rt: HostRuntime) -> Result<(), Fail> {
 
 #[test]
 fn spent_calls_change_nothing(rt: HostRuntime) -> Result<(), Fail> {
-    let mut codec = Octets::new(u64::MAX);
+    let mut codec = Octets::new(rt.alloc(), u64::MAX);
     let mut buf = bits(rt.alloc(), &[true, false])?;
     same(&rt, codec.code(&[1], &mut buf), Err(Fault::Spent));
     same(&rt, buf.len(), 2);

@@ -42,9 +42,9 @@ fn one_bit_into_a_million(rt: HostRuntime) -> Result<(), Fail> {
             true
         } else {
             let k = if i < place { i } else { i - 1 };
-            k < before.len() && before.bit(k)
+            k < before.len() && before.get(k)
         };
-        if after.bit(i) != want {
+        if after.get(i) != want {
             fails(&rt, &i);
         }
     }

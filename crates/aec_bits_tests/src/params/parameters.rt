@@ -137,7 +137,7 @@ fn patterns_are_twos_complement(rt: HostRuntime) -> Result<(), Fail> {
         same_at(&rt, params.pattern(x), pattern, &settings);
         let bound = 1u64 << params.bits();
         holds(&rt, u64::from(pattern) < bound);
-        same_at(&rt, params.sample_of_pattern(pattern), x, &settings);
+        same_at(&rt, params.value(pattern), x, &settings);
     }
     Ok(())
 }

@@ -118,7 +118,7 @@ fn put_patterns(params: &Params, patterns: &[u32], samples: &mut [i64])
     ensures { (p : ℤ) → PutsSamples params.now p patterns.now samples.old samples.new }
 {
     for i in 0..patterns.len() {
-        samples[i] = params.sample_of_pattern(patterns[i]);
+        samples[i] = params.value(patterns[i]);
     }
 }
 

@@ -1,101 +1,65 @@
 //! Decodes coded data: the bytes of the first samples are kept while the bits are judged, so that
 //! only the later bits are read twice.
 
-ghost use Rattle.std.specs.Prelude.{◌≡◌, ℕ, ◌+◌, ◌*◌, ◌<◌, ◌≤◌, ◌^◌, ◌⊎◌, true, length, vec_len, vec_capacity, IfOk, IfErr, OnOk};
-ghost use Rattle.aec_params.specs.Params.{interval_len, storage_len};
+ghost use Rattle.std.specs.Prelude.{◌≡◌, ◌*◌, ◌<◌, ◌≤◌, ◌^◌, max, length, vec_len, vec_capacity, IfOk, IfErr, OnOk};
+ghost use Rattle.aec_params.specs.Params.{storage_len};
 ghost use Rattle.aec_interval.specs.Reached.{RefusesReading};
-ghost use Rattle.aec_interval.specs.Pieces.{IsPlace, place_at};
+ghost use Rattle.aec_interval.specs.Pieces.{place_at};
 ghost use Rattle.aec_engine.specs.Transfers.{are_past, Taking, taking_of, Putting, putting_of, Leaves};
 ghost use Rattle.aec_engine.specs.Output.{IsDecoded};
-ghost use Rattle.aec_engine.specs.ReadingTwice.{AreFewKept, GrowsForFew, KeepsFront, KeepsItems};
+ghost use Rattle.aec_engine.specs.ReadingTwice.{KeepsFront};
 
 use crate::engine::bit_intake::read_bits;
 use crate::engine::two_readings::{
     Part, WAITING_BYTES, append_stored, buffers, deliver_range, judge_all, judge_from,
     samples_within,
 };
-use aec_bits::{Sink, Source};
+use aec_bits::{BitBuf, Sink, Source};
 use aec_interval::StreamReader;
 use aec_params::{Fault, Limits, Params};
 use std::alloc::Global;
 
-/// The most bytes that are kept once they no longer fit into the memory that every decoding
-/// allocates.
-const MAX_KEPT_BYTES: usize = 1 << 24;
+/// The most bytes for which room is made before decoding, besides those of an interval.
+const MAX_KEPT_BYTES: u64 = 1 << 24;
 
-/// The most bytes of a block for which more memory is allocated to keep its bytes. Reading a longer
-/// block twice takes less time than this allocation.
+/// The most bytes of a block for which more room is made than every decoding needs. Reading a
+/// longer block twice takes less time than filling fresh memory.
 const MAX_SHORT_BLOCK_BYTES: usize = 32;
 
-/// Returns the most bytes that may be kept before more room is made: one for each bit that was
-/// read, or none if a block has more than `MAX_SHORT_BLOCK_BYTES`. So a short stream takes little
-/// memory, however many samples it codes.
-fn most_kept(params: &Params, reader: &StreamReader) -> u64
-    ensures bits { result ≤ reader.now.bit }
-    ensures long { 32 < storage_len params.now * params.now.block_size → result ≡ 0 }
-    ensures reached { IsPlace reader.now }
+/// An answer of fewer samples needs only room for them.
+const FEW_PLACES: usize = 4096;
+
+/// Returns for how many bytes room is made before decoding, besides those of an interval: for the
+/// `WAITING_BYTES` of every decoding, or in short blocks for two bytes a bit, at most
+/// `MAX_KEPT_BYTES`. So a short stream takes little memory, however many samples it codes.
+pub(crate) fn kept_room(params: &Params, bits: &BitBuf) -> usize
+    ensures piece { 65536 ≤ result }
+    ensures most { result ≤ 2 ^ 24 }
+    ensures few { result ≤ max 65536 (2 * length bits.now.list) }
+    ensures long { 32 < storage_len params.now * params.now.block_size → result ≡ 65536 }
 {
-    let read = reader.place().bit;
     if params.storage() * params.block_size() as usize > MAX_SHORT_BLOCK_BYTES {
-        return 0;
+        return WAITING_BYTES;
     }
-    read
+    WAITING_BYTES.max(bits.len().saturating_mul(2).min(MAX_KEPT_BYTES) as usize)
 }
 
-/// Returns the length up to which `bytes` may be filled. If `more` bytes don't fit after those in
-/// `bytes`, the length is less than the sum of both.
-///
-/// As long as `bytes` contains at most `WAITING_BYTES`, the function allocates nothing: they
-/// and `more` fit into the buffer of every decoding. After that it doubles the room, up to
-/// `MAX_KEPT_BYTES`. It returns 0 if `bytes` contains more than `most` bytes, if `MAX_KEPT_BYTES`
-/// are too few, or if the allocation fails.
-fn make_room(bytes: &mut Vec<u8>, more: usize, most: u64) -> usize
-    ensures there { result ≤ vec_capacity bytes.new }
-    ensures few { AreFewKept result more most }
-    ensures asked { (vec_capacity bytes.new ≡ vec_capacity bytes.old) ⊎ (vec_len bytes.old ≤ most) }
-    ensures grown { GrowsForFew (vec_capacity bytes.old) (vec_capacity bytes.new) more most }
-    ensures stays { vec_len bytes.old ≤ 65536 → vec_capacity bytes.new ≡ vec_capacity bytes.old }
-    ensures same { KeepsItems bytes.old bytes.new }
+/// Returns for how many bytes room is made before decoding into a buffer, besides those of an
+/// interval: `kept_room`, but no more than for the bytes of `places` samples if these are few. So
+/// a short answer takes little memory.
+pub(crate) fn room_to_keep(params: &Params, bits: &BitBuf, places: usize) -> usize
+    ensures most { result ≤ 2 ^ 24 }
+    ensures short { places < 4096 → result ≤ 4 * places }
 {
-    let len = bytes.len();
-    if len <= WAITING_BYTES {
-        return bytes.capacity().min(more.saturating_add(WAITING_BYTES));
+    if places < FEW_PLACES {
+        return 4 * places;
     }
-    let Some(left) = MAX_KEPT_BYTES.checked_sub(len) else {
-        return 0;
-    };
-    if len as u64 > most || more > left {
-        return 0;
-    }
-    let added = len.clamp(more, left);
-    match bytes.reserve_exact(added) {
-        Ok(()) => len + added,
-        Err(_) => 0,
-    }
-}
-
-/// Returns whether `more` bytes fit after those that `bytes` holds: up to the length `room`, or up
-/// to a new one that `make_room` returns.
-fn find_room(bytes: &mut Vec<u8>, room: &mut usize, more: usize, most: u64) -> bool
-    ensures room { result ≡ true → vec_len bytes.new + more ≤ room.new }
-    ensures there { room.old ≤ vec_capacity bytes.old → room.new ≤ vec_capacity bytes.new }
-    ensures few { (bits : ℕ) → AreFewKept room.old more bits → most ≤ bits
-        → AreFewKept room.new more bits }
-    ensures grown { GrowsForFew (vec_capacity bytes.old) (vec_capacity bytes.new) more most }
-    ensures stays { vec_len bytes.old ≤ 65536 → vec_capacity bytes.new ≡ vec_capacity bytes.old }
-    ensures same { KeepsItems bytes.old bytes.new }
-{
-    let len = bytes.len();
-    if len <= *room && more <= *room - len {
-        return true;
-    }
-    *room = make_room(bytes, more, most);
-    len <= *room && more <= *room - len
+    kept_room(params, bits)
 }
 
 /// Reads on after `before` samples whose bytes are kept, and keeps the bytes of the next samples as
-/// far as there is room. Returns how many samples are then kept: the reader is after them. Fails as
-/// judging does.
+/// far as `bytes` has room. Returns how many samples are then kept: the reader is after them. Fails
+/// as judging does.
 pub(crate) fn keep_more(
     params: &Params,
     reader: &mut StreamReader,
@@ -105,11 +69,8 @@ pub(crate) fn keep_more(
 ) -> Result<u64, Fault>
     requires settings { reader.old.settings ≡ params.now }
     requires kept { KeepsFront reader.old params.now before bytes.old.items }
-    requires few { AreFewKept (vec_len bytes.old) (4 * interval_len params.now)
-        (length reader.old.bits) }
     ensures kept { IfOk result (λ before. KeepsFront reader.new params.now before bytes.new.items) }
-    ensures few { AreFewKept (vec_len bytes.new) (4 * interval_len params.now)
-        (length reader.old.bits) }
+    ensures few { vec_len bytes.new ≤ vec_capacity bytes.old }
     ensures same { OnOk result (let old = reader.old in
         reader.new ≡ place_at old.settings old.count old.limit old.bits reader.new.block
         reader.new.bit) }
@@ -119,9 +80,9 @@ pub(crate) fn keep_more(
     ensures buffer { vec_capacity bytes.old ≤ vec_capacity bytes.new }
 {
     let more = 4 * params.interval_len() as usize;
-    let mut room = 0;
+    let room = bytes.capacity();
     let mut kept = before;
-    while find_room(bytes, &mut room, more, most_kept(params, reader))
+    while more <= room - bytes.len()
         && reader.next_few(samples_within(room - bytes.len()), samples)?
     {
         append_stored(params, samples, bytes);
@@ -138,11 +99,10 @@ pub(crate) fn keep_more(
 /// bytes written.
 ///
 /// Not in the contract: while the bits are judged, the bytes of the first samples are kept as far
-/// as there is room; the rest is read twice. Every decoding allocates room for the bytes of the
-/// source, for 2,048 samples or those of a longer interval, for the bytes of an interval, and for a
-/// piece of 64 KiB: if one of these allocations fails, it ends with `Memory` or with the refusal of
-/// the bits. Kept bytes that don't fit there take at most 16 MiB: if that allocation fails,
-/// decoding goes on and keeps no more.
+/// as there is room; the rest is read twice. Decoding allocates room for the bytes of the source,
+/// for 2,048 samples or those of a longer interval, for the bytes of an interval, and for 64 KiB,
+/// or with short blocks for up to 16 MiB. If one of these allocations fails, it ends with `Memory`
+/// or with the refusal of the bits.
 pub fn decode<R: Source, W: Sink>(
     alloc: Global,
     params: &Params,
@@ -157,7 +117,7 @@ pub fn decode<R: Source, W: Sink>(
 {
     let bits = read_bits(alloc, source, limits.bytes())?;
     let mut reader = StreamReader::new(alloc, *params, &bits, count, limits.samples())?;
-    let (mut samples, mut bytes) = match buffers(alloc, params) {
+    let (mut samples, mut bytes) = match buffers(alloc, params, kept_room(params, &bits)) {
         Ok(made) => made,
         Err(fault) => {
             judge_all(params, &mut reader)?;

@@ -102,7 +102,7 @@ fn edit_bits<C: Codec + Drop>(
 {
     let (mut reader, judged) = judged_reader(alloc, params, limits, count, bits)?;
     let room = Room::of(params, judged);
-    let plan = plan_script(alloc, params, judged.total, script);
+    let plan = plan_script(alloc, params, judged.total, script)?;
     let mut samples = room_at_once(alloc, params)?;
     let mut workspace = roomy_workspace(alloc, codec, limits, room)?;
     let mut ahead = EditsAhead::new(alloc, &plan)?;

@@ -14,10 +14,10 @@ ghost use Rattle.aec_interval.specs.Pieces.{place_at};
 ghost use Rattle.aec_engine.specs.ReadingTwice.{AreSamplesOf, GaveWhole, IsAtStart, IsBegun, KeepsFront, StoresPart, DecodesBits, CutsBits};
 ghost use Rattle.aec_engine.specs.Buffers.{FillsOne, OrMemory};
 
-use crate::engine::decoding::keep_more;
+use crate::engine::decoding::{keep_more, room_to_keep};
 use crate::engine::ranging::judge_range;
 use crate::engine::two_readings::{
-    Part, WAITING_BYTES, append_stored, judge_from, judge_samples, part_of, room_at_once,
+    Part, append_stored, judge_from, judge_samples, part_of, room_at_once,
 };
 use aec_bits::BitBuf;
 use aec_interval::StreamReader;
@@ -209,29 +209,37 @@ fn put_first(params: &Params, samples: &[i64], out: &mut [u8]) -> u64
     size as u64
 }
 
-/// Returns the bytes of the samples that were read first, in a list whose whole room is for the
-/// bytes of an interval and for `WAITING_BYTES`, or for the bytes of `places` samples if these
-/// are few. So a short answer takes little memory.
+/// Returns an empty list with room for `len` bytes and the bytes of an interval, or for those of
+/// `count` samples if they are more.
+fn roomy_bytes(alloc: Global, params: &Params, count: usize, len: usize) -> Result<Vec<u8>, Fault>
+    requires most { count ≤ max 4096 (interval_len params.now) }
+    requires few { len ≤ 2 ^ 24 }
+    ensures empty { IfOk result (λ bytes. bytes.items ≡ []) }
+    ensures room { IfOk result (λ bytes. vec_len bytes + 4 * count ≤ vec_capacity bytes) }
+    ensures few { IfOk result
+        (λ bytes. vec_capacity bytes ≤ max 16384 (len + 4 * interval_len params.now)) }
+    ensures fault { IfErr result (λ e. e ≡ Memory) }
+{
+    let room = (len + 4 * params.interval_len() as usize).max(4 * count);
+    let bytes = Vec::with_capacity(alloc, room)?;
+    Ok(bytes)
+}
+
+/// Returns the bytes of the samples that were read first, in a list that has room for `len` bytes
+/// and the bytes of an interval.
 fn first_bytes(
     alloc: Global,
     params: &Params,
     samples: &[i64],
-    places: usize,
+    len: usize,
 ) -> Result<Vec<u8>, Fault>
     requires held { AllByRecursion (IsHeld params.now) samples.now }
     requires most { length samples.now ≤ max 4096 (interval_len params.now) }
+    requires few { len ≤ 2 ^ 24 }
     ensures items { IfOk result (λ bytes. bytes.items ≡ all_stored params.now samples.now) }
-    ensures few { IfOk result (λ bytes. vec_len bytes ≤ 65536 + 4 * interval_len params.now) }
     ensures fault { IfErr result (λ e. e ≡ Memory) }
 {
-    let interval = params.interval_len() as usize;
-    let kept = if places < MAX_FIRST_SAMPLES as usize {
-        4 * places
-    } else {
-        WAITING_BYTES
-    };
-    let room = (kept + 4 * interval).max(4 * samples.len());
-    let mut bytes = Vec::with_capacity(alloc, room)?;
+    let mut bytes = roomy_bytes(alloc, params, samples.len(), len)?;
     append_stored(params, samples, &mut bytes);
     Ok(bytes)
 }
@@ -247,16 +255,19 @@ fn room_for_rest(params: &Params, left: u64, samples: &mut Vec<i64>) -> Result<(
     Ok(())
 }
 
-/// Keeps the bytes of the samples that were read first and of the next ones, and judges the bits
-/// after them. Then puts the kept bytes to the front of a buffer, if there is room, and after them
-/// the bytes of the rest, which it reads again.
+/// Keeps the bytes of the samples that were read first and of the next ones, in a list with room
+/// for `room` bytes and those of an interval, and judges the bits after them. Then writes the kept
+/// bytes to the front of a buffer, if there is room, and after them the bytes of the rest, which it
+/// reads again.
 fn decode_rest_into(
     alloc: Global,
     params: &Params,
     reader: &mut StreamReader,
+    room: usize,
     samples: &mut Vec<i64>,
     out: &mut [u8],
 ) -> Result<u64, Fault>
+    requires room { room ≤ 2 ^ 24 }
     requires settings { reader.old.settings ≡ params.now }
     requires counted { count_refusal reader.old.limit reader.old.count ≡ None }
     requires kept { KeepsFront reader.old params.now (vec_len samples.old)
@@ -268,7 +279,7 @@ fn decode_rest_into(
         out.old out.new result }
 {
     params.known_allowed();
-    let mut bytes = first_bytes(alloc, params, samples, samples.capacity())?;
+    let mut bytes = first_bytes(alloc, params, samples, room)?;
     let first = samples.len() as u64;
     let kept = keep_more(params, reader, first, samples, &mut bytes)?;
     let judged = judge_from(params, reader, kept, kept)?;
@@ -302,7 +313,8 @@ fn decode_bits_into(
     if are_all(count, samples.len()) {
         return Ok(put_first(params, &samples, out));
     }
-    decode_rest_into(alloc, params, &mut reader, &mut samples, out)
+    let room = room_to_keep(params, bits, samples.capacity());
+    decode_rest_into(alloc, params, &mut reader, room, &mut samples, out)
 }
 
 /// Puts the stored bytes of the samples that coded bytes are read as to the front of a buffer if
@@ -311,8 +323,8 @@ fn decode_bits_into(
 ///
 /// Allocates room for the coded bytes, and for an interval of samples, or more but at most 4,096.
 /// Unless a count is given and the first reading returns all samples, it also allocates room for
-/// the bytes of an interval and 64 KiB, which are kept while the coded bytes are judged, and for
-/// short blocks up to 16 MiB, if there is memory. The samples after the kept bytes are read twice.
+/// the bytes of an interval and 64 KiB, or with short blocks up to 16 MiB, which are kept while the
+/// coded bytes are judged. The samples after the kept bytes are read twice.
 pub fn decode_into(
     alloc: Global,
     params: &Params,

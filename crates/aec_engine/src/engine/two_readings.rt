@@ -1,6 +1,6 @@
 //! Reads coded bits twice: once to judge them, and once to write their samples.
 
-ghost use Rattle.std.specs.Prelude.{◌≡◌, ℕ, ◌+◌, ◌*◌, ◌<◌, ◌≤◌, ◌++◌, [], max, List, ℤ, length, vec_len, vec_capacity, IfOk, IfErr, OnOk, OnErr};
+ghost use Rattle.std.specs.Prelude.{◌≡◌, ℕ, ◌+◌, ◌*◌, ◌^◌, ◌<◌, ◌≤◌, ◌++◌, [], max, List, ℤ, length, vec_len, vec_capacity, IfOk, IfErr, OnOk, OnErr};
 ghost use Rattle.std.specs.List.{AllByRecursion};
 ghost use Rattle.std.specs.Io.KnownBytes.{Appends, Keeps};
 ghost use Rattle.aec_params.specs.declared.fault.Fault.TheVariants.{Memory, Write as WriteFault};
@@ -310,20 +310,26 @@ pub(crate) fn room_at_once(alloc: Global, params: &Params) -> Result<Vec<i64>, F
     Ok(samples)
 }
 
-/// Returns room for the samples that are read at once, and room for the bytes of an interval after
-/// a piece of `WAITING_BYTES`, no more.
-pub(crate) fn buffers(alloc: Global, params: &Params) -> Result<(Vec<i64>, Vec<u8>), Fault>
+/// Returns room for the samples that are read at once, and room for `len` bytes and the bytes of an
+/// interval, no more.
+pub(crate) fn buffers(
+    alloc: Global,
+    params: &Params,
+    len: usize,
+) -> Result<(Vec<i64>, Vec<u8>), Fault>
+    requires piece { 65536 ≤ len }
+    requires few { len ≤ 2 ^ 24 }
     ensures allowed { IsAllowed params.now }
     ensures room { IfOk result (λ made. interval_len params.now ≤ vec_capacity made.0) }
     ensures empty { IfOk result (λ made. vec_len made.1 ≡ 0) }
     ensures buffer { IfOk result
         (λ made. 65536 + 4 * interval_len params.now ≤ vec_capacity made.1) }
     ensures few { IfOk result (λ made. (vec_capacity made.0 ≤ max (interval_len params.now) 2048)
-        × (vec_capacity made.1 ≤ 65536 + 4 * interval_len params.now)) }
+        × (vec_capacity made.1 ≤ len + 4 * interval_len params.now)) }
     ensures fault { IfErr result (λ e. e ≡ Memory) }
 {
     let samples = room_at_once(alloc, params)?;
-    let bytes = Vec::with_capacity(alloc, WAITING_BYTES + 4 * params.interval_len() as usize)?;
+    let bytes = Vec::with_capacity(alloc, len + 4 * params.interval_len() as usize)?;
     Ok((samples, bytes))
 }
 
@@ -341,6 +347,6 @@ pub(crate) fn write_range<W: Sink>(
         (xs : List ℤ) → AreSamplesOf reader.old xs
         → SettlesOne (StoresPart params.now part.first part.len xs) put result }
 {
-    let (mut samples, mut bytes) = buffers(alloc, params)?;
+    let (mut samples, mut bytes) = buffers(alloc, params, WAITING_BYTES)?;
     deliver_range(params, reader, part, &mut samples, &mut bytes, sink)
 }

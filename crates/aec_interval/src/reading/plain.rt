@@ -2,11 +2,11 @@
 //! place. `read_plain_blocks` sets how many blocks, makes their places and keeps the filled ones;
 //! `fill_plain_blocks` reads while the next is plain.
 
-ghost use Rattle.std.specs.Prelude.{◌≡◌, ◌≤◌, ◌<◌, ◌+◌, ◌-◌, ◌*◌, ◌%◌, ◌^◌, true, false, max, length, take, vec_len, vec_capacity, IfSome};
+ghost use Rattle.std.specs.Prelude.{◌≡◌, ◌≤◌, ◌<◌, ◌+◌, ◌-◌, ◌*◌, ◌%◌, ◌^◌, true, false, max, length, take, vec_len, vec_capacity, IfSome, IfOk, IfErr, OnErr};
 ghost use Rattle.std.specs.List.{AllByRecursion};
 ghost use Rattle.aec_params.specs.Params.{IsAllowed, IsHeld};
 ghost use Rattle.aec_block.specs.BlockShape.{most_values};
-ghost use Rattle.aec_interval.specs.Reached.{IsReached};
+ghost use Rattle.aec_interval.specs.Reached.{IsReached, RefusesUpTo};
 ghost use Rattle.aec_interval.specs.Steps.{IsUntestedEnd};
 ghost use Rattle.aec_interval.specs.PlainBlocks.{FillsBlocks};
 
@@ -15,7 +15,7 @@ use crate::reading::Wanted;
 use crate::segment::previous_of;
 use aec_bits::BitReader;
 use aec_block::{MOST_VALUES, is_plain_next, read_plain, unmap_into};
-use aec_params::Params;
+use aec_params::{Fault, Params};
 
 /// Room is made for this many blocks at first, since often no more plain blocks follow.
 const BLOCKS_AT_FIRST: usize = 2;
@@ -146,7 +146,8 @@ fn fill_usual_blocks(
 }
 
 /// Reads the next plain blocks, before block `end`, where the interval ends, and appends their
-/// samples. Returns the number of the next block. If an allocation fails, reads no further block.
+/// samples. Returns the number of the next block. Fails with `Memory` only if there was no room for
+/// the samples that the interval has left.
 #[inline(never)]
 pub(crate) fn read_plain_blocks(
     params: &Params,
@@ -155,7 +156,7 @@ pub(crate) fn read_plain_blocks(
     block: u64,
     end: u64,
     samples: &mut Vec<i64>,
-) -> u64
+) -> Result<u64, Fault>
     requires reached { IsReached params.now wanted.count wanted.limit reader.old.list wanted.first
         wanted.start block reader.old.pos samples.old.items }
     requires limit { wanted.limit ≤ 2 ^ 32 }
@@ -163,15 +164,20 @@ pub(crate) fn read_plain_blocks(
     requires end { end ≡ wanted.first + params.now.interval }
     requires aligned { wanted.first % params.now.interval ≡ 0 }
     requires after { wanted.first < block }
-    ensures reached { IsReached params.now wanted.count wanted.limit reader.new.list wanted.first
-        wanted.start result reader.new.pos samples.new.items }
-    ensures forward { block ≤ result }
-    ensures within { result ≤ max block end }
-    ensures few { block < 2 ^ 34 → result < 2 ^ 34 }
+    ensures reached { IfOk result (λ next. IsReached params.now wanted.count wanted.limit
+        reader.new.list wanted.first wanted.start next reader.new.pos samples.new.items) }
+    ensures forward { IfOk result (λ next. block ≤ next) }
+    ensures within { IfOk result (λ next. next ≤ max block end) }
+    ensures few { IfOk result (λ next. block < 2 ^ 34 → next < 2 ^ 34) }
+    ensures refuses { IfErr result (λ fault. RefusesUpTo params.now wanted.count wanted.limit
+        reader.new.list wanted.first wanted.start end fault) }
     ensures list { reader.new.list ≡ reader.old.list }
-    ensures len { vec_len samples.new
-        ≤ vec_len samples.old + (result - block) * params.now.block_size }
+    ensures len { IfOk result (λ next. vec_len samples.new
+        ≤ vec_len samples.old + (next - block) * params.now.block_size) }
     ensures capacity { vec_capacity samples.old ≤ vec_capacity samples.new }
+    ensures full { OnErr result
+        (vec_capacity samples.old
+        < vec_len samples.old + (end - block) * params.now.block_size) }
 {
     let size = params.block_size() as usize;
     let last = untested_end(params, wanted, end);
@@ -179,22 +185,20 @@ pub(crate) fn read_plain_blocks(
     let mut next = block;
     while next < last {
         if !is_plain_next(params, reader) {
-            return next;
+            return Ok(next);
         }
         let asked = at_once.min((last - next) as usize);
         let from = samples.len();
         let places = &ZEROS[..asked * size];
-        if samples.extend_from_slice(places).is_err() {
-            return next;
-        }
+        samples.extend_from_slice(places)?;
         let all = samples.as_mut_slice();
         let read = fill_usual_blocks(params, reader, asked, all, from);
         samples.truncate(from + read * size);
         next += read as u64;
         if read < asked {
-            return next;
+            return Ok(next);
         }
         at_once = BLOCKS_AT_FIRST + MORE_SAMPLES / size;
     }
-    next
+    Ok(next)
 }

@@ -56,7 +56,7 @@ pub(crate) fn push_block(params: &Params, block: &Block, samples: &mut Vec<i64>)
         }
         Some(pattern) => {
             // The 0 in the reference place is coded for the prediction itself.
-            let first = params.sample_of_pattern(pattern);
+            let first = params.value(pattern);
             push_unmapped(params, first, block.values(), samples);
         }
     }

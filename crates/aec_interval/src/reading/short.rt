@@ -2,7 +2,7 @@
 //! no block needs a test of its place. `read_short` sets the greatest number, `fill_intervals`
 //! reads while one follows, `fill_interval` reads one, `fill_first_block` its first block.
 
-ghost use Rattle.std.specs.Prelude.{◌≡◌, ◌≤◌, ◌<◌, ◌+◌, ◌-◌, ◌*◌, ◌%◌, ◌^◌, ℕ, true, false, length, take, replicate, vec_len, vec_capacity, IfSome};
+ghost use Rattle.std.specs.Prelude.{◌≡◌, ◌≤◌, ◌<◌, ◌+◌, ◌-◌, ◌*◌, ◌%◌, ◌^◌, ℕ, true, false, max, length, take, replicate, vec_len, vec_capacity, IfSome};
 ghost use Rattle.std.specs.Option.{is_some};
 ghost use Rattle.std.specs.List.{AllByRecursion};
 ghost use Rattle.aec_params.specs.Params.{IsHeld, interval_len};
@@ -60,7 +60,7 @@ fn fill_reference_block<const M: usize>(
     match read_plain_first::<M>(params, reader, values) {
         None => false,
         Some(pattern) => {
-            let first = params.sample_of_pattern(pattern);
+            let first = params.value(pattern);
             let len = values.len();
             unmap_into(params, first, values, &mut samples[..len]);
             true
@@ -327,6 +327,7 @@ fn intervals_at_once(params: &Params, wanted: Wanted, most: u64, capacity: usize
     ensures short { 0 < result → params.now.interval ≤ 8 }
     ensures most { result * interval_len params.now ≤ most }
     ensures room { result * interval_len params.now ≤ 4096 }
+    ensures there { result * interval_len params.now ≤ capacity }
 {
     if params.pad() || params.interval() > MAX_SHORT_BLOCKS {
         return 0;
@@ -337,7 +338,10 @@ fn intervals_at_once(params: &Params, wanted: Wanted, most: u64, capacity: usize
 
 /// Returns how many places are made after `last` samples were read: at most twice as many, or
 /// `MIN_PLACES` if that is more, since `resize` zeroes the places that it adds. At first all.
-fn places_at_once(last: usize, capacity: usize) -> usize {
+fn places_at_once(last: usize, capacity: usize) -> usize
+    ensures there { result ≤ capacity }
+    ensures few { 0 < last → result ≤ max 64 (2 * last) }
+{
     let filled = if last == 0 {
         MAX_SAMPLES_AT_ONCE as usize
     } else {
@@ -374,9 +378,10 @@ pub(crate) fn read_short(
     let len = params.interval_len();
     let room = places_at_once(samples.len(), samples.capacity());
     let asked = intervals_at_once(params, wanted, most, room);
-    if asked == 0 || samples.resize((asked * len) as usize, 0).is_err() {
+    if asked == 0 {
         return wanted.first;
     }
+    samples.resize((asked * len) as usize, 0).unwrap();
     let all = samples.as_mut_slice();
     let count = fill_next_intervals(params, reader, asked as usize, all);
     samples.truncate(count * len as usize);

@@ -18,7 +18,7 @@ pub(crate) fn repeated_sample(params: &Params, reference: Option<u32>, samples: 
     ensures { result ≡ sample_of_zeros params.now reference samples.now }
 {
     match reference {
-        Some(pattern) => params.sample_of_pattern(pattern),
+        Some(pattern) => params.value(pattern),
         None if params.preprocess() => previous_of(samples),
         None => 0,
     }

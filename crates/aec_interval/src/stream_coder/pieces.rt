@@ -1,6 +1,6 @@
 //! Takes the samples of a piece, and codes intervals as soon as they are complete.
 
-ghost use Rattle.std.specs.Prelude.{◌≡◌, ◌+◌, ◌/◌, ◌<◌, ◌≤◌, Bool, List, [], true, false, length, take, unwrap_or, IfOk, IfErr, MatchResult};
+ghost use Rattle.std.specs.Prelude.{◌≡◌, ◌+◌, ◌*◌, ◌/◌, ◌<◌, ◌≤◌, Bool, List, [], true, false, max, length, take, unwrap_or, IfOk, IfErr, MatchResult};
 ghost use Rattle.std.specs.Result.{result_err};
 ghost use Rattle.aec_params.specs.Params.{IsAllowed, interval_len, storage_len};
 ghost use Rattle.aec_params.specs.Stored.{byte_groups, samples_of_bytes};
@@ -108,7 +108,10 @@ fn refusal(terms: &Terms, count: u64, taken: usize) -> Fault
 
 /// Returns how many samples are taken at once, if an interval has no more: twice as many as there
 /// are places for, since new places are cleared before they are first filled.
-fn samples_at_once(places: usize) -> usize {
+fn samples_at_once(places: usize) -> usize
+    ensures some { 256 ≤ result }
+    ensures few { result ≤ 4096 }
+{
     places
         .saturating_mul(2)
         .clamp(MIN_SAMPLES_AT_ONCE, MAX_SAMPLES_AT_ONCE)
@@ -125,6 +128,7 @@ fn part_samples(interval: usize, held: usize, samples: usize, at_once: usize) ->
     ensures there { result ≤ samples }
     ensures begun { 0 < held → held + result ≤ interval }
     ensures whole { IsFewOrWhole interval (held + result) }
+    ensures at_once { held + result ≤ max interval at_once }
 {
     if samples <= interval - held {
         return samples;
@@ -136,13 +140,16 @@ fn part_samples(interval: usize, held: usize, samples: usize, at_once: usize) ->
     most - most % interval
 }
 
-/// Returns how many of the given bytes, at least one sample, are taken at once. Fails with the
-/// refusal of a sample if the interval that it belongs to is the next one to be coded.
+/// Returns how many of the given bytes are taken at once: those of at least one sample, and of at
+/// most 4,096 samples or one longer interval. Fails with the refusal of a sample if the interval
+/// that it belongs to is the next one to be coded.
 fn part_len(terms: &Terms, progress: &Progress, bytes: &[u8]) -> Result<usize, Fault>
     requires progress { IsProgress terms.now progress.now }
     requires some { storage_len terms.now.params ≤ length bytes.now }
     ensures within { IfOk result (λ len. len ≤ length bytes.now) }
     ensures part { IfOk result (λ len. IsPart terms.now progress.now (take len bytes.now)) }
+    ensures few { IfOk result (λ len. len
+        ≤ max 4096 (interval_len terms.now.params) * storage_len terms.now.params) }
     ensures stops { IfErr result (λ fault. (before : List Bool)
         → StopsFeeding (coder_at terms.now progress.now []) bytes.now before before fault) }
 {

@@ -19,10 +19,10 @@ returns-then-preprocess c =
 
 pub returns-else-preprocess : goal.returns-else-preprocess
 returns-else-preprocess c =
-    let fits_x : FitsSigned w64 c.sample_of_pattern.result = search rules in
+    let fits_x : FitsSigned w64 c.value.result = search rules in
     record {
       held = search rules;
       undone = search (rules, mapping);
-      only = λ x held is. simp to_z-of_z (only-pattern c.args.params.now c.args.p x c.sample_of_pattern.result c.args.m c.greatest_offset-top.ensures.allowed
-          (cc) held c.sample_of_pattern.ensures.held c.sample_of_pattern.ensures.undone is);
+      only = λ x held is. simp to_z-of_z (only-pattern c.args.params.now c.args.p x c.value.result c.args.m c.greatest_offset-top.ensures.allowed
+          (cc) held c.value.ensures.held c.value.ensures.undone is);
     }

@@ -8,11 +8,11 @@ use Rattle.aec_block.proofs.mapping.unmapping.put_patterns.Goals as goal
 pub loop-i-preserved : goal.loop-i-preserved
 loop-i-preserved c =
     let room : c.loop-i.i < length c.loop-i.samples = omega (arith, c.loop-i-test.true, c.requires.values.len, c.loop-i.invariant.len) in
-    let fits : FitsSigned w64 c.sample_of_pattern.result = search (rules, c.sample_of_pattern.type_inv) in
+    let fits : FitsSigned w64 c.value.result = search (rules, c.value.type_inv) in
     record {
-      unmaps = unmaps-pattern _ _ c.sample_of_pattern.result _ _ _ _ _ c.requires.off (omega arith)
-          (to_z-of_z w64 c.sample_of_pattern.result fits) c.sample_of_pattern.ensures.held
-          c.sample_of_pattern.ensures.undone (one_more c.loop-i.samples c.loop-i.i _ room) c.loop-i.invariant.unmaps;
+      unmaps = unmaps-pattern _ _ c.value.result _ _ _ _ _ c.requires.off (omega arith)
+          (to_z-of_z w64 c.value.result fits) c.value.ensures.held
+          c.value.ensures.undone (one_more c.loop-i.samples c.loop-i.i _ room) c.loop-i.invariant.unmaps;
       len = search rules;
     }
 

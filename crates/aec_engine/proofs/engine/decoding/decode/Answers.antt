@@ -4,7 +4,7 @@ use Rattle.std.proofs.lemmas.Result.{err_from_is_err_and}
 use Rattle.aec_params.specs.declared.fault.Fault.TheVariants.{Memory}
 use Rattle.aec_interval.specs.Reached.{faulty}
 use Rattle.aec_engine.specs.ReadingTwice.{unread, no_memory}
-use Rattle.aec_engine.proofs.KeepingLemmas.{few_none, keeps_none, refuses_behind, settles_kept}
+use Rattle.aec_engine.proofs.KeepingLemmas.{keeps_none, refuses_behind, settles_kept}
 use Rattle.aec_engine.proofs.SettlingLemmas.{leaves_refusal, intake_decoded, leaves_decoded, settles_refusal, refuses_count, refuses_reading}
 use Rattle.aec_engine.proofs.engine.decoding.decode.Goals as goal
 
@@ -46,9 +46,6 @@ pub keep_more-requires-clause-kept : goal.keep_more-requires-clause-kept
 keep_more-requires-clause-kept g c =
     keeps_none c.in_ok-reader.reader c.args.params.now _ (ap (λ p. p.block) c.in_ok-reader.ensures.ok) (ap (λ p. p.bit) c.in_ok-reader.ensures.ok)
     (nil_from_length _ (omega (arith, c.in-Ok.ensures.empty)))
-
-pub keep_more-requires-clause-few : goal.keep_more-requires-clause-few
-keep_more-requires-clause-few g c = few_none _ _ _ c.in-Ok.ensures.empty
 
 pub returns-in_err-kept : goal.returns-in_err-kept
 returns-in_err-kept g c =

@@ -4,16 +4,14 @@ use Rattle.std.proofs.lemmas.Result.{err_from_is_err_and}
 use Rattle.aec_params.specs.Params.{IsAllowed, IsHeld}
 use Rattle.aec_interval.proofs.PieceReadingLemmas.{piece_is_held}
 use Rattle.aec_engine.proofs.ReadTwiceLemmas.{settings-same, same_next, counts_more, counts_few, counts_refused}
-use Rattle.aec_engine.proofs.KeepingLemmas.{counts_kept, few_none, few_then, few_more, keeps_more}
+use Rattle.aec_engine.proofs.KeepingLemmas.{counts_kept, few_more, keeps_more}
 use Rattle.aec_engine.proofs.engine.decoding.keep_more.Goals as goal
 
 pub loop-reader-init : goal.loop-reader-init
 loop-reader-init c = record {
   keeps = c.requires.kept;
   same = refl;
-  there = omega arith;
-  spare = few_none 0 _ _ refl;
-  few = c.requires.few;
+  few = omega (arith, c.args.bytes.now.ok);
   room = omega arith;
   buffer = omega arith;
 }
@@ -33,27 +31,27 @@ overflow_add-kept c =
     let most = counts_few c.args.reader.now c.next_few.new.self _ a
     (counts_more c.args.reader.now c.loop-reader.reader c.next_few.new.self c.loop-reader.kept _ c.next_few.new.samples.items a counts
     (c.in_ok-next_few.ensures.read c.if-branch.true) refl c.next_few.ensures.few) in
-    omega (arith, most, c.len-in-loop-reader.ensures, c.next_few.new.samples.ok)
+    omega (arith, most, c.len-in-loop-reader-2.ensures, c.next_few.new.samples.ok)
 
 pub loop-reader-preserved : goal.loop-reader-preserved
 loop-reader-preserved c =
+    let a = subst IsAllowed (sym c.requires.settings) c.interval_len.ensures.allowed in
     let step = c.in_ok-next_few.ensures.read c.if-branch.true in
-    let spare = few_then c.args.reader.now c.loop-reader.reader c.loop-reader.room c.find_room.new.room _ _ _ c.loop-reader.invariant.same
-    c.most_kept.ensures.reached c.most_kept.ensures.bits c.interval_len.ensures.value c.find_room.ensures.few c.loop-reader.invariant.spare in
+    let same = c.loop-reader.invariant.same in
+    let few = few_more c.args.reader.now c.loop-reader.reader c.args.params.now c.interval_len.result c.samples_within.result c.capacity-room.result
+    (vec_len c.loop-reader.bytes) _ (vec_len c.append_stored.new.bytes) same c.requires.settings c.interval_len.ensures.value
+    c.in_ok-next_few.ensures.at_most (omega (arith, c.samples_within.ensures.fit, c.len-in-loop-reader.ensures))
+    (omega (arith, c.loop-reader-test.true, c.len.ensures))
+    (omega (arith, c.append_stored.ensures.spare.len, ap length c.deref.ensures.value, c.next_few.new.samples.ok))
+    (omega (arith, c.loop-reader.invariant.few, c.capacity-room.ensures)) in
     record {
-      keeps = keeps_more c.args.reader.now c.loop-reader.reader c.next_few.new.self c.args.params.now c.loop-reader.kept c.len-in-loop-reader.result _
-          c.loop-reader.bytes.items _ _ _ _ (subst IsAllowed (sym c.requires.settings) c.interval_len.ensures.allowed) c.loop-reader.invariant.same
-          c.loop-reader.invariant.keeps step c.next_few.ensures.few c.next_few.ensures.ends c.find_room.ensures.same.items c.append_stored.ensures.items
-          c.deref.ensures.value (omega (arith, c.len-in-loop-reader.ensures, c.next_few.new.samples.ok)) refl;
-      same = same_next c.args.reader.now c.loop-reader.reader c.next_few.new.self c.loop-reader.invariant.same step.piece.same;
-      there = omega (arith, c.find_room.ensures.there c.loop-reader.invariant.there, c.append_stored.ensures.spare.capacity);
-      spare = spare;
-      few = few_more c.args.reader.now c.loop-reader.reader c.args.params.now c.interval_len.result c.samples_within.result c.find_room.new.room
-          (vec_len c.find_room.new.bytes) _ _ (length c.args.reader.now.bits) c.loop-reader.invariant.same c.requires.settings c.interval_len.ensures.value
-          c.in_ok-next_few.ensures.at_most (omega (arith, c.samples_within.ensures, c.len.ensures)) (c.find_room.ensures.room c.loop-reader-test.true)
-          (omega (arith, c.append_stored.ensures.spare.len, ap length c.deref.ensures.value, c.next_few.new.samples.ok)) spare;
+      keeps = keeps_more c.args.reader.now c.loop-reader.reader c.next_few.new.self c.args.params.now c.loop-reader.kept c.len-in-loop-reader-2.result _
+          c.loop-reader.bytes.items _ _ _ _ a same c.loop-reader.invariant.keeps step c.next_few.ensures.few c.next_few.ensures.ends refl
+          c.append_stored.ensures.items c.deref.ensures.value (omega (arith, c.len-in-loop-reader-2.ensures, c.next_few.new.samples.ok)) refl;
+      same = same_next c.args.reader.now c.loop-reader.reader c.next_few.new.self same step.piece.same;
+      few = omega (arith, c.capacity-room.ensures, few);
       room = omega (arith, c.loop-reader.invariant.room, c.next_few.ensures.capacity);
-      buffer = omega (arith, c.loop-reader.invariant.buffer, c.find_room.ensures.same.capacity, c.append_stored.ensures.spare.capacity);
+      buffer = omega (arith, c.loop-reader.invariant.buffer, c.append_stored.ensures.spare.capacity);
     }
 
 pub append_stored-requires-clause-held : goal.append_stored-requires-clause-held

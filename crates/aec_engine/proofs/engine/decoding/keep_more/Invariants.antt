@@ -1,6 +1,5 @@
-use Rattle.std.proofs.Common.{◌≡◌, ◌-◌, ◌≤◌, ◌*◌, ◌^◌, length, vec_len, vec_capacity}
-use Rattle.aec_params.specs.Params.{interval_len}
-use Rattle.aec_engine.specs.ReadingTwice.{AreFewKept, KeepsFront}
+use Rattle.std.proofs.Common.{◌≡◌, ◌-◌, ◌≤◌, ◌^◌, vec_len, vec_capacity}
+use Rattle.aec_engine.specs.ReadingTwice.{KeepsFront}
 use Rattle.aec_engine.proofs.ReadTwiceLemmas.{place_from}
 use Rattle.aec_engine.proofs.engine.decoding.keep_more.Given as goal
 
@@ -8,9 +7,7 @@ abbrev pub invariant-loop-reader : goal.invariant-loop-reader
 invariant-loop-reader l = record {
   keeps : KeepsFront l.reader l.params l.kept l.bytes.items;
   same : l.reader ≡ place_from l.fn.reader l.reader.block l.reader.bit;
-  there : l.room ≤ vec_capacity l.bytes;
-  spare : AreFewKept l.room (4 * interval_len l.params) (length l.fn.reader.bits);
-  few : AreFewKept (vec_len l.bytes) (4 * interval_len l.params) (length l.fn.reader.bits);
+  few : vec_len l.bytes ≤ vec_capacity l.fn.bytes;
   room : vec_capacity l.fn.samples ≤ vec_capacity l.samples;
   buffer : vec_capacity l.fn.bytes ≤ vec_capacity l.bytes;
 }

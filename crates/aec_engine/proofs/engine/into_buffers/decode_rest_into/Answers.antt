@@ -24,9 +24,6 @@ keep_more-requires-clause-kept c =
     subst (λ bytes. KeepsFront c.args.reader.now s c.len-first.result bytes) (sym (c.in_ok-bytes.ensures.items ∙ ap (all_stored s) c.deref.ensures.value))
     (subst (λ k. KeepsFront c.args.reader.now s k (all_stored s items)) count c.requires.kept)
 
-pub keep_more-requires-clause-few : goal.keep_more-requires-clause-few
-keep_more-requires-clause-few c = λ past. absurd (omega (arith, past, c.in_ok-bytes.ensures.few))
-
 pub returns-in_err-kept : goal.returns-in_err-kept
 returns-in_err-kept c =
     let exit = err_from_is_err_and c.from_residual-in_err-kept.result c.from_residual-in_err-kept.ensures.1 in

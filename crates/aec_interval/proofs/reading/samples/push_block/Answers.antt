@@ -26,10 +26,10 @@ returns-in-None-clause-items c =
 
 pub returns-in-Some-clause-items : goal.returns-in-Some-clause-items
 returns-in-Some-clause-items c =
-    let fits : FitsSigned w64 c.sample_of_pattern-first.result = search (rules, c.sample_of_pattern-first.type_inv) in
-    let kept : to_z w64 (of_z w64 c.sample_of_pattern-first.result) ≡ c.sample_of_pattern-first.result = to_z-of_z w64 c.sample_of_pattern-first.result fits in
+    let fits : FitsSigned w64 c.value-first.result = search (rules, c.value-first.type_inv) in
+    let kept : to_z w64 (of_z w64 c.value-first.result) ≡ c.value-first.result = to_z-of_z w64 c.value-first.result fits in
     fills_block_reference c.args.params.now c.args.samples.now.items c.push_unmapped-in-Some.new.samples.items c.args.block.now c.in-Some.pattern
-    (to_z w64 (of_z w64 c.sample_of_pattern-first.result)) _ c.requires.allowed c.requires.next (sym c.in-Some.ensures.value)
-    (subst (λ (x : ℤ). IsHeld c.args.params.now x) (sym kept) c.sample_of_pattern-first.ensures.held)
-    (ap (λ (x : ℤ). sample_pattern c.args.params.now x) kept ∙ c.sample_of_pattern-first.ensures.undone)
+    (to_z w64 (of_z w64 c.value-first.result)) _ c.requires.allowed c.requires.next (sym c.in-Some.ensures.value)
+    (subst (λ (x : ℤ). IsHeld c.args.params.now x) (sym kept) c.value-first.ensures.held)
+    (ap (λ (x : ℤ). sample_pattern c.args.params.now x) kept ∙ c.value-first.ensures.undone)
     c.values-in-Some.ensures.value c.push_unmapped-in-Some.ensures.items

@@ -9,17 +9,17 @@ use Rattle.aec_interval.proofs.reading.short.fill_reference_block.Goals as goal
 pub returns-in-Some : goal.returns-in-Some
 returns-in-Some g c =
     let s = c.args.params.now in
-    let x = to_z w64 (of_z w64 c.sample_of_pattern-first.result) in
-    let fits : FitsSigned w64 c.sample_of_pattern-first.result = search (rules, c.sample_of_pattern-first.type_inv) in
-    let kept : x ≡ c.sample_of_pattern-first.result = to_z-of_z w64 c.sample_of_pattern-first.result fits in
+    let x = to_z w64 (of_z w64 c.value-first.result) in
+    let fits : FitsSigned w64 c.value-first.result = search (rules, c.value-first.type_inv) in
+    let kept : x ≡ c.value-first.result = to_z-of_z w64 c.value-first.result fits in
     let len = filled_places c.unmap_into.new.samples c.args.samples.now (length c.read_plain_first.new.values) s.block_size c.unmap_into.ensures.len
     (c.read_plain_first.ensures.len ∙ c.requires.count) c.requires.room in
     record {
       ok = λ read. subst (ReadsFirst s c.args.reader.now c.read_plain_first.new.reader) (sym (take_at c.unmap_into.new.samples _ s.block_size len))
           (reads_first s c.args.reader.now c.read_plain_first.new.reader c.in-Some.pattern c.read_plain_first.new.values x c.unmap_into.new.samples
           c.known_allowed.ensures c.requires.on c.in-Some.ensures.read (c.in-Some.ensures.one refl)
-          (subst (λ (x : ℤ). IsHeld s x) (sym kept) c.sample_of_pattern-first.ensures.held)
-          (ap (λ (x : ℤ). sample_pattern s x) kept ∙ c.sample_of_pattern-first.ensures.undone) c.unmap_into.ensures.items c.read_plain_first.ensures.list);
+          (subst (λ (x : ℤ). IsHeld s x) (sym kept) c.value-first.ensures.held)
+          (ap (λ (x : ℤ). sample_pattern s x) kept ∙ c.value-first.ensures.undone) c.unmap_into.ensures.items c.read_plain_first.ensures.list);
       list = search rules;
       count = search rules;
       len = search rules;

@@ -7,6 +7,11 @@ returns-clause-most c =
     let fewer : c.min-3.result ≤ c.min-2.result / c.interval_len.result = search rules in
     parts_within _ _ c.min-2.result c.interval_len.result _ _ fewer refl c.interval_len.ensures.value (omega (arith, c.min.ensures, c.min-2.ensures))
 
+pub returns-clause-there : goal.returns-clause-there
+returns-clause-there c =
+    let fewer : c.min-3.result ≤ c.min-2.result / c.interval_len.result = search rules in
+    parts_within _ _ c.min-2.result c.interval_len.result _ _ fewer refl c.interval_len.ensures.value (omega (arith, c.min.ensures, c.min-2.ensures))
+
 pub returns-clause-room : goal.returns-clause-room
 returns-clause-room c =
     let fewer : c.min-3.result ≤ c.min-2.result / c.interval_len.result = search rules in

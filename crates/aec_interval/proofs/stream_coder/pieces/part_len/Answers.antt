@@ -1,4 +1,6 @@
-use Rattle.std.proofs.Common.{rules, arith, [], subst, sym}
+use Rattle.std.proofs.Common.{rules, ◌-◌, ◌*◌, ◌%◌, ◌≤◌, max, arith, [], subst, sym}
+use Rattle.std.proofs.Math.Nat.{mul-le-mul_right}
+use Rattle.aec_params.specs.Params.{interval_len}
 use Rattle.aec_interval.specs.Feeding.{StopsFeeding}
 use Rattle.aec_interval.specs.Progress.{coder_at}
 use Rattle.aec_interval.proofs.NextPartLemmas.{few_of_first, all_of_first, front_bytes, front_of_first, first_refused}
@@ -26,6 +28,16 @@ overflow_mul-result-2 c =
     c.part_samples-samples.ensures.there c.taken_samples-taken.ensures.value in
     let within = front_bytes c.args.bytes.now c.storage-width.result c.interval_len-interval.result _ _ c.part_samples-samples.ensures.there few in
     search (rules, within)
+
+pub returns-clause-few : goal.returns-clause-few
+returns-clause-few c =
+    let whole = c.taken_samples-taken.result - c.taken_samples-taken.result % c.interval_len-interval.result in
+    let most = max 4096 (interval_len c.args.terms.now.params) in
+    let few = few_of_first c.args.terms.now c.args.progress.now c.args.bytes.now _ _ _ c.requires.progress c.storage-width.ensures.value
+    c.part_samples-samples.ensures.there c.taken_samples-taken.ensures.value in
+    let within : whole ≤ most =
+    omega (arith, few, c.part_samples-samples.ensures.at_once, c.samples_at_once-at_once.ensures.few, c.interval_len-interval.ensures.value) in
+    subst (λ width. whole * c.storage-width.result ≤ most * width) c.storage-width.ensures.value (mul-le-mul_right c.storage-width.result within)
 
 pub returns-clause-within : goal.returns-clause-within
 returns-clause-within c =

@@ -2,7 +2,7 @@ use Rattle.std.proofs.Common.{◌^◌, ◌∙◌, ap, sym, subst}
 use Rattle.aec_params.specs.declared.settings.Settings.{Settings}
 use Rattle.aec_params.specs.Params.{IsHeld, sample_pattern}
 use Rattle.aec_params.proofs.ParamsLemmas.{value-negative, value-positive, pattern-negative, pattern-positive, undone-negative, negative-held, positive-held}
-use Rattle.aec_params.proofs.params.Params.sample_of_pattern.Goals as goal
+use Rattle.aec_params.proofs.params.Params.value.Goals as goal
 
 pub returns-then-is_negative : goal.returns-then-is_negative
 returns-then-is_negative c =

@@ -2,7 +2,7 @@ use Rattle.std.proofs.Common.{◌≡◌, ◌≤◌, ◌+◌, length}
 use Rattle.std.specs.Prelude.{option_map}
 use Rattle.aec_engine.specs.Scripts.{listing_of, listing_from}
 use Rattle.aec_engine.specs.ScriptLines.{after_listed, lines_left, text_left}
-use Rattle.aec_engine.proofs.script_reading.parse_script.Given as goal
+use Rattle.aec_engine.proofs.script_reading.script.Given as goal
 
 abbrev pub invariant-loop-rest : goal.invariant-loop-rest
 invariant-loop-rest l =
