@@ -23,10 +23,8 @@ def try_refusals(in_c, library, rows, want, tally):
         for alone in (True, False):
             for run.range in ways(alone):
                 got = in_c.ask(call, 100, run)
-                # The call may go on without the k-th growth alone.
-                allowed = [right] if run.refused == 0 else [want, right] if alone else [want]
                 what = f"growths {run.range} refused in {call.name}"
-                tally.holds(got in allowed, f"{what}: {got}")
+                tally.check(what, got, want if run.refused else right)
                 tally.check(f"{what}: blocks that aren't freed", growths.kept, 0)
                 if run.refused == 0:
                     break

@@ -2,9 +2,9 @@
 """Checks the limits of the house: limits.py [FOLDER]
 
 Prints each place of the crates, each script of too many lines, and each line of tests/ and tools/ of too many columns, that breaks a
-limit; what is wrong with the pages that are written by hand (page_limits.py: words, text in two pages, links); copies of a file that
-differ; and each exception that nothing needs. The last line counts the files that keep the limits, and the failures. Ends with status 1
-if something failed.
+limit; what is wrong with the pages that are written by hand (page_limits.py: text in two pages, links), and, as a note, which of them
+have many words; copies of a file that differ; and each exception that nothing needs. The last line counts the files that keep the limits,
+and the failures. Ends with status 1 if something failed.
 
 Exempt are what the formatter puts on one line (`use`, attributes) and the rows of a table within a text.
 """
@@ -184,7 +184,7 @@ def main():
     print("".join(f"{copy}\n" for copy in copies), end="")
     failed += len(copies)
     wrongs, pages = page_limits.wrongs(TOP)
-    print("".join(f"{wrong}\n" for wrong in wrongs), end="")
+    print("".join(f"{line}\n" for line in [*page_limits.notes(TOP), *wrongs]), end="")
     passed, failed = passed + max(pages - len(wrongs), 0), failed + len(wrongs)
     print(f"{passed} passed, {failed} failed")
     return 1 if failed else 0

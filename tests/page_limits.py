@@ -1,4 +1,5 @@
-"""The limits of the pages that are written by hand, for limits.py: the number of words in each, and that no two pages say the same.
+"""The limits of the pages that are written by hand, for limits.py: that no two pages say the same, and the number of words in each. Too
+many words are a reason to look at a page again, and no failure: no sentence should lose a word that its reader needs.
 
 Words are counted as `wc -w` does: whatever stands between blanks, also code, tables and marks of lists. Not counted is what a script
 writes into a page, from a line `<!-- Written by .. -->` to a line `<!-- end -->` or the end of the page. The pages are those at the top
@@ -21,21 +22,21 @@ import re
 from typing import NamedTuple
 
 MOST = {
-    "README.md": 900,
-    "CHANGELOG.md": 600,
-    "CONTRIBUTING.md": 2000,
-    "docs/ARCHITECTURE.md": 2000,
-    "docs/ARCHIVE.md": 1000,
-    "docs/CHECK.md": 800,
-    "docs/COMMAND.md": 2600,
-    "docs/DECISIONS.md": 3500,
-    "docs/FORMAT.md": 3300,
-    "docs/LIBRARY.md": 1000,
-    "docs/PACKAGING.md": 300,
-    "docs/RECIPES.md": 1400,
-    "docs/SPEED.md": 1300,
+    "README.md": 1000,
+    "CHANGELOG.md": 800,
+    "CONTRIBUTING.md": 2300,
+    "docs/ARCHITECTURE.md": 2300,
+    "docs/ARCHIVE.md": 1200,
+    "docs/CHECK.md": 900,
+    "docs/COMMAND.md": 3000,
+    "docs/DECISIONS.md": 4000,
+    "docs/FORMAT.md": 3800,
+    "docs/LIBRARY.md": 1200,
+    "docs/PACKAGING.md": 400,
+    "docs/RECIPES.md": 1600,
+    "docs/SPEED.md": 1500,
 }
-ALL = 24000
+ALL = 28000
 FOLDERS = ("*.md", "docs/*.md", "examples/*.md", "crates/*/README.md", "bench/steps.md")
 ALONE = ("python/README.md", "rust/*/README.md")
 RUN = 8
@@ -67,13 +68,18 @@ def pages(top):
 
 
 def too_long(found):
-    """Yields what exceeds a limit of words."""
+    """Yields what has more words than a page should have without a second look."""
     counts = {path: len(text.split()) for path, text in found.items()}
     for path, most in MOST.items():
         if counts.get(path, 0) > most:
-            yield f"{path}: {counts[path]} words, at most {most}"
+            yield f"{path}: {counts[path]} words, more than {most}"
     if sum(counts.values()) > ALL:
-        yield f"all pages written by hand: {sum(counts.values())} words, at most {ALL}"
+        yield f"all pages written by hand: {sum(counts.values())} words, more than {ALL}"
+
+
+def notes(top):
+    """Returns what should be looked at again."""
+    return [f"look again: {line}" for line in too_long(dict(pages(top)))]
 
 
 def parts_of(text):
@@ -138,7 +144,7 @@ def lost_links(top, path, text):
 def wrongs(top):
     """Returns what is wrong, and the number of pages."""
     found = dict(pages(top))
-    wrong, needed = list(too_long(found)), set()
+    wrong, needed = [], set()
     for path, text in found.items():
         wrong += lost_links(top, path, text)
         wrong += joined_items(path, text)
@@ -155,5 +161,5 @@ if __name__ == "__main__":
     TOP = os.path.join(os.path.dirname(os.path.abspath(__file__)), "..")
     FOUND = dict(pages(TOP))
     print("".join(f"{len(text.split()):6} {path}\n" for path, text in FOUND.items()), end="")
-    print(f"{sum(len(text.split()) for text in FOUND.values()):6} in all, at most {ALL}")
+    print(f"{sum(len(text.split()) for text in FOUND.values()):6} in all")
     print("".join(f"{wrong}\n" for wrong in wrongs(TOP)[0]), end="")

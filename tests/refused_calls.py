@@ -11,9 +11,7 @@ print the file stdout of the crate aec_memory_tests. Each other run must print t
   - In a run of edits, the refused growth of an edit is the outcome of that edit, and the other edits are made.
   - A run of the program ends with status 1 and one line, and makes no DEST.
 
-Each refused growth makes its call fail, with two exceptions if it alone is refused: `edit` and `perform --edit` go on without the list
-of a script's overwrites in the order of their places, and `encode_bytes` without the room that it makes before it codes. The result is
-then the same.
+Each refused growth makes its call fail.
 
 The command `cc` builds the preloaded library. Without `cc` nothing is tested, which is a failure if CI is set. Prints a table, the
 checks that fail and, last, how many passed. Ends with status 1 if one failed.
@@ -31,8 +29,6 @@ from refusing import Growths, build, has_compiler, print_skipped, ways
 
 ROWS = os.path.join(TOP, "crates", "aec_memory_tests", "stdout")
 WANT = "out of memory"
-# The calls that go on without one growth, in order: the one that makes room in advance, and those that apply a script's overwrite.
-GOING_ON = ["encode_bytes", "edit", "perform --edit script source dest"]
 COUNTERS = re.compile(r"calls (\d+), reads (\d+),")
 
 
@@ -164,7 +160,7 @@ class Calls:
 
 
 def refuse_in_turn(path, library, rows, alone, tally):
-    """Refuses each growth in turn. Returns the name of the call in which each growth is, or "" if no call failed without it."""
+    """Refuses each growth in turn. Returns the name of the call in which each growth is."""
     calls = []
     with tempfile.TemporaryDirectory() as folder:
         program = Calls(path, library, folder)
@@ -179,12 +175,11 @@ def refuse_in_turn(path, library, rows, alone, tally):
                 return calls
             place = first_difference(rows, lines)
             if place == len(rows):
-                tally.holds(alone and lines == rows, f"{way}: no call lacks memory")
-                calls.append("")
-            else:
-                want = wanted(rows, place, lines[place])
-                compare(f"{way}, in {rows[place].call}", lines[place:], want, tally)
-                calls.append(rows[place].call)
+                tally.holds(False, f"{way}: no call lacks memory")
+                continue
+            want = wanted(rows, place, lines[place])
+            compare(f"{way}, in {rows[place].call}", lines[place:], want, tally)
+            calls.append(rows[place].call)
     tally.holds(False, f"more than {len(calls)} growths")
     return calls
 
@@ -211,9 +206,6 @@ def main():
         all_after, alone = (part.result() for part in parts)
     for one in tallies:
         tally.add(one)
-    goes_on = [name for name, other in zip(all_after, alone) if not other]
-    tally.holds(goes_on == GOING_ON, f"without a growth go on: {goes_on}")
-    alone = [other or name for name, other in zip(all_after, alone)]
     tally.holds(all_after == alone != [], f"{len(all_after)} growths, or {len(alone)}")
     print_table(rows, all_after)
     tally.print()

@@ -4,10 +4,8 @@
 Runs the program at PATH_OF_AEC with a small library loaded before the C library, which refuses growths (calls of malloc, calloc and
 realloc): the k-th and all later ones, and the k-th alone, for each k until a run meets no refusal. That run must write the right bytes.
 A refused run must end with status 1 and the one line for lack of memory on standard error, and must leave DEST as it was, or absent.
-Only without these growths may a run go on, and must then write the right bytes too:
-  - one that takes more room than is needed, on inputs longer than a piece;
-  - the list of the process's words, if it alone is refused: the list is then built step by step;
-  - the list of overwrites in the order of their places, if it alone is refused: they are then made in the script's order.
+Only without the list of the process's words, if it alone is refused, may a run go on, and must then write the right bytes too: the kit
+then builds the list step by step.
 
 Without the library and with little memory, the program also decodes a short stream of very many samples, cuts it to a range and edits
 it; and it edits a stream by a script of a million lines, with four times the script's bytes and 16 MiB.
@@ -61,26 +59,12 @@ RUNS = [
     Run("no folder of DEST", ["source", "nowhere/dest"], b"", b"", 1, "aec: write failed\n", None),
 ]
 
-# Runs on more bytes than a piece, which go on without room beyond their need. True: also if all later growths are refused, since
-# decoding then keeps no more bytes.
-SPARING = {"decoding of noise": True, "an edit of noise": False}
-
-# Runs that go on without one more growth if it alone is refused: the list of overwrites.
-ORDERED = {"edits made early"}
-
 
 def list_of_words(run):
     """Returns the number of the growth for the list of the process's words. Reading the words takes the growths before it: one for
     each word, one for the end, and those of a list that doubles when it is full."""
     words = len(run.words) + 1
     return words + 3 + (words > 4) + (words > 8)
-
-
-def may_go_on(run, alone, first, spared):
-    """Returns whether a run that went on without the growths `spared` may go on without the growth `first`."""
-    if run.what in ORDERED and alone and not spared - {list_of_words(run)}:
-        return True
-    return alone and first == list_of_words(run) or run.what in SPARING and (alone or SPARING[run.what])
 
 
 class Refusing:
@@ -115,26 +99,23 @@ class Row(NamedTuple):
 
     growths: int
     runs: int
-    spared: set  # the growths without which a run went on
     tally: Tally
 
 
 def refuse_in_turn(refusing, alone, old, tally):
-    """Refuses each growth of a run in turn. Returns how many runs that took, and the growths without which a run went on."""
-    what, spared = refusing.run.what, set()
+    """Refuses each growth of a run in turn. Returns how many runs that took."""
+    what = refusing.run.what
     for first, last in ways(alone):
         answer, _, refused = refusing.answer(old, first, last)
         way = f"{what}: growth {first} {'alone' if alone else 'and all after it'}: {answer}"
         complete = refusing.is_complete(answer, old)
-        goes_on = may_go_on(refusing.run, alone, first, spared) and complete
         if refused == 0:
             tally.holds(complete, f"{way}, with none refused")
-            return first, spared
-        if goes_on:
-            spared.add(first)
+            return first
+        goes_on = alone and first == list_of_words(refusing.run) and complete
         tally.holds(refusing.is_want_of_memory(answer, old) or goes_on, way)
     tally.holds(False, f"{what}: more than {MOST_GROWTHS} growths")
-    return MOST_GROWTHS, spared
+    return MOST_GROWTHS
 
 
 def try_run(path, library, run):
@@ -144,23 +125,18 @@ def try_run(path, library, run):
         answer, growths, _ = refusing.answer(None, 0, -1)
         tally.holds(refusing.is_complete(answer, None), f"{run.what}, with ample memory: {answer}")
         tally.holds(growths > 0, f"{run.what}: no growth is counted, so the library sees none")
-        runs, spared = 1, set()
-        for alone in (False, True):
-            for old in (None, OLD):
-                more, without = refuse_in_turn(refusing, alone, old, tally)
-                runs, spared = runs + more, spared | without
-        return Row(growths, runs, spared, tally)
+        runs = 1 + sum(refuse_in_turn(refusing, alone, old, tally) for alone in (False, True) for old in (None, OLD))
+        return Row(growths, runs, tally)
 
 
 def refuse_all_in_turn(path, tally):
     """Refuses each growth of all runs in turn, and prints a table."""
-    print("| Run | Growths | Runs | Growths that it goes on without |\n|---|---|---|---|")
+    print("| Run | Growths | Runs |\n|---|---|---|")
     with tempfile.TemporaryDirectory() as folder, ProcessPoolExecutor() as pool:
         rows = pool.map(partial(try_run, path, build(folder)), RUNS)
         for run, row in zip(RUNS, rows):
             tally.add(row.tally)
-            spared = ", ".join(map(str, sorted(row.spared))) or "none"
-            print(f"| {run.what} | {row.growths:,} | {row.runs:,} | {spared} |", flush=True)
+            print(f"| {run.what} | {row.growths:,} | {row.runs:,} |", flush=True)
 
 
 def try_little_memory(path, tally):
