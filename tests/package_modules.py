@@ -216,8 +216,30 @@ def cargo(crate, folder, *words, **more):
     return running.returncode, said[-8000:] + late
 
 
+def library_of_another_version(lib, folder):
+    """Makes a copy of libaecp.a whose major version is 2. Returns its folder."""
+    other = os.path.join(folder, "another_version")
+    os.mkdir(other)
+    source, built = os.path.join(other, "version.c"), os.path.join(other, "version.o")
+    with open(source, "w", encoding="utf-8") as file:
+        file.write("unsigned aecp_version(void) { return 20000; }\n")
+    before, after = os.path.join(lib, "libaecp.a"), os.path.join(other, "libaecp.a")
+    subprocess.run(["objcopy", "--redefine-sym", "aecp_version=aecp_version_before", before, after], check=True)
+    subprocess.run(["cc", "-c", "-o", built, source], check=True)
+    subprocess.run(["ar", "rs", after, built], check=True, capture_output=True)
+    return other
+
+
+def try_another_version(crate, lib, folder, tally):
+    """Checks that each call of the crate panics if the library has another major version."""
+    if all(tally.has(tool, "the Rust crate with a library of another version") for tool in ("cc", "objcopy", "ar")):
+        other = library_of_another_version(lib, folder)
+        status, said = cargo(crate, folder, "test", "--test", "another_version", "--", "--ignored", AECP_LIB_DIR=other)
+        tally.holds(status == 0 and "1 passed" in said, f"cargo test with a library of another version: {said}")
+
+
 def try_crate(unpacked, folder, tally):
-    """Runs the tests of the crate, with AECP_LIB_DIR and with pkg-config, and clippy."""
+    """Runs the tests of the crate, with AECP_LIB_DIR, with pkg-config and with a library of another version, and clippy."""
     try_unsafe(tally)
     if not tally.has("cargo", "the tests of the Rust crate"):
         return
@@ -231,6 +253,7 @@ def try_crate(unpacked, folder, tally):
     if shutil.which("pkg-config"):
         status, said = cargo(crate, folder, "test", "--test", "calls", PKG_CONFIG_PATH=os.path.join(lib, "pkgconfig"))
         tally.holds(status == 0, f"cargo test by pkg-config: {said}")
+    try_another_version(crate, lib, folder, tally)
     status, said = cargo(crate, folder, "build", AECP_LIB_DIR="/nonexistent")
     tally.holds(status != 0 and "/nonexistent has no libaecp.a" in said, f"cargo build without the library: {said}")
     if subprocess.run(["cargo", "clippy", "--version"], capture_output=True).returncode:
