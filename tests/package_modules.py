@@ -4,12 +4,15 @@ import glob
 import os
 import re
 import shutil
+import signal
 import subprocess
 import sys
 
 from library_arrays import interpreter
 
 TOP = os.path.dirname(os.path.dirname(os.path.abspath(__file__)))
+# The most seconds that one run of cargo may take, so that a call that never returns makes the test fail.
+CARGO_SECONDS = 250
 
 WITHOUT_NUMPY = """
 import aecp, sys
@@ -194,15 +197,49 @@ def try_unsafe(tally):
 
 
 def cargo(crate, folder, *words, **more):
-    """Runs cargo in a crate. Returns its status and the end of what it prints."""
+    """Runs cargo in a crate, for at most CARGO_SECONDS. Returns its status and the end of what it prints."""
     given = {**os.environ, "RUST_BACKTRACE": "0", "CARGO_TARGET_DIR": os.path.join(folder, "target"), "CARGO_TERM_COLOR": "never", **more}
     given.pop("AECP_LIB_DIR", None) if "AECP_LIB_DIR" not in more else None
-    done = subprocess.run(["cargo", *words, "--offline"], cwd=crate, capture_output=True, text=True, env=given, timeout=250)
-    return done.returncode, (done.stdout + done.stderr)[-3000:]
+    words = ["cargo", words[0], "--offline", *words[1:]]
+    # In a session of its own, so that the tests, which cargo starts, can be killed with it.
+    with subprocess.Popen(
+        words, cwd=crate, stdout=subprocess.PIPE, stderr=subprocess.STDOUT, text=True, env=given, start_new_session=True
+    ) as running:
+        try:
+            said, late = running.communicate(timeout=CARGO_SECONDS)[0], ""
+        except subprocess.TimeoutExpired:
+            os.killpg(running.pid, signal.SIGKILL)
+            said, late = running.communicate()[0], f"\nkilled after {CARGO_SECONDS} seconds"
+        except BaseException:
+            os.killpg(running.pid, signal.SIGKILL)
+            raise
+    return running.returncode, said[-8000:] + late
+
+
+def library_of_another_version(lib, folder):
+    """Makes a copy of libaecp.a whose major version is 2. Returns its folder."""
+    other = os.path.join(folder, "another_version")
+    os.mkdir(other)
+    source, built = os.path.join(other, "version.c"), os.path.join(other, "version.o")
+    with open(source, "w", encoding="utf-8") as file:
+        file.write("unsigned aecp_version(void) { return 20000; }\n")
+    before, after = os.path.join(lib, "libaecp.a"), os.path.join(other, "libaecp.a")
+    subprocess.run(["objcopy", "--redefine-sym", "aecp_version=aecp_version_before", before, after], check=True)
+    subprocess.run(["cc", "-c", "-o", built, source], check=True)
+    subprocess.run(["ar", "rs", after, built], check=True, capture_output=True)
+    return other
+
+
+def try_another_version(crate, lib, folder, tally):
+    """Checks that each call of the crate panics if the library has another major version."""
+    if all(tally.has(tool, "the Rust crate with a library of another version") for tool in ("cc", "objcopy", "ar")):
+        other = library_of_another_version(lib, folder)
+        status, said = cargo(crate, folder, "test", "--test", "another_version", "--", "--ignored", AECP_LIB_DIR=other)
+        tally.holds(status == 0 and "1 passed" in said, f"cargo test with a library of another version: {said}")
 
 
 def try_crate(unpacked, folder, tally):
-    """Runs the tests of the crate, with AECP_LIB_DIR and with pkg-config, and clippy."""
+    """Runs the tests of the crate, with AECP_LIB_DIR, with pkg-config and with a library of another version, and clippy."""
     try_unsafe(tally)
     if not tally.has("cargo", "the tests of the Rust crate"):
         return
@@ -211,9 +248,12 @@ def try_crate(unpacked, folder, tally):
     status, said = cargo(crate, folder, "test", AECP_LIB_DIR=lib)
     tally.holds(status == 0, f"cargo test: {said}")
     print(f"cargo test: {', '.join(re.findall(r'test result: ok. ([0-9]+ passed)', said))}")
+    if status == -signal.SIGKILL:
+        return  # the next runs would hang too
     if shutil.which("pkg-config"):
         status, said = cargo(crate, folder, "test", "--test", "calls", PKG_CONFIG_PATH=os.path.join(lib, "pkgconfig"))
         tally.holds(status == 0, f"cargo test by pkg-config: {said}")
+    try_another_version(crate, lib, folder, tally)
     status, said = cargo(crate, folder, "build", AECP_LIB_DIR="/nonexistent")
     tally.holds(status != 0 and "/nonexistent has no libaecp.a" in said, f"cargo build without the library: {said}")
     if subprocess.run(["cargo", "clippy", "--version"], capture_output=True).returncode:

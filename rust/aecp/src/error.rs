@@ -112,3 +112,44 @@ impl fmt::Display for Error {
 }
 
 impl std::error::Error for Error {}
+
+#[cfg(test)]
+mod tests {
+    use super::*;
+
+    fn of_fault(fault: u32) -> Error {
+        Error::of(raw::Reply { fault, place: 77, len: 0 })
+    }
+
+    #[test]
+    fn each_fault_of_the_header_has_its_error() {
+        // The number of a fault, its error, and the place that this error returns.
+        let cases = [
+            (1, Error::Options { number: 1 }, 0),
+            (2, Error::Options { number: 2 }, 0),
+            (3, Error::Options { number: 3 }, 0),
+            (4, Error::Options { number: 4 }, 0),
+            (5, Error::Sample { index: 77 }, 77),
+            (6, Error::Stream { number: 6, bit: 77 }, 77),
+            (7, Error::Stream { number: 7, bit: 77 }, 77),
+            (8, Error::Stream { number: 8, bit: 77 }, 77),
+            (9, Error::Limit { number: 9, limit: 77 }, 77),
+            (10, Error::Range { count: 77 }, 77),
+            (11, Error::Spent, 0),
+            (12, Error::Memory, 0),
+            (15, Error::Script { line: 77 }, 77),
+            (16, Error::Limit { number: 16, limit: 77 }, 77),
+            (17, Error::Options { number: 17 }, 0),
+        ];
+        for (fault, error, place) in cases {
+            assert_eq!(of_fault(fault), error);
+            assert_eq!((error.number(), error.place()), (fault, place));
+        }
+    }
+
+    #[test]
+    #[should_panic(expected = "returned the fault 20")]
+    fn an_unknown_fault_panics() {
+        of_fault(20);
+    }
+}

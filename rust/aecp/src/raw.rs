@@ -200,10 +200,15 @@ pub fn version() -> u32 {
     unsafe { aecp_version() }
 }
 
-/// Fails if the linked library's structures may differ from those of [`VERSION`], or if it lacks
-/// calls of that version.
+/// Panics if the linked library doesn't fit this file.
 fn assert_version() {
-    let fits = version() / 10_000 == VERSION / 10_000 && version() / 100 >= VERSION / 100;
+    assert_fits(version());
+}
+
+/// Panics if the structures of a library of this version may differ from those of [`VERSION`], or
+/// if it lacks calls of that version.
+fn assert_fits(version: u32) {
+    let fits = version / 10_000 == VERSION / 10_000 && version / 100 >= VERSION / 100;
     assert!(fits, "libaecp.a has another version than the crate aecp");
 }
 
@@ -498,5 +503,25 @@ impl Reader {
     pub fn go_to(&mut self, interval: u64) -> Reply {
         // SAFETY: as in `next`.
         replied(|reply| unsafe { aecp_reader_go_to(&mut self.0, interval, reply) })
+    }
+}
+
+#[cfg(test)]
+mod tests {
+    use super::*;
+
+    #[test]
+    fn a_newer_library_of_the_same_major_version_fits() {
+        for newer in [0, 1, 99, 100, 101, 9_999 - VERSION % 10_000] {
+            assert_fits(VERSION + newer);
+        }
+    }
+
+    #[test]
+    fn a_library_of_another_major_version_or_an_older_minor_one_panics() {
+        for other in [0, VERSION - 10_000, VERSION - 100, VERSION + 10_000, 10 * VERSION] {
+            let outcome = std::panic::catch_unwind(|| assert_fits(other));
+            assert!(outcome.is_err(), "{other}");
+        }
     }
 }

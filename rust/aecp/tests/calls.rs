@@ -77,6 +77,34 @@ fn another_type_is_refused() {
 }
 
 #[test]
+fn a_stored_sample_has_one_to_four_bytes() {
+    for bits in 1..=32 {
+        let (plain, three_byte) = match bits {
+            1..=8 => (1, 1),
+            9..=16 => (2, 2),
+            17..=24 => (4, 3),
+            _ => (4, 4),
+        };
+        assert_eq!(Options::new(bits).storage(), plain, "{bits}");
+        assert_eq!(Options::new(bits).three_byte(true).storage(), three_byte, "{bits}");
+    }
+}
+
+#[test]
+fn samples_of_three_bytes_are_taken_only_as_bytes() {
+    let unsigned = Options::new(24).three_byte(true);
+    let signed = unsigned.signed(true);
+    let refused = Error::ElementType;
+    assert_eq!(encode(&[7u32; 8], &unsigned), Err(refused));
+    assert_eq!(encode(&[7i32; 8], &signed), Err(refused));
+    assert_eq!(decode::<u32>(&[], Some(0), &unsigned), Err(refused));
+    assert_eq!(decode::<i32>(&[], Some(0), &signed), Err(refused));
+    assert_eq!(decode_range::<u32>(&[], Some(0), 0, 0, &unsigned), Err(refused));
+    assert_eq!(Encoder::new(&unsigned).unwrap().feed(&[7u32; 8]), Err(refused));
+    assert_eq!(Decoder::<u32>::new(&[], Some(0), &unsigned).unwrap_err(), refused);
+}
+
+#[test]
 fn big_endian_samples_are_coded_as_bytes() {
     let samples = walk(500, 16);
     let stored: Vec<u8> = samples.iter().flat_map(|&it| (it as u16).to_be_bytes()).collect();
@@ -137,12 +165,6 @@ fn refusals_have_their_kind_and_place() {
         Err(Error::Stream { number: 6, bit: 0 })
     );
     assert!(!Error::Memory.to_string().is_empty() && !Error::ElementType.to_string().is_empty());
-}
-
-#[test]
-fn a_wrong_count_takes_no_memory() {
-    let refused = decode::<u32>(&[0; 8], Some(u64::MAX), &Options::new(32)).unwrap_err();
-    assert!(matches!(refused, Error::Limit { .. } | Error::Stream { .. }), "{refused:?}");
 }
 
 #[test]
@@ -282,4 +304,20 @@ fn scripts_are_applied_whole_or_not() {
     let refused = edit(&coded, Some(100), "append 1\nappend 65536\n", &options).unwrap_err();
     assert_eq!(refused, EditError { line: Some(2), error: Error::Sample { index: 0 } });
     assert!(refused.to_string().starts_with("line 2: "));
+}
+
+#[test]
+fn a_refused_line_is_named() {
+    let options = Options::new(8);
+    for line in 1..=3 {
+        let before = "append 7\n".repeat(line - 1);
+        let refused = |last| edit(&[], Some(0), before.clone() + last, &options).unwrap_err();
+        let (count, line) = (line as u64 - 1, line as u64);
+        let error = Error::Range { count };
+        assert_eq!(refused("remove 9 1\n"), EditError { line: Some(line), error });
+        let error = Error::Sample { index: 1 };
+        assert_eq!(refused("append 0 256\n"), EditError { line: Some(line), error });
+        assert_eq!(refused("turn 7\n"), EditError { line: None, error: Error::Script { line } });
+        assert!(refused("remove 9 1\n").to_string().starts_with(&format!("line {line}: ")));
+    }
 }
