@@ -33,10 +33,19 @@ def zeros(chance):
     return bytes(2 * SAMPLES)
 
 
+def patches(chance):
+    """Returns 16-bit samples: 16 of a detector and 16 zeros in turn."""
+    samples = bytearray(detector(chance)[: 2 * SAMPLES])
+    for place in range(0, len(samples), 64):
+        samples[place + 32 : place + 64] = bytes(32)
+    return bytes(samples)
+
+
 # Each kind of samples: its bits, its other options, and the function that makes it.
 INPUTS = {
     "detector": (16, [], detector),
     "zeros": (16, [], zeros),
+    "patches": (16, [], patches),
     "walk": (32, ["-s"], walk),
     "ramp": (8, [], ramp_with_noise),
 }
@@ -49,6 +58,10 @@ MEASURED = {
     ("detector", 8, 2): (47.8, 44.1),
     ("detector", 8, 1): (48.0, 45.3),
     ("zeros", 8, 128): (19.1, 6.8),
+    ("zeros", 8, 8): (21.3, 11.3),
+    ("zeros", 8, 2): (23.9, 26.3),
+    ("zeros", 8, 1): (27.5, 25.7),
+    ("patches", 8, 1): (38.6, 76.8),
     ("walk", 16, 128): (42.2, 51.8),
     ("ramp", 8, 128): (47.0, 45.5),
 }

@@ -7,6 +7,7 @@ FOLDER contains libaecp.a and libaecp.so. Tests in turn, by C programs (library_
   - each growth refused, with all later ones or alone: the call fails for lack of memory and changes nothing, or goes on without the
     one growth; it frees each block that it allocated;
   - the least stack of a thread for each call, which aecp.h names (library_memory.py);
+  - how many bytes a call allocates at once, of which aecp.h names the most (library_room.py);
   - eight threads at once; NULL for a buffer of no bytes; a run under valgrind, if it is installed, which must lose no memory;
   - samples and coded bytes in each kind of buffer that Python has (library_buffers.py);
   - streams edited by random scripts, against a model (library_edits.py);
@@ -32,6 +33,7 @@ from damaged_cases import some_samples, some_settings
 from library_buffers import try_buffers
 from library_edits import try_scripts
 from library_memory import try_freed, try_refusals, try_stacks
+from library_room import try_room
 from library_types import try_readme, try_types, try_version
 from program import TOP, Program, Tally, add_case_options, numbers_of, raised
 from refusing import build, has_compiler, print_skipped
@@ -350,6 +352,7 @@ def try_in_c(asked, folder, aecp, tally):
     library = build(folder)
     try_refusals(in_c, library, rows, Answer(MEMORY, 0, 0, b"", "out of memory"), tally)
     try_freed(Program(handles, folder), library, tally)
+    try_room(Program(built(asked, folder, "library_room"), folder), library, tally)
     try_stacks(built(asked, folder, "library_stacks"), folder, os.path.join(include, "aecp.h"), CALLS, tally)
     try_threads(in_c, tally)
     try_nulls(in_c, tally)

@@ -1,6 +1,8 @@
 /* Tests a handle of libaecp for tests/library.py: every call on it, its refusals, and the samples after them; a coder and a reader; and
- * eight threads with a handle each. Prints what goes wrong, and last how many checks passed. `library_handles lost` opens a handle and
- * doesn't close it. The words "refuse" and "grant" on standard error mark the part in which allocated and freed blocks count. */
+ * eight threads with a handle each. Prints what goes wrong, and last how many checks passed.
+ * `library_handles WAY KIND` only opens a workspace, a stream (aecp_load), a coder or a reader, and
+ * frees it in a way: see `open_in_a_way`. The words "refuse" and "grant" on standard error mark the
+ * part in which allocated and freed blocks count. */
 #include <aecp.h>
 #include <pthread.h>
 #include <stdio.h>
@@ -133,11 +135,55 @@ static void try_calls(void) {
     try_empty(&handle);
 }
 
-static void lose(void) {
+typedef struct {
+    aecp_handle handle;
+    aecp_coder coder;
+    aecp_reader reader;
+} opened;
+
+/* Opens one of a kind, and lets it hold samples or code. */
+static void open_one(const aecp_options *options, const char *kind, opened *it) {
+    const uint8_t coded[] = {0x20, 0x09, 0x24, 0x92};
+    const int64_t values[8] = {0, 1, 2, 3, 4, 5, 6, 7};
+    uint8_t out[MANY] = {0, 1, 2, 3, 4, 5, 6, 7};
+    aecp_reply reply = {99, 0, 0};
+    if (!strcmp(kind, "workspace") && !aecp_open(options, &it->handle, &reply))
+        aecp_append(&it->handle, values, 8, &reply);
+    else if (!strcmp(kind, "stream"))
+        aecp_load(options, 8, coded, sizeof coded, &it->handle, &reply);
+    else if (!strcmp(kind, "coder") && !aecp_coder_open(options, &it->coder, &reply))
+        aecp_coder_feed(&it->coder, out, 8, &reply);
+    else if (!strcmp(kind, "reader")
+             && !aecp_reader_open(options, 8, coded, sizeof coded, &it->reader, &reply))
+        aecp_reader_next(&it->reader, out, MANY, &reply);
+    check(reply.fault == AECP_OK, kind);
+}
+
+/* Opens another in place of what is open, with options that are refused. */
+static void open_refused(opened *it, const char *kind) {
+    aecp_options none = AECP_OPTIONS(33);
+    aecp_reply reply = {0, 0, 0};
+    if (it->handle.full) aecp_open(&none, &it->handle, &reply);
+    if (it->coder.full) aecp_coder_open(&none, &it->coder, &reply);
+    if (it->reader.full) aecp_reader_open(&none, 8, 0, 0, &it->reader, &reply);
+    check(reply.fault == AECP_BITS_PER_SAMPLE, kind);
+}
+
+/* Opens one of a kind. Then, in the way `closed`, closes it; in the way `replaced`, opens another
+ * in its place and closes that; in the way `refused`, opens another with options that are refused,
+ * and closes the first; in the way `lost`, closes nothing. */
+static void open_in_a_way(const char *way, const char *kind) {
     aecp_options options = AECP_OPTIONS(8);
-    aecp_handle handle = AECP_HANDLE;
-    aecp_reply reply;
-    check(aecp_open(&options, &handle, &reply) == AECP_OK, "open");
+    opened it = {AECP_HANDLE, AECP_CODER, AECP_READER};
+    options.block_size = 8;
+    options.interval = 1;
+    open_one(&options, kind, &it);
+    if (!strcmp(way, "replaced")) open_one(&options, kind, &it);
+    if (!strcmp(way, "refused")) open_refused(&it, kind);
+    if (!strcmp(way, "lost")) return;
+    aecp_close(&it.handle);
+    aecp_coder_close(&it.coder);
+    aecp_reader_close(&it.reader);
 }
 
 /* In each turn appends a zero, and sets the sample before it to the thread's number. Sets the number to 0 if all samples are right. */
@@ -268,14 +314,14 @@ static void try_threads(void) {
 }
 
 int main(int count, char **words) {
-    int loses = count == 2 && !strcmp(words[1], "lost");
+    if (count != 1 && count != 3) return 2;
     if (write(2, "refuse\n", 7) != 7) return 2;
-    if (loses)
-        lose();
+    if (count == 3)
+        open_in_a_way(words[1], words[2]);
     else
         try_calls(), try_coder(), try_reader();
     if (write(2, "grant\n", 6) != 6) return 2;
-    if (!loses) try_threads();
+    if (count == 1) try_threads();
     printf("%u passed, %u failed\n", passed, failed);
     return failed != 0;
 }

@@ -8,6 +8,8 @@ from refusing import Growths, ways
 
 # In KiB: the stacks that are tried, and what a call must leave of one, since on another machine a thread itself may take more.
 STACKS, LEFT = (16, 32, 64, 128), 4
+# What library_handles opens, and the ways in which it then frees everything.
+KINDS, WAYS = ("workspace", "stream", "coder", "reader"), ("closed", "replaced", "refused")
 
 
 def try_refusals(in_c, library, rows, want, tally):
@@ -31,13 +33,20 @@ def try_refusals(in_c, library, rows, want, tally):
 
 
 def try_freed(handles, library, tally):
-    """Checks that each call on a handle, or closing the handle, frees what was allocated, and that a handle left open is noticed."""
+    """Checks that each call on a handle, or closing the handle, frees what was allocated; for each
+    kind of handle that closing it frees it, and so does opening another in its place; that a handle
+    left open is noticed."""
     growths = Growths(handles, library, in_parts=True)
     _, number, _ = growths.refuse(0, -1, handles.run)
     tally.holds(number > 0, "handles: no growth is counted, so the library sees none")
     tally.check("handles: blocks that aren't freed", growths.kept, 0)
-    growths.refuse(0, -1, handles.run, "lost")
-    tally.holds(growths.kept > 0, "handles: a handle that isn't closed is not seen")
+    for kind in KINDS:
+        for way in WAYS:
+            (status, printed), *_ = growths.refuse(0, -1, handles.run, way, kind)
+            tally.check(f"{kind} {way}: {printed}", status, 0)
+            tally.check(f"{kind} {way}: blocks that aren't freed", growths.kept, 0)
+        growths.refuse(0, -1, handles.run, "lost", kind)
+        tally.holds(growths.kept > 0, f"{kind}: one that isn't closed is not seen")
 
 
 def stacks_of(header, names):

@@ -1,5 +1,5 @@
-"""A library that is loaded before the C library. It refuses growths of a program (calls of malloc, calloc and realloc), and counts
-the blocks that are not freed."""
+"""A library that is loaded before the C library. It refuses growths of a program (calls of malloc,
+calloc and realloc), and counts the blocks that are not freed, and the bytes of blocks."""
 
 import os
 import shutil
@@ -12,6 +12,7 @@ NO_COMPILER = "no C compiler: no command 'cc'"
 
 LIBRARY = """
 #include <fcntl.h>
+#include <malloc.h>
 #include <stdlib.h>
 #include <string.h>
 #include <sys/mman.h>
@@ -21,8 +22,9 @@ LIBRARY = """
 extern void *__libc_malloc(size_t), *__libc_calloc(size_t, size_t), *__libc_realloc(void *, size_t), __libc_free(void *);
 
 /* In the file that GROWTHS names: how many growths there were, and how many were refused; the first and the last to refuse;
-   whether growths count now; and how many blocks more were allocated than freed while they did. */
-static struct { long growths, refused, first, last, counting, kept; } *counts;
+   whether growths count now; how many blocks more were allocated than freed while they did, and
+   how many bytes; and the most that this number of bytes ever was. */
+static struct { long growths, refused, first, last, counting, kept, held, most; } *counts;
 
 __attribute__((constructor)) static void begin(void) {
     const char *name = getenv("GROWTHS");
@@ -38,19 +40,33 @@ static int is_refused(void) {
     return 1;
 }
 
-static void *counted(void *block) {
-    if (counts && counts->counting && block) counts->kept++;
+/* Counts the bytes of a block that was allocated in place of one of `old` bytes. */
+static void *counted(void *block, size_t old) {
+    if (!counts || !counts->counting || !block) return block;
+    counts->held += (long)malloc_usable_size(block) - (long)old;
+    if (counts->held > counts->most) counts->most = counts->held;
     return block;
 }
 
-void *malloc(size_t size) { return is_refused() ? 0 : counted(__libc_malloc(size)); }
-void *calloc(size_t number, size_t size) { return is_refused() ? 0 : counted(__libc_calloc(number, size)); }
+static void *added(void *block) {
+    if (counts && counts->counting && block) counts->kept++;
+    return counted(block, 0);
+}
+
+void *malloc(size_t size) { return is_refused() ? 0 : added(__libc_malloc(size)); }
+void *calloc(size_t number, size_t size) {
+    return is_refused() ? 0 : added(__libc_calloc(number, size));
+}
 void *realloc(void *old, size_t size) {
     if (is_refused()) return 0;
-    return old ? __libc_realloc(old, size) : counted(__libc_realloc(old, size));
+    size_t before = old ? malloc_usable_size(old) : 0;
+    return old ? counted(__libc_realloc(old, size), before) : added(__libc_realloc(old, size));
 }
 void free(void *block) {
-    if (counts && counts->counting && block) counts->kept--;
+    if (counts && counts->counting && block) {
+        counts->kept--;
+        counts->held -= (long)malloc_usable_size(block);
+    }
     __libc_free(block);
 }
 
@@ -92,15 +108,18 @@ class Growths:
     """Runs of a program with the library. All growths count, or only those in the parts that the program marks."""
 
     def __init__(self, program, library, in_parts=False):
-        self.program, self.at_first, self.kept = program, 0 if in_parts else 1, 0
+        self.program, self.at_first, self.kept, self.most = program, 0 if in_parts else 1, 0, 0
         self.environment = {**os.environ, "LD_PRELOAD": library, "GROWTHS": program.file("growths")}
 
     def refuse(self, first, last, run, *words):
         """Calls `run`, which runs the program, with the growths from `first` to `last` refused. Returns the result, and the numbers
-        of growths and refusals. `self.kept` becomes the number of blocks that weren't freed."""
-        self.program.write("growths", struct.pack("6l", 0, 0, first, last, self.at_first, 0))
+        of growths and refusals. `self.kept` becomes the number of blocks that weren't freed, and
+        `self.most` the most bytes that the counted blocks had at once. The C library rounds the
+        length of a block up: that of a large one to whole pages."""
+        self.program.write("growths", struct.pack("8l", 0, 0, first, last, self.at_first, 0, 0, 0))
         answer = run(*words, env=self.environment)
-        growths, refused, *_, self.kept = struct.unpack("6l", self.program.read("growths"))
+        counts = struct.unpack("8l", self.program.read("growths"))
+        growths, refused, *_, self.kept, _, self.most = counts
         return answer, growths, refused
 
 
