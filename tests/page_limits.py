@@ -2,7 +2,8 @@
 many words are a reason to look at a page again, and no failure: no sentence should lose a word that its reader needs.
 
 Words are counted as `wc -w` does: whatever stands between blanks, also code, tables and marks of lists. Not counted is what a script
-writes into a page, from a line `<!-- Written by .. -->` to a line `<!-- end -->` or the end of the page. The pages are those at the top
+writes into a page, from a line `<!-- Written by .. -->` to a line `<!-- end -->` or the end of the page, and the tables of
+docs/SURFACE.md, which surface.py checks. The pages are those at the top
 and in docs/, README.md of examples/ and of each crate and package, and bench/steps.md. Not among them: docs/theorems/, bench/tables.md
 and LICENSE, and the claims, from which docs/PROOFS.md is written.
 
@@ -41,6 +42,7 @@ FOLDERS = ("*.md", "docs/*.md", "examples/*.md", "crates/*/README.md", "bench/st
 ALONE = ("python/README.md", "rust/*/README.md")
 RUN = 8
 WRITTEN = re.compile(r"(?ms)^<!-- Written by .*?(^<!-- end -->\n|\Z)")
+LISTS = "docs/SURFACE.md"
 
 # Runs that are in two pages for a reason: their words, and why.
 TWICE = {
@@ -58,13 +60,14 @@ class Told(NamedTuple):
 
 
 def pages(top):
-    """Yields each page written by hand and its text, without what a script has written into it."""
+    """Yields each page written by hand and its text, without what isn't counted."""
     for pattern in FOLDERS + ALONE:
         for path in sorted(glob.glob(os.path.join(top, pattern))):
             with open(path, encoding="utf-8") as file:
                 text = WRITTEN.sub("", file.read())
+            name = os.path.relpath(path, top)
             if text.strip():
-                yield os.path.relpath(path, top), text
+                yield name, re.sub(r"(?m)^\|.*\n", "", text) if name == LISTS else text
 
 
 def too_long(found):

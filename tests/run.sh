@@ -1,7 +1,7 @@
 #!/bin/sh
 # Runs every test, from the top of the repository, for `make test`: that generated pages are current, that files keep the limits of
-# the house, that each must-fail edit can be applied, that each lemma is cited, then the gate, then the scripts of tests/ on the programs
-# that the gate has built.
+# the house, that each must-fail edit can be applied, that each lemma is cited, that the crates export what docs/SURFACE.md lists, then
+# the gate, then the scripts of tests/ on the programs that the gate has built.
 # Fails if one part fails. At the end it prints the seconds of each part. The last line counts what passed and failed: it is the gate's
 # line if all parts have passed, else that of the first part that failed, and the lines above say why it failed.
 export PYTHONDONTWRITEBYTECODE=1
@@ -60,10 +60,10 @@ part definitions python3 tools/definitions.py --check
 part modules python3 tools/modules.py --check
 part theorems python3 tools/theorem.py --check
 part man python3 tools/man.py --check
-part walk python3 tools/walk.py --check
 part limits python3 tests/limits.py
 part edits python3 tests/edits_apply.py
 part cited python3 tests/cited.py
+part surface python3 tests/surface.py
 at=$(python3 packaging/proved.py commit)
 jobs=$(jobs_of_gate)
 part gate env ${jobs:+RT_JOBS="$jobs"} rt ci
@@ -104,8 +104,8 @@ part instructions on_program tests/instructions_bounded.py
 
 last=gate
 # Every part in the order above. The first that failed is explained.
-for name in pages definitions modules theorems man walk limits edits cited gate coded cuts damaged memory calls files small trips scripts \
-    recipes installed worked pictures instructions; do
+for name in pages definitions modules theorems man limits edits cited surface gate coded cuts damaged memory calls files small trips \
+    scripts recipes installed worked pictures instructions; do
     if ! has_passed "$name"; then
         last=$name
         break

@@ -1,5 +1,5 @@
 #!/usr/bin/env python3
-"""Counts the calls from `main` of crates/aec down to the buffer of bits: walk.py [--check]
+"""Counts the calls from `main` of crates/aec down to the buffer of bits: walk.py
 
 Follows the calls in the sources of the crates for a coded sample, a decoded sample and a line of a script. Prints for each the
 functions on the way and the numbers of calls and files, and then for each library the mean number of clauses of a function.
@@ -9,7 +9,7 @@ call is found by its name: a method by a type or trait that the file names; a fu
 a free function without a path by its file or a `use`. After a function that a trait declares, the way continues in the trait's
 impls.
 
-Fails if a way doesn't exist, or has more calls or files than its bounds. With --check only failures and their number are printed.
+Fails if a way doesn't exist. Nothing bounds its length.
 """
 
 import re
@@ -17,15 +17,13 @@ import sys
 from collections import deque
 from typing import NamedTuple
 
-from sources import all_crates, ended, text_of
+from sources import all_crates, text_of
 
 
 class Way(NamedTuple):
     what: str
     # The functions that it passes, each by the last parts of its path.
     through: list
-    calls: int
-    files: int
 
 
 MAIN = "aec::main"
@@ -35,22 +33,16 @@ WAYS = [
         "A coded sample, of a whole block that is split",
         ["aec_engine::engine::coding::encode", "StreamCoder::feed", "pieces::take_part", "shortest::write_shortest_of",
          "writing::put_split", "writing::put_low_groups", "Gathered::put", "packed::push_reserved_number"],
-        22,
-        11,
     ),
     Way(
         "A decoded sample, of a block read at once",
         ["aec_engine::engine::decoding::decode", "StreamReader::next_few", "reading::plain::fill_plain_blocks", "plain::read_plain",
          "BitReader::read_sequences", "BitBuf::word_from"],
-        20,
-        11,
     ),
     Way(
         "A line of a script, an overwrite",
         ["aec_engine::engine::editing::edit", "Workspace::apply", "Workspace::overwrite", "Codec::code", "shortest::write_shortest_of",
          "writing::put_split", "writing::put_low_groups", "Gathered::put", "packed::push_reserved_number"],
-        30,
-        14,
     ),
 ]  # fmt: skip
 
@@ -154,22 +146,16 @@ def clauses_of(crate):
 
 
 def main():
-    graph, wrongs = CallGraph(), []
+    graph, crates = CallGraph(), all_crates()
     for way in WAYS:
         chain = way_through(graph, way)
-        files = list(dict.fromkeys(one.file for one in chain))
-        if sys.argv[1:] != ["--check"]:
-            print(f"{way.what}: {len(chain) - 1} calls, {len(files)} files")
-            print("".join(f"    {one.path()}\n" for one in chain))
-        if len(chain) - 1 > way.calls or len(files) > way.files:
-            wrongs.append(f"{way.what}: {len(chain) - 1} calls and {len(files)} files, for {way.calls} and {way.files}")
-    if sys.argv[1:] != ["--check"]:
-        crates = all_crates()
-        for name in LIBRARIES:
-            clauses, functions = clauses_of(crates[name])
-            print(f"{name}: {clauses / functions:.2f} clauses a function ({clauses} of {functions})")
-    return ended(len(WAYS) - len(wrongs), wrongs)
+        files = {one.file for one in chain}
+        print(f"{way.what}: {len(chain) - 1} calls, {len(files)} files")
+        print("".join(f"    {one.path()}\n" for one in chain))
+    for name in LIBRARIES:
+        clauses, functions = clauses_of(crates[name])
+        print(f"{name}: {clauses / functions:.2f} clauses a function ({clauses} of {functions})")
 
 
 if __name__ == "__main__":
-    sys.exit(main())
+    main()
