@@ -244,12 +244,14 @@ fn first_bytes(
     Ok(bytes)
 }
 
-/// Makes room for the samples of an interval if `left` samples have to be read again.
+/// Makes room for the samples of an interval if `left` samples have to be read again. The samples
+/// that are there go, so that they take no room beside it.
 fn room_for_rest(params: &Params, left: u64, samples: &mut Vec<i64>) -> Result<(), Fault>
     ensures room { OnOk result (0 < left → interval_len params.now ≤ vec_capacity samples.new) }
     ensures fault { IfErr result (λ e. e ≡ Memory) }
 {
     if left > 0 {
+        samples.clear();
         samples.reserve(params.interval_len() as usize)?;
     }
     Ok(())
