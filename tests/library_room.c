@@ -16,6 +16,7 @@ static aecp_options options;
 static uint64_t total, count;
 static size_t samples_len, coded_len, room;
 static uint8_t *samples, *coded, *back;
+static int64_t *numbers;
 static aecp_handle handle;
 static aecp_coder coder;
 static aecp_reader reader;
@@ -43,7 +44,8 @@ static int is_made(const char *kind) {
     samples = calloc(samples_len + 1, 1);
     coded = malloc(room);
     back = malloc(room);
-    if (!samples || !coded || !back) return 0;
+    numbers = is("read") ? calloc(count, sizeof *numbers) : 0;
+    if (!samples || !coded || !back || (is("read") && !numbers)) return 0;
     if (!strcmp(kind, "noise")) fill(width);
     if (aecp_encode(&options, samples, samples_len, coded, room, &reply)) return 0;
     coded_len = reply.len;
@@ -54,8 +56,15 @@ static int is_made(const char *kind) {
 static int is_opened(void) {
     aecp_reply reply;
     if (is("feed")) return !aecp_coder_open(&options, &coder, &reply);
+    if (is("take")) {
+        if (aecp_coder_open(&options, &coder, &reply)) return 0;
+        if (aecp_coder_feed(&coder, samples, samples_len, &reply)) return 0;
+        return !aecp_coder_finish(&coder, &reply);
+    }
     if (is("next")) return !aecp_reader_open(&options, count, coded, coded_len, &reader, &reply);
-    return !is("asked") || !aecp_load(&options, AECP_ALL, coded, coded_len, &handle, &reply);
+    if (is("read") || is("write") || is("asked"))
+        return !aecp_load(&options, AECP_ALL, coded, coded_len, &handle, &reply);
+    return 1;
 }
 
 /* Reads all intervals. */
@@ -72,6 +81,15 @@ static uint32_t asked(aecp_reply *reply) {
     return !(aecp_bound(&options, count) && aecp_calls(&handle) && aecp_version() == AECP_VERSION);
 }
 
+/* Appends three samples. */
+static uint32_t edited(aecp_reply *reply) {
+    const char *script = "append 1 2 3\n";
+    aecp_edit_reply made;
+    aecp_edit(&options, count, script, strlen(script), coded, coded_len, back, room, &made);
+    *reply = made.reply;
+    return made.reply.fault;
+}
+
 /* Returns the middle of the samples asked for. */
 static uint32_t ranged(aecp_reply *reply) {
     uint64_t first = count / 2, len = count / 4;
@@ -83,10 +101,14 @@ static uint32_t made(aecp_reply *reply) {
     if (is("encode")) return aecp_encode(&options, samples, samples_len, back, room, reply);
     if (is("decode")) return aecp_decode(&options, count, coded, coded_len, back, room, reply);
     if (is("range")) return ranged(reply);
+    if (is("edit")) return edited(reply);
     if (is("feed")) return aecp_coder_feed(&coder, samples, samples_len, reply);
+    if (is("take")) return aecp_coder_take(&coder, back, room, reply);
     if (is("reader"))
         return aecp_reader_open(&options, count, coded, coded_len, &reader, reply);
     if (is("next")) return read_all(reply);
+    if (is("read")) return aecp_read(&handle, 0, count, numbers, count, reply);
+    if (is("write")) return aecp_write(&handle, back, room, reply);
     return is("asked") ? asked(reply) : 99;
 }
 

@@ -73,6 +73,26 @@ def of_range(call, lengths):
     return interval(call, 16 * KIB) + copied(call, lengths)
 
 
+def of_edit(call, lengths):
+    """The script of library_room.c has 13 bytes and three values."""
+    intervals = -(-(call.samples + 3) // call.settings.interval_len())
+    streams = 3 * max(lengths.code, lengths.result)
+    return streams + 2 * 13 + 3 * interval(call) + 16 * intervals + 16 * 3
+
+
+def of_take(call, lengths):
+    return lengths.result
+
+
+def of_read(call, lengths):
+    """A read from sample 0 on."""
+    return -(-lengths.result // call.settings.interval_len()) * interval(call)
+
+
+def of_write(call, lengths):
+    return lengths.code
+
+
 def of_reader(call, lengths):
     return lengths.code + interval(call)
 
@@ -89,6 +109,10 @@ SAID = {
     "decode": of_decode,
     "range": of_range,
     "reader": of_reader,
+    "take": of_take,
+    "edit": of_edit,
+    "read": of_read,
+    "write": of_write,
     "next": of_none,
     "asked": of_none,
 }
@@ -105,6 +129,10 @@ CALLS = [
     Call("range", "zeros", LONGEST, 4 * MIB, 4 * MIB),
     *(Call(name, "noise", WIDE, MIB, MIB) for name in ("encode", "feed", "range")),
     *(Call(name, "noise", LONG, 8 * MIB) for name in ("reader", "next")),
+    *(Call("decode", "zeros", settings, 4 * MIB) for settings in (SINGLE, LONG, LONGEST)),
+    Call("take", "noise", SHORT, 2 * MIB),
+    *(Call("edit", "noise", settings, 2 * MIB) for settings in (SHORT, LONGEST)),
+    *(Call(name, "noise", LONG, 2 * MIB, 10_000) for name in ("read", "write")),
     Call("asked", "noise", LONG, MIB, 1000),
 ]
 
