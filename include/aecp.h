@@ -102,7 +102,7 @@ uint32_t aecp_encode(const aecp_options *options, const void *samples, size_t sa
 /* Decodes the first `count` samples of a stream, or all with AECP_ALL. The result has 1, 2, 3 or 4 bytes for each sample; unused bits are
  * zeros, or with `is_signed` copies of the sign bit. Ignores bytes of the stream after these samples. Faults: options, TRUNCATED,
  * VALUE_TOO_LARGE, RUN_TOO_LONG, TOO_MANY_SAMPLES, STREAM_TOO_LONG, MEMORY, NO_ROOM. Allocates:
- * - for an interval: its stored bytes, and eight bytes for each sample (up to 32 KiB if that is more);
+ * - twelve bytes for each sample of an interval (up to 48 KiB if that is more);
  * - 64 KiB;
  * - a copy of the whole stream with AECP_ALL, else of its first aecp_bound(options, count) bytes, or of all if these don't decode;
  * - up to 16 MiB, if `block_size` times the bytes of a stored sample is at most 32.
@@ -128,7 +128,7 @@ typedef struct {
 /* Applies a script of edits, as docs/COMMAND.md describes it, to the first `count` samples of a stream, or to all with AECP_ALL, and writes
  * the edited stream to `out`. All lines apply, or none. Returns `reply->reply.fault`. Faults, in this order: options; SCRIPT; those of
  * aecp_decode except NO_ROOM; those of one edit, with its line: OUT_OF_RANGE, TOO_MANY_SAMPLES, SAMPLE_RANGE, SPENT, MEMORY; NO_ROOM.
- * Allocates at most the sum of: three times the longer of both streams; twice the script; eight bytes for each sample of three intervals;
+ * Allocates at most the sum of: five times the longer of both streams; twice the script; eight bytes for each sample of three intervals;
  * 16 bytes for each interval; 16 for each value of the longest line. Trap: keep `samples` with the edited stream. With AECP_ALL the filler
  * of the last block becomes samples. */
 uint32_t aecp_edit(const aecp_options *options, uint64_t count, const void *script, size_t script_len, const uint8_t *coded,
@@ -192,12 +192,13 @@ uint32_t aecp_overwrite(aecp_handle *handle, uint64_t first, const int64_t *valu
  * OUT_OF_RANGE. Allocates a copy of the values. Trap: `first` can't be greater than the number of samples. */
 uint32_t aecp_insert(aecp_handle *handle, uint64_t first, const int64_t *values, size_t values_len, aecp_reply *reply);
 
-/* Writes `len` samples, from sample `first` on, to `out`. Faults: OUT_OF_RANGE, MEMORY, NO_ROOM, NOT_OPEN. Allocates eight bytes for each
- * sample of the intervals that contain these samples. Trap: `out_len` and `reply->len` are numbers of samples, not of bytes. */
+/* Writes `len` samples, from sample `first` on, to `out`. Faults: OUT_OF_RANGE, MEMORY, NO_ROOM, NOT_OPEN. Allocates at most
+ * 24 bytes for each sample of the intervals that contain these samples. Trap: `out_len` and `reply->len` are numbers of samples, not of
+ * bytes. */
 uint32_t aecp_read(aecp_handle *handle, uint64_t first, uint64_t len, int64_t *out, size_t out_len, aecp_reply *reply);
 
-/* Writes the stream of all samples to `out`. aecp_decode needs the number of samples too. Faults: MEMORY, NO_ROOM, NOT_OPEN. Allocates the
- * code. Trap: keep the result of aecp_size with the stream. */
+/* Writes the stream of all samples to `out`. aecp_decode needs the number of samples too. Faults: MEMORY, NO_ROOM, NOT_OPEN. Allocates at
+ * most twice the code. Trap: keep the result of aecp_size with the stream. */
 uint32_t aecp_write(aecp_handle *handle, uint8_t *out, size_t out_len, aecp_reply *reply);
 
 /* aecp_size returns the number of samples. aecp_calls returns the number of intervals coded since the workspace was opened, also by edits
@@ -229,8 +230,8 @@ uint32_t aecp_coder_feed(aecp_coder *coder, const void *samples, size_t samples_
  * finish fails, the samples of the last interval are lost. */
 uint32_t aecp_coder_finish(aecp_coder *coder, aecp_reply *reply);
 
-/* Writes all coded bytes that weren't taken yet to `out`. Faults: MEMORY, NO_ROOM, NOT_OPEN. Allocates as much as it writes. Trap: don't
- * call it after a fault of feed, since the stream is incomplete. */
+/* Writes all coded bytes that weren't taken yet to `out`. Faults: MEMORY, NO_ROOM, NOT_OPEN. Allocates at most twice what it writes.
+ * Trap: don't call it after a fault of feed, since the stream is incomplete. */
 uint32_t aecp_coder_take(aecp_coder *coder, uint8_t *out, size_t out_len, aecp_reply *reply);
 
 /* Frees the coder. Does nothing if none is open. */

@@ -65,8 +65,7 @@ def of_encode(call, lengths):
 def of_decode(call, lengths):
     s = call.settings
     kept = 16 * MIB if s.block_size * s.storage() <= 32 else 0
-    stored = s.interval_len() * s.storage()
-    return stored + interval(call, 32 * KIB) + 64 * KIB + copied(call, lengths) + kept
+    return max(12 * s.interval_len(), 48 * KIB) + 64 * KIB + copied(call, lengths) + kept
 
 
 def of_range(call, lengths):
@@ -76,21 +75,21 @@ def of_range(call, lengths):
 def of_edit(call, lengths):
     """The script of library_room.c has 13 bytes and three values."""
     intervals = -(-(call.samples + 3) // call.settings.interval_len())
-    streams = 3 * max(lengths.code, lengths.result)
+    streams = 5 * max(lengths.code, lengths.result)
     return streams + 2 * 13 + 3 * interval(call) + 16 * intervals + 16 * 3
 
 
 def of_take(call, lengths):
-    return lengths.result
+    return 2 * lengths.result
 
 
 def of_read(call, lengths):
     """A read from sample 0 on."""
-    return -(-lengths.result // call.settings.interval_len()) * interval(call)
+    return -(-lengths.result // call.settings.interval_len()) * 3 * interval(call)
 
 
 def of_write(call, lengths):
-    return lengths.code
+    return 2 * lengths.code
 
 
 def of_reader(call, lengths):
