@@ -26,6 +26,8 @@ PAGES = {
     "shortest": ("aec_interval", "encode_all", ["ok", "shortest"], "No coded data sets for the same blocks are shorter"),
     "decode_all": ("aec_interval", "decode_all", [], "What coded bits are decoded to"),
 }
+# Pages that link to another page for the definitions that are there.
+BESIDE = {"shortest": "decode_edited", "decode_all": "decode_edited"}
 USE = re.compile(r"^\s*(?:pub )?(?:ghost )?use ([\w.]+)\.\{([^}]*)\}", re.M)
 RUST_USE = re.compile(r"^use (crate|aec_\w+)::(?:[\w:]+::)?(?:\{([^}]*)\}|(\w+));", re.M)
 DEFINITION = re.compile(r"(?:(?:abbrev|unfoldable|pub|data|record|def) )+(\S+)")
@@ -266,19 +268,37 @@ def counts_of(contract, cited):
     return f"{len(contract.lines)} lines of contract, {definitions}"
 
 
-def page_of(crate, name, clauses, title):
-    """Returns the page of a theorem, the counts of its lines, and the names of items without a sentence."""
-    found, words, library = {}, {}, Library()
+def gathered(library, crate, name, clauses, _title=None):
+    """Returns the contract of a theorem, what it cites, by key, and the words of the standard library."""
+    found, words = {}, {}
     contract = contract_of(crate, name, clauses)
     gather(library, contract, found, words)
-    cited = in_order(found)[:-1]
-    counts = counts_of(contract, cited)
+    return contract, found, words
+
+
+def places_of(beside, cited, others):
+    """Says where the definitions of a page are: those cited here, and others on the page `beside`."""
+    if not beside:
+        return "all on this page"
+    link = f"[{beside}]({beside}.md)"
+    return f"{len(cited)} definitions on this page and {others} on {link}"
+
+
+def page_of(crate, name, clauses, title, beside=None):
+    """Returns the page of a theorem, the counts of its lines, and the names of items without a sentence. Definitions that are on the page
+    `beside` are left out."""
+    library = Library()
+    contract, found, words = gathered(library, crate, name, clauses)
+    shown = gathered(library, *PAGES[beside])[1] if beside else {}
+    every = in_order(found)[:-1]
+    cited = [item for item in every if item.key() not in shown]
+    counts = counts_of(contract, every)
     what = listed([f"{crate}::{name}", *clauses])
     names = [f"`{new}` stands for `{true}`" for new, true in library.renamed([contract, *cited])]
     page = [
         f"# {title}",
-        f"{what}. What a reader must judge: {counts}, all on this page, and {sum(map(len, words.values()))} words of the standard "
-        "library, named at the end.",
+        f"{what}. What a reader must judge: {counts}, {places_of(beside, cited, len(every) - len(cited))}, and "
+        f"{sum(map(len, words.values()))} words of the standard library, named at the end.",
         "## The contract",
         *sections_of([contract]),
         "## What it cites\n\nEach definition follows those that it cites. Parentheses in a comment name the section of FORMAT.md (§), and "
@@ -298,7 +318,7 @@ def write_pages(is_check):
     os.makedirs(os.path.join(TOP, FOLDER), exist_ok=True)
     for file, theorem in PAGES.items():
         path = f"{FOLDER}/{file}.md"
-        page, counts, silent = page_of(*theorem)
+        page, counts, silent = page_of(*theorem, beside=BESIDE.get(file))
         wrongs += [f"{path}: {name} has no sentence" for name in silent]
         wrongs += write_or_compare(path, page, "make theorem", is_check)
         if not is_check:
