@@ -37,11 +37,10 @@ sizes:
 test:
 	sh tests/run.sh
 
-# Writes docs/PROOFS.md from the claims of the crates, after it has checked each name that they cite; docs/DEFINITIONS.md from the
-# sentences over the definitions; and the tables of modules in the README of each crate.
+# Writes docs/PROOFS.md from the claims of the crates, after it has checked each name that they cite, and the tables of modules in the
+# README of each crate.
 pages:
 	@python3 tools/pages.py
-	@python3 tools/definitions.py
 	@python3 tools/modules.py
 
 # Writes man/aec.1 from docs/COMMAND.md, and man/aecp.1 from docs/ARCHIVE.md.

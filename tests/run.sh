@@ -56,7 +56,7 @@ explain() {
 }
 
 part pages python3 tools/pages.py --check
-part definitions python3 tools/definitions.py --check
+part definitions python3 tests/definitions.py
 part modules python3 tools/modules.py --check
 part theorems python3 tools/theorem.py --check
 part man python3 tools/man.py --check
