@@ -4,8 +4,8 @@
 FOLDER contains libaecp.a and libaecp.so. Tests in turn, by C programs (library_*.c) and by the Python module without numpy,
   - worked values, refused options with their number, and the other refusals with their place;
   - buffers of every length around the needed one: nothing changes after the result, and nothing at all if there is no result;
-  - each growth refused, with all later ones or alone: the call fails for lack of memory and changes nothing, or goes on without the
-    one growth; it frees each block that it allocated;
+  - each growth refused, with all later ones or alone: the call fails for lack of memory, changes nothing, and frees each block that it
+    allocated;
   - the least stack of a thread for each call, which aecp.h names (library_memory.py);
   - how many bytes a call allocates at once, of which aecp.h names the most (library_room.py);
   - eight threads at once; NULL for a buffer of no bytes; a run under valgrind, if it is installed, which must lose no memory;

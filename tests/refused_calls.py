@@ -11,7 +11,7 @@ print the file stdout of the crate aec_memory_tests. Each other run must print t
   - In a run of edits, the refused growth of an edit is the outcome of that edit, and the other edits are made.
   - A run of the program ends with status 1 and one line, and makes no DEST.
 
-Each refused growth makes its call fail.
+No call goes on without a growth.
 
 The command `cc` builds the preloaded library. Without `cc` nothing is tested, which is a failure if CI is set. Prints a table, the
 checks that fail and, last, how many passed. Ends with status 1 if one failed.

@@ -4,8 +4,8 @@
 Runs the program at PATH_OF_AEC with a small library loaded before the C library, which refuses growths (calls of malloc, calloc and
 realloc): the k-th and all later ones, and the k-th alone, for each k until a run meets no refusal. That run must write the right bytes.
 A refused run must end with status 1 and the one line for lack of memory on standard error, and must leave DEST as it was, or absent.
-Only without the list of the process's words, if it alone is refused, may a run go on, and must then write the right bytes too: the kit
-then builds the list step by step.
+One exception: if only the growth for the list of the process's words is refused, the run may succeed, and must then write the right
+bytes: the kit builds the list step by step.
 
 Without the library and with little memory, the program also decodes a short stream of very many samples, cuts it to a range and edits
 it; and it edits a stream by a script of a million lines, with four times the script's bytes and 16 MiB.

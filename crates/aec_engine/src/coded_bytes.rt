@@ -17,8 +17,8 @@ use std::alloc::Global;
 /// it is made.
 const MAX_SHORT_INPUT_BYTES: usize = 65536;
 
-/// Returns for how many bits of code room is made before `len` bytes of samples are coded, at most
-/// `MAX_SHORT_INPUT_BYTES` of them: code seldom takes more than nine bits a byte.
+/// Returns how many bits to reserve for the code of `len` bytes of samples: nine for each byte, of
+/// which it counts at most `MAX_SHORT_INPUT_BYTES`, and 64. Code seldom takes more.
 fn first_bits(len: usize) -> u64
     ensures short { result ≤ 9 * len + 64 }
     ensures long { result ≤ 9 * 65536 + 64 }

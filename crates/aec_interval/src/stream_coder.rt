@@ -18,9 +18,9 @@ use std::marker::Model;
 /// interval has, and fewer bytes than a sample has. After a refusal each call returns the same
 /// refusal.
 ///
-/// `feed` takes up to 4,096 samples of a piece at once, or one longer interval, and codes them
-/// before it returns. The list that they are taken into keeps its length: places after the held
-/// samples contain samples that were coded before, which nothing reads again.
+/// `feed` takes up to 4,096 samples of a piece at once, or one longer interval, and codes the whole
+/// intervals among them before it returns. The list that they are taken into keeps its length: its
+/// places after the held samples still contain samples that were coded. Nothing reads these again.
 #[derive(Debug, Drop)]
 pub struct StreamCoder {
     terms: Terms,

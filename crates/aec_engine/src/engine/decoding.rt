@@ -1,8 +1,9 @@
 //! Decodes coded data: the bytes of the first samples are kept while the bits are judged, so that
 //! only the later bits are read twice.
 
-ghost use Rattle.std.specs.Prelude.{◌≡◌, ◌*◌, ◌<◌, ◌≤◌, ◌^◌, max, length, vec_len, vec_capacity, IfOk, IfErr, OnOk};
-ghost use Rattle.aec_params.specs.Params.{storage_len};
+ghost use Rattle.std.specs.Prelude.{◌≡◌, ◌+◌, ◌*◌, ◌<◌, ◌≤◌, ◌^◌, max, length, vec_len, vec_capacity, IfOk, IfErr, OnOk};
+ghost use Rattle.aec_params.specs.Params.{IsAllowed, interval_len, storage_len};
+ghost use Rattle.aec_params.specs.declared.fault.Fault.TheVariants.{Memory};
 ghost use Rattle.aec_interval.specs.Reached.{RefusesReading};
 ghost use Rattle.aec_interval.specs.Pieces.{place_at};
 ghost use Rattle.aec_engine.specs.Transfers.{are_past, Taking, taking_of, Putting, putting_of, Leaves};
@@ -26,13 +27,14 @@ const MAX_KEPT_BYTES: u64 = 1 << 24;
 /// longer block twice takes less time than filling fresh memory.
 const MAX_SHORT_BLOCK_BYTES: usize = 32;
 
-/// An answer of fewer samples needs only room for them.
+/// A first reading with room for fewer samples returns all samples that the caller asks for.
 const FEW_PLACES: usize = 4096;
 
 /// Returns for how many bytes room is made before decoding, besides those of an interval: for the
-/// `WAITING_BYTES` of every decoding, or in short blocks for two bytes a bit, at most
-/// `MAX_KEPT_BYTES`. So a short stream takes little memory, however many samples it codes.
-pub(crate) fn kept_room(params: &Params, bits: &BitBuf) -> usize
+/// `WAITING_BYTES` of every decoding, or, if blocks are short, for two bytes for each bit of the
+/// stream, if that is more, but at most `MAX_KEPT_BYTES`. So a short stream takes little memory,
+/// however many samples it codes.
+fn kept_room(params: &Params, bits: &BitBuf) -> usize
     ensures piece { 65536 ≤ result }
     ensures most { result ≤ 2 ^ 24 }
     ensures few { result ≤ max 65536 (2 * length bits.now.list) }
@@ -45,16 +47,37 @@ pub(crate) fn kept_room(params: &Params, bits: &BitBuf) -> usize
 }
 
 /// Returns for how many bytes room is made before decoding into a buffer, besides those of an
-/// interval: `kept_room`, but no more than for the bytes of `places` samples if these are few. So
-/// a short answer takes little memory.
+/// interval: `kept_room`, but if the first reading has room for fewer than `FEW_PLACES` samples,
+/// only the bytes of so many. So a short answer takes little memory.
 pub(crate) fn room_to_keep(params: &Params, bits: &BitBuf, places: usize) -> usize
     ensures most { result ≤ 2 ^ 24 }
     ensures short { places < 4096 → result ≤ 4 * places }
+    ensures few { result ≤ max 65536 (2 * length bits.now.list) }
+    ensures long { 32 < storage_len params.now * params.now.block_size → result ≤ 65536 }
 {
     if places < FEW_PLACES {
         return 4 * places;
     }
     kept_room(params, bits)
+}
+
+/// Returns room for the samples that are read at once, and for the bytes that decoding keeps: those
+/// of an interval and `kept_room` more.
+fn decoding_buffers(
+    alloc: Global,
+    params: &Params,
+    bits: &BitBuf,
+) -> Result<(Vec<i64>, Vec<u8>), Fault>
+    ensures allowed { IsAllowed params.now }
+    ensures room { IfOk result (λ made. interval_len params.now ≤ vec_capacity made.0) }
+    ensures empty { IfOk result (λ made. vec_len made.1 ≡ 0) }
+    ensures buffer { IfOk result
+        (λ made. 65536 + 4 * interval_len params.now ≤ vec_capacity made.1) }
+    ensures few { IfOk result (λ made. vec_capacity made.1
+        ≤ max 65536 (2 * length bits.now.list) + 4 * interval_len params.now) }
+    ensures fault { IfErr result (λ e. e ≡ Memory) }
+{
+    buffers(alloc, params, kept_room(params, bits))
 }
 
 /// Reads on after `before` samples whose bytes are kept, and keeps the bytes of the next samples as
@@ -93,8 +116,8 @@ pub(crate) fn keep_more(
 
 /// Reads the source whole, and writes the bytes of the samples that it codes: the first `count`, or
 /// all without a count. The refusals in their order: `Read`, `StreamTooLong` and `Memory` as they
-/// are met while the source is read; those of `decode_all`; `Memory`, for the room that the second
-/// reading takes. That `Memory` comes last is no part of the contract. On these refusals nothing is
+/// are met while the source is read; those of `decode_all`; `Memory`, for the room that both
+/// readings take. That `Memory` comes last is no part of the contract. On these refusals nothing is
 /// written and `begin` isn't called. After `begin` it fails only with `Write`, with a prefix of the
 /// bytes written.
 ///
@@ -117,7 +140,7 @@ pub fn decode<R: Source, W: Sink>(
 {
     let bits = read_bits(alloc, source, limits.bytes())?;
     let mut reader = StreamReader::new(alloc, *params, &bits, count, limits.samples())?;
-    let (mut samples, mut bytes) = match buffers(alloc, params, kept_room(params, &bits)) {
+    let (mut samples, mut bytes) = match decoding_buffers(alloc, params, &bits) {
         Ok(made) => made,
         Err(fault) => {
             judge_all(params, &mut reader)?;

@@ -244,8 +244,8 @@ fn first_bytes(
     Ok(bytes)
 }
 
-/// Makes room for the samples of an interval if `left` samples have to be read again. The samples
-/// that are there go, so that they take no room beside it.
+/// If `left` isn't 0, empties `samples` and makes room in it for an interval: not for twice that,
+/// since nothing else is in it.
 fn room_for_rest(params: &Params, left: u64, samples: &mut Vec<i64>) -> Result<(), Fault>
     ensures room { OnOk result (0 < left → interval_len params.now ≤ vec_capacity samples.new) }
     ensures fault { IfErr result (λ e. e ≡ Memory) }
@@ -325,8 +325,9 @@ fn decode_bits_into(
 ///
 /// Allocates room for the coded bytes, and for an interval of samples, or more but at most 4,096.
 /// Unless a count is given and the first reading returns all samples, it also allocates room for
-/// the bytes of an interval and 64 KiB, or with short blocks up to 16 MiB, which are kept while the
-/// coded bytes are judged. The samples after the kept bytes are read twice.
+/// the bytes that are kept while the coded bytes are judged: four bytes for each sample of an
+/// interval, and 64 KiB, or with short blocks up to 16 MiB (with a count below 4,096, only four
+/// bytes for each sample asked for). The samples after the kept bytes are read twice.
 pub fn decode_into(
     alloc: Global,
     params: &Params,

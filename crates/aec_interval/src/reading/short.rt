@@ -337,7 +337,8 @@ fn intervals_at_once(params: &Params, wanted: Wanted, most: u64, capacity: usize
 }
 
 /// Returns how many places are made after `last` samples were read: at most twice as many, or
-/// `MIN_PLACES` if that is more, since `resize` zeroes the places that it adds. At first all.
+/// `MIN_PLACES` if that is more, since `resize` zeroes the places that it adds. If `last` is 0,
+/// returns `capacity`, but at most twice `MAX_SAMPLES_AT_ONCE`.
 fn places_at_once(last: usize, capacity: usize) -> usize
     ensures there { result ≤ capacity }
     ensures few { 0 < last → result ≤ max 64 (2 * last) }

@@ -106,8 +106,9 @@ fn refusal(terms: &Terms, count: u64, taken: usize) -> Fault
     }
 }
 
-/// Returns how many samples are taken at once, if an interval has no more: twice as many as there
-/// are places for, since new places are cleared before they are first filled.
+/// Returns how many samples are taken at once unless an interval is longer: twice as many as there
+/// are places for, but 256 to 4,096. New places are cleared before they are first filled, so a
+/// short call makes few.
 fn samples_at_once(places: usize) -> usize
     ensures some { 256 ≤ result }
     ensures few { result ≤ 4096 }
@@ -119,7 +120,7 @@ fn samples_at_once(places: usize) -> usize
 
 /// Returns how many of `samples` samples are taken next. If they fill at most the interval that is
 /// begun or comes next, returns all of them. Else, if an interval is begun, returns how many it
-/// lacks; if none is, returns the samples of whole intervals: about `at_once`, but at least one
+/// lacks; if none is, returns the samples of whole intervals: at most `at_once`, but at least one
 /// interval.
 fn part_samples(interval: usize, held: usize, samples: usize, at_once: usize) -> usize
     requires few { held < interval }

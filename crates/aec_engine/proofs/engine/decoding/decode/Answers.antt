@@ -74,6 +74,6 @@ returns g c =
     leaves_decoded c.args.params.now c.args.limits c.args.count _ _ _ _ _ c.in_ok-bits.bits.list _ _ c.bytes.ensures.value
     c.samples.ensures.value c.in_ok-bits.ensures.ok
     (settles_kept c.args.params.now c.args.count _ _ c.in_ok-reader.reader c.keep_more.new.reader c.judge_from.new.reader c.in_ok-kept.kept
-    c.in_ok-judged.judged.total c.saturating_sub.result c.keep_more.new.bytes.items _ c.deliver_range.result c.buffers.ensures.allowed
+    c.in_ok-judged.judged.total c.saturating_sub.result c.keep_more.new.bytes.items _ c.deliver_range.result c.decoding_buffers.ensures.allowed
     c.in_ok-reader.ensures.ok c.in_ok-reader.ensures.refuses c.in_ok-kept.ensures.same c.in_ok-judged.ensures.same c.in_ok-kept.ensures.kept
     c.in_ok-judged.ensures.ok c.saturating_sub.ensures c.deliver_range.ensures.delivers)
