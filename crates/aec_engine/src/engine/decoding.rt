@@ -26,7 +26,7 @@ const MAX_KEPT_BYTES: u64 = 1 << 24;
 /// longer block twice takes less time than filling fresh memory.
 const MAX_SHORT_BLOCK_BYTES: usize = 32;
 
-/// An answer of fewer samples needs only room for them.
+/// A result of fewer samples needs only room for them.
 const FEW_PLACES: usize = 4096;
 
 /// Returns for how many bytes room is made before decoding, besides those of an interval: for the
@@ -45,8 +45,8 @@ pub(crate) fn kept_room(params: &Params, bits: &BitBuf) -> usize
 }
 
 /// Returns for how many bytes room is made before decoding into a buffer, besides those of an
-/// interval: `kept_room`, but no more than for the bytes of `places` samples if these are few. So
-/// a short answer takes little memory.
+/// interval: `kept_room`, but no more than for the bytes of `places` samples if these are few. So a
+/// short result takes little memory.
 pub(crate) fn room_to_keep(params: &Params, bits: &BitBuf, places: usize) -> usize
     ensures most { result ≤ 2 ^ 24 }
     ensures short { places < 4096 → result ≤ 4 * places }
