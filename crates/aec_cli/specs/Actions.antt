@@ -1,5 +1,5 @@
--- For proofs alone: no public contract cites this file. The results of a run of the program, action
--- by action.
+-- For proofs alone: no public contract cites this file.
+-- The results of a run of the program, action by action.
 use Rattle.std.specs.Prelude.{ℕ, ◌^◌, Bool, Result, List}
 use Rattle.aec_params.specs.declared.settings.Settings.{Settings}
 use Rattle.aec_params.specs.declared.fault.Fault.{Fault}

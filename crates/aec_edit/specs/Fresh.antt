@@ -1,6 +1,6 @@
--- For proofs alone: no public contract cites this file. Fresh samples that are taken one interval
--- at a time. The contract of `apply` cites `samples_after`, `needed_calls` and `opened_intervals`
--- instead.
+-- For proofs alone: no public contract cites this file.
+-- Fresh samples that are taken one interval at a time. The contract of `apply` cites
+-- `samples_after`, `needed_calls` and `opened_intervals` instead.
 use Rattle.std.specs.Prelude.{◌≡◌, ℕ, ◌+◌, ◌*◌, ◌≤◌, ◌⊎◌, List, ◌++◌, length, take, drop, ℤ}
 
 -- the samples s of the intervals of n from number next up to number end

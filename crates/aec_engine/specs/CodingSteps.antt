@@ -1,5 +1,5 @@
--- For proofs alone: no public contract cites this file. What feeding a source to a coder results
--- in, step by step.
+-- For proofs alone: no public contract cites this file.
+-- What feeding a source to a coder results in, step by step.
 use Rattle.std.specs.Prelude.{◌≡◌, ℕ, ◌+◌, ◌-◌, ◌*◌, Bool, false, Option, Some, List, [], length}
 use Rattle.std.specs.Io.KnownBytes.{Consumes}
 use Rattle.aec_params.specs.declared.settings.Settings.{Settings}

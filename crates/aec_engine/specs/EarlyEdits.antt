@@ -1,5 +1,5 @@
--- For proofs alone: no public contract cites this file. Edits of a script that are applied before
--- all samples are loaded.
+-- For proofs alone: no public contract cites this file.
+-- Edits of a script that are applied before all samples are loaded.
 use Rattle.std.specs.Prelude.{◌≡◌, ℕ, ◌+◌, ◌^◌, ◌≤◌, ◌⊎◌, Bool, Option, None, Result, Ok, Err, ℤ, List, [], ◌++◌, length}
 use Rattle.aec_params.specs.declared.settings.Settings.{Settings}
 use Rattle.aec_params.specs.declared.fault.Fault.{Fault}

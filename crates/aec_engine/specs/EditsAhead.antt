@@ -1,5 +1,5 @@
--- For proofs alone: no public contract cites this file. What is left of a script whose lines are
--- read again when their edits are applied.
+-- For proofs alone: no public contract cites this file.
+-- What is left of a script whose lines are read again when their edits are applied.
 use Rattle.std.specs.Prelude.{◌≡◌, ℕ, ◌+◌, ◌-◌, ◌^◌, ◌≤◌, ◌⊎◌, Option, Some, None, option_map, MatchOption, ⊤, [], length, drop}
 use Rattle.aec_edit.specs.Early.{IsInside}
 use Rattle.aec_engine.specs.declared.script_edits.NextEdit.{NextEdit}

@@ -1,6 +1,6 @@
--- For proofs alone: no public contract cites this file. What the private functions of `reading`
--- compute: what a coded data set that was read decodes to after other blocks. The contract of
--- `decode_all` cites `IsReading` and `IsFault` instead.
+-- For proofs alone: no public contract cites this file.
+-- What the private functions of `reading` compute: what a coded data set that was read decodes to
+-- after other blocks. The contract of `decode_all` cites `IsReading` and `IsFault` instead.
 use Rattle.std.specs.Prelude.{ℕ, ◌+◌, ◌-◌, ◌%◌, ◌≤◌, min, nat_lt, if◌then◌else◌, Option, Some, None, Result, Ok, Err, ℤ, List, [], ◌∷◌}
 use Rattle.std.specs.Int.{div_ceil}
 use Rattle.aec_params.specs.declared.settings.Settings.{Settings}
