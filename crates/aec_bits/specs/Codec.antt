@@ -1,4 +1,4 @@
--- What a codec of intervals stands for, and the code of a whole list of samples.
+-- What a contract sees of a codec of intervals, and the code of a whole list of samples.
 use Rattle.std.specs.Prelude.{◌≡◌, ℕ, ◌≤◌, Bool, true, List, ◌++◌, length, drop, ℤ}
 use Rattle.std.specs.Int.{w64}
 use Rattle.std.specs.Int.RustNames.{FitsSigned}

@@ -50,7 +50,7 @@ impl<'a> BitReader<'a> {
         ensures within { self.now.pos ≤ length self.now.list }
         ensures bound { length self.now.list ≤ 2 ^ 62 }
     {
-        // For the clauses alone: the list is within its bound.
+        // The clauses rely on this call: it says that the list is within its bound.
         let _len = self.buf.len();
         self.pos
     }
@@ -104,7 +104,7 @@ impl<'a> BitReader<'a> {
         }
     }
 
-    /// Puts the numbers of the next fundamental sequences into `numbers`, if each is below 64, and
+    /// Fills `numbers` with the numbers of the next fundamental sequences, if each is below 64, and
     /// moves past them. Returns false if at one of them the next 64 bits, or those that are left,
     /// have no 1; `read_fs` may still read it. The reader then hasn't moved, and the contents of
     /// `numbers` are unspecified.

@@ -15,9 +15,9 @@ pub trait Source {
     /// 1 if the source has failed, else 0.
     ghost failed: { Self → ℕ };
 
-    /// Puts the next bytes at the front of `buf`. Returns their number, which is 0 only at the end
-    /// or for an empty `buf`. Fails with `Read` if the source fails or has failed before; nothing
-    /// is then taken.
+    /// Writes the next bytes to the front of `buf`. Returns their number, which is 0 only at the
+    /// end or for an empty `buf`. Fails with `Read` if the source fails or has failed before;
+    /// nothing is then taken.
     fn take(&mut self, buf: &mut [u8]) -> Result<usize, Fault>
         ensures bound { IfOk result (λ k. k ≤ length buf.new) }
         ensures bytes { ReadConsumes (left self.old) (left self.new) result buf.new }

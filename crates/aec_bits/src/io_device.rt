@@ -111,8 +111,8 @@ impl<W: Write> Sink for WriteSink<W> {
 
     ghost begun = { λ s. s.begins };
 
-    // Beyond the clauses of `Sink`: it fails only if the sink has failed, and what the writer holds
-    // stays, known or not.
+    // The clauses of this call say more than those of `Sink`: the call fails only if the sink has
+    // failed, and what the writer holds stays the same, known or not.
     fn begin(&mut self) -> Result<(), Fault>
         ensures bytes { Keeps (⟦<WriteSink<W> as Sink>⟧.taken self.old)
             (⟦<WriteSink<W> as Sink>⟧.taken self.new) }

@@ -50,8 +50,8 @@ impl BitBuf {
     }
 }
 
-/// Puts the bytes from byte `first` on into a piece, until it is full or none are left. Returns
-/// their number.
+/// Writes the bytes from byte `first` on to a piece, until it is full or none are left. Returns how
+/// many bytes it wrote.
 fn fill(buf: &BitBuf, first: u64, piece: &mut [u8]) -> usize
     requires within { first ≤ length (bytes_of buf.now.list) }
     requires eights { first % 8 ≡ 0 }

@@ -32,12 +32,12 @@ abbrev pub NoSetIsAPrefix : Type 0
 NoSetIsAPrefix = (s : Settings) → IsAllowed s → (is_reference : Bool) (c d : CodedDataSet) (x y : List Bool)
     → HasShape s is_reference c → HasShape s is_reference d → cds_bits s c ++ x ≡ cds_bits s d ++ y → (c ≡ d) × (x ≡ y)
 
--- at most one coded data set of a reference block, and at most one of another, stands at a position
+-- at most one coded data set of a reference block, and at most one of another, begins at a position
 abbrev pub OneSetStands : Type 0
 OneSetStands = (s : Settings) → IsAllowed s → (is_reference : Bool) (bits : List Bool) (b : ℕ) (c d : CodedDataSet)
     → IsSetAt s is_reference bits b c → IsSetAt s is_reference bits b d → c ≡ d
 
--- the block that a coded data set of a single option stands for: for pairs in a reference block,
+-- the block that a coded data set of a single option decodes to: for pairs in a reference block,
 -- whatever the first member is; none for a run of zero blocks
 abbrev pub single_block_of : Option ℕ → Body → Option Block
 single_block_of reference (uncompressed_values values) = Some (block_of_values reference values)
@@ -45,7 +45,7 @@ single_block_of reference (value_pairs members) = Some (block_of_members referen
 single_block_of reference (split_values k values) = Some (block_of_values reference values)
 single_block_of reference (zero_blocks m) = None
 
--- no coded data set that stands for a block by a single option has fewer bits than the block's
+-- no coded data set that decodes to a block by a single option has fewer bits than the block's
 -- shortest spelling
 abbrev pub NoOptionIsShorter : Type 0
 NoOptionIsShorter = (s : Settings) → IsAllowed s → (is_reference : Bool) (c : CodedDataSet) (b : Block)

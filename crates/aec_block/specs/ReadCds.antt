@@ -1,4 +1,4 @@
--- What reading a coded data set returns: what the one that begins at the position stands for.
+-- What reading a coded data set returns: what the one that begins at the position decodes to.
 use Rattle.std.specs.Prelude.{◌≡◌, ℕ, ◌+◌, ◌<◌, Bool, true, false, Option, Some, None, List, length, ⊤}
 use Rattle.aec_params.specs.declared.settings.Settings.{Settings}
 use Rattle.aec_params.specs.Params.{id_len}
@@ -27,23 +27,23 @@ as_run_len (Some z) = Blocks z
 abbrev pub run_len_of : ℕ → RunLen
 run_len_of m = as_run_len (told_blocks m)
 
--- what a coded data set stands for (as in `block_of_values` and `block_of_members`)
+-- what a coded data set decodes to (as in `block_of_values` and `block_of_members`)
 abbrev pub answer_of : Option ℕ → Body → Cds
 answer_of reference (uncompressed_values values) = Single (block_of_values reference values)
 answer_of reference (value_pairs members) = Single (block_of_members reference members)
 answer_of reference (split_values k values) = Single (block_of_values reference values)
 answer_of reference (zero_blocks m) = Zeros reference (run_len_of m)
 
--- what a coded data set stands for, as one value
+-- what a coded data set decodes to, as one value
 abbrev pub cds_of : CodedDataSet → Cds
 cds_of c = answer_of c.reference c.body
 
--- what it stands for, if its values are at most 2^n - 1 (as the code judges it; the clauses of
+-- what it decodes to, if its values are at most 2^n - 1 (as the code judges it; the clauses of
 -- `read_cds` prove that this is the format's reading)
 abbrev pub checked : Settings → CodedDataSet → Option Cds
 checked s c = when (has_small_values s c) (cds_of c)
 
--- what a reference and a body stand for, if the values are at most 2^n - 1
+-- what a reference and a body decode to, if the values are at most 2^n - 1
 abbrev pub checked_body : Settings → Option ℕ → Body → Option Cds
 checked_body s reference body = checked s (set_of reference body)
 
@@ -107,8 +107,8 @@ abbrev pub HasNoRun : Settings → Bool → List Bool → Type 0
 HasNoRun s is_reference bits = (c : CodedDataSet) (rest : List Bool) → cds_at s is_reference bits ≡ taken c rest
     → is_run_body c.body ≡ false
 
--- the coded data set c, whose values are at most 2^n - 1, is read as what it stands for, and the
--- cursor moves past it (says that such a set stands there; the code takes many codewords from a
+-- the coded data set c, whose values are at most 2^n - 1, is read as what it decodes to, and the
+-- cursor moves past it (says that such a set begins there; the code takes many codewords from a
 -- word of 64 bits)
 pub record IsReadAs (s : Settings) (is_reference : Bool) (old new : Cursor) (c : CodedDataSet)
     (cds : Cds) : Type 0 where

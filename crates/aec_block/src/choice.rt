@@ -103,8 +103,8 @@ fn shorter_of_split(
     shorter_of(best, Coding::Split(split.k), u64::from(head) + split.bits)
 }
 
-/// Returns the shortest option for a block whose values after the reference place are given too, so
-/// that their number can be known where this is inlined.
+/// Returns the shortest option for a block. `values` are its values after the reference place. They
+/// are passed so that the compiler can know their number where this is inlined.
 #[inline(always)]
 pub(crate) fn choose_among(params: &Params, id_len: u32, block: &BlockRef, values: &[u32]) -> Choice
     requires { IsPrepared params.now id_len block.now values.now }

@@ -22,7 +22,7 @@ pub fn no_set_is_a_prefix()
     ensures { NoSetIsAPrefix }
 {}
 
-/// At most one coded data set of a reference block, and at most one of another, stands at a
+/// At most one coded data set of a reference block, and at most one of another, begins at a
 /// position.
 pub fn one_set_stands()
     ensures { OneSetStands }

@@ -93,7 +93,7 @@ pub(crate) fn read_reference(
     Ok(Some(pattern))
 }
 
-/// Returns how many zero blocks the number of a run's code stands for; 4 is the remainder code.
+/// Returns how many zero blocks the number of a run's code means; 4 is the remainder code.
 fn run_len_of(number: u64) -> RunLen
     ensures { result ≡ run_len_of number }
 {
@@ -161,7 +161,7 @@ fn read_set(
 }
 
 /// Reads the one coded data set that begins at the reader's place, of a block with a reference
-/// sample or of another, and moves past it. If it stands for one block, `block` then contains that
+/// sample or of another, and moves past it. If it decodes to one block, `block` then contains that
 /// block, whatever it contained before. Fails with `Truncated` if none begins there, with
 /// `ValueTooLarge` if a value of it is above the greatest of the width. Both faults name the
 /// reader's place, and the reader hasn't moved. After a run or a refusal the contents of `block`

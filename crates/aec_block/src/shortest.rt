@@ -51,10 +51,10 @@ fn write_with_reference<const N: usize>(
     write_values::<N, WITH_REFERENCE>(params, id_len, &block, after, choice, out)
 }
 
-/// Appends the shortest coded data set of the block of a reference, if there is one, and of `N`
-/// values with the one in the reference place. Compiled for that number; appends what `write_block`
-/// appends by the option of `choose`. Fails with `Memory` if an allocation fails, never if there is
-/// room for the coded data set; nothing is then changed.
+/// Appends the shortest coded data set of a block of `N` values, of which the first is 0 if there
+/// is a reference. Compiled for `N`; appends the same bits as `write_block` by the option that
+/// `choose` returns. Fails with `Memory` if an allocation fails, never if there is room for the
+/// coded data set; nothing is then changed.
 #[inline(always)]
 pub fn write_shortest_of<const N: usize>(
     params: &Params,

@@ -21,7 +21,7 @@ use crate::skipping::skipped_values::{skip_split, skip_uncompressed};
 use aec_bits::BitReader;
 use aec_params::{Fault, Params};
 
-/// Returns how many blocks a coded data set that was read stands for, if its values fit.
+/// Returns how many blocks a coded data set that was read decodes to, if its values fit.
 fn len_read(found: Option<Found>) -> Option<RunLen>
     ensures { (values : Values) → result ≡ option_map read_len (as_read found values) }
 {
@@ -35,9 +35,9 @@ fn one_block(fit: bool) -> Option<RunLen>
     if fit { Some(RunLen::Blocks(1)) } else { None }
 }
 
-/// Moves past what follows the identifier and the reference sample. Returns how many blocks it
-/// stands for; `None` if a value is above the greatest that the width has. Pairs, and values that
-/// are split at a bit above the width, are read into the block `values`.
+/// Moves past what follows the identifier and the reference sample. Returns how many blocks these
+/// bits decode to; `None` if a value is above the greatest that the width has. Pairs, and values
+/// that are split at a bit above the width, are read into the block `values`.
 fn skip_body(
     params: &Params,
     reader: &mut BitReader,
@@ -64,7 +64,7 @@ fn skip_body(
     }
 }
 
-/// Moves past one coded data set. Returns how many blocks it stands for; `None` if a value is above
+/// Moves past one coded data set. Returns how many blocks it decodes to; `None` if a value is above
 /// the greatest that the width has.
 fn skip_set(
     params: &Params,
@@ -85,7 +85,7 @@ fn skip_set(
 
 /// Moves past the one coded data set that begins at the reader's place. It may be read into the
 /// block `values`, whose contents are then unspecified. Returns how many blocks the coded data set
-/// stands for: one, those of its run, or all that the segment has left. Fails as `read_into` does;
+/// decodes to: one, those of its run, or all that the segment has left. Fails as `read_into` does;
 /// the reader then hasn't moved. Never fails with `Memory`.
 pub fn skip_cds(
     params: &Params,

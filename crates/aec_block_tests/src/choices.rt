@@ -296,7 +296,7 @@ fn plain_choice(params: &Params, block: &Block) -> (Coding, u128) {
     best
 }
 
-/// Checks that the bits are one coded data set, and that it is read as the block.
+/// Checks that the bits are one coded data set, and that it decodes to the block.
 fn expect_block(
     rt: &impl Abort,
     alloc: Global,

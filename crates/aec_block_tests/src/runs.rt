@@ -72,7 +72,7 @@ fn run_len(
     Ok(out.len())
 }
 
-/// Checks that no run has more bits than two runs that stand for the same zero blocks.
+/// Checks that no run has more bits than two runs that decode to the same zero blocks.
 fn expect_no_shorter_splits(
     rt: &impl Abort,
     alloc: Global,

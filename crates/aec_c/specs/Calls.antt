@@ -1,4 +1,4 @@
--- The answers of the calls from C: bytes, or one refusal. `include/aecp.h` has the sentences.
+-- The results of the calls from C: bytes, or one refusal. `include/aecp.h` has the sentences.
 use Rattle.std.specs.Prelude.{◌≡◌, ℕ, ◌-◌, ◌^◌, ◌⊎◌, ◌==◌, if◌then◌else◌, false, Option, Some, None, Result, Ok, Err, List}
 use Rattle.aec_params.specs.declared.settings.Settings.{Settings}
 use Rattle.aec_params.specs.declared.fault.Fault.{Fault}
@@ -37,7 +37,7 @@ CannotBegin s fault = (settings_fault s ≡ Some fault) ⊎ (IsAllowed s × (fau
 abbrev pub count_of : ℕ → Option ℕ
 count_of n = if n == 2 ^ 64 - 1 then None else Some n
 
--- the answer of coding stored samples (the refusal of the options, else what `encode_bytes`
+-- the result of coding stored samples (the refusal of the options, else what `encode_bytes`
 -- promises, or `Memory`)
 pub data IsCoding (s : Settings) (samples : List ℕ) : Result (List ℕ) Fault → Type 0 where
   coded : (bytes : List ℕ) → IsAllowed s → IsCodeOf s most.samples samples bytes → IsCoding s samples (Ok bytes)
@@ -47,7 +47,7 @@ pub data IsCoding (s : Settings) (samples : List ℕ) : Result (List ℕ) Fault 
       → IsCoding s samples (Err fault)
   lacks_memory : IsAllowed s → IsCoding s samples (Err Memory)
 
--- the answer of decoding coded bytes (the refusal of the options, else what `decode_into` promises,
+-- the result of decoding coded bytes (the refusal of the options, else what `decode_into` promises,
 -- or `Memory`)
 pub data IsDecoding (s : Settings) (count : Option ℕ) (coded : List ℕ) : Result (List ℕ) Fault → Type 0 where
   decoded : (samples : List ℕ) → IsAllowed s → IsStoredReadingOf s most count coded samples
@@ -57,7 +57,7 @@ pub data IsDecoding (s : Settings) (count : Option ℕ) (coded : List ℕ) : Res
       → IsDecoding s count coded (Err fault)
   no_memory : IsAllowed s → IsDecoding s count coded (Err Memory)
 
--- the answer of cutting out a range of coded bytes (the refusal of the options, else what
+-- the result of cutting out a range of coded bytes (the refusal of the options, else what
 -- `range_into` promises, or `Memory`)
 pub data IsRanging (s : Settings) (count : Option ℕ) (first len : ℕ) (coded : List ℕ) : Result (List ℕ) Fault
     → Type 0 where

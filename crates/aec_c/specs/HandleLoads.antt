@@ -16,11 +16,11 @@ use Rattle.aec_c.specs.declared.reply.Reply.{Reply}
 use Rattle.aec_c.specs.Replies.{done, refused_for}
 use Rattle.aec_c.specs.HandleCalls.{format_of}
 
--- bytes are read as samples, of which there are at most 2^32
+-- bytes decode to samples, of which there are at most 2^32
 abbrev pub AreRead : Settings → Option ℕ → List ℕ → List ℤ → Type 0
 AreRead s count bytes samples = IsReading s count (2 ^ 32) (bits_of_bytes bytes) samples
 
--- why bytes aren't read: the options; or, if they are allowed, a refusal of decoding or `Memory`
+-- why bytes aren't decoded: the options; or, if they are allowed, a refusal of decoding or `Memory`
 pub data CannotRead (s : Settings) (count : Option ℕ) (bytes : List ℕ) (fault : Fault) : Type 0 where
   bad_options : settings_fault s ≡ Some fault → CannotRead s count bytes fault
   not_read : IsAllowed s → RefusesDecoding s count (2 ^ 32) (bits_of_bytes bytes) fault → CannotRead s count bytes fault
@@ -43,7 +43,7 @@ CannotHold s samples fault =
     (settings_fault s ≡ Some fault) ⊎ (IsAllowed s × ((fault ≡ Memory)
     ⊎ (due_refusal (interval_format s) (2 ^ 32) [] 0 (Append samples) ≡ Some fault)))
 
--- loading: a workspace with the samples that bytes are read as replaces what was held, or a refusal
+-- loading: a workspace with the samples that bytes decode to replaces what was held, or a refusal
 -- changes nothing
 pub data Loads (s : Settings) (count : Option ℕ) (bytes : List ℕ) (old new : Option OpenWorkspace)
     (reply : Reply) : Type 0 where

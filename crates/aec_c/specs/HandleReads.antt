@@ -46,7 +46,7 @@ abbrev pub IsCodeOf : OpenWorkspace → Result (List ℕ) Fault → Type 0
 IsCodeOf w (Ok bytes) = bytes ≡ bytes_of (code_of (format_of w) w.workspace.samples)
 IsCodeOf w (Err fault) = fault ≡ Memory
 
--- the bytes of the code of a workspace's samples, put into a buffer
+-- the bytes of the code of a workspace's samples, written to a buffer
 pub data WritesOut (old new : Option OpenWorkspace) (before after : List ℕ) (reply : Reply) : Type 0 where
   written : (w : OpenWorkspace) (answer : Result (List ℕ) Fault) → old ≡ Some w → new ≡ Some w → IsCodeOf w answer
       → after ≡ left_of answer before
@@ -66,7 +66,7 @@ pub record IsSameBut (before after : OpenWorkspace) : Type 0 where
   pub calls : after.workspace.codec.calls ≡ before.workspace.codec.calls
   pub format : format_of after ≡ format_of before
 
--- the samples of a range, put into a buffer
+-- the samples of a range, written to a buffer
 pub data ReadsOut (first len : ℕ) (old new : Option OpenWorkspace) (before after : List ℤ)
     (reply : Reply) : Type 0 where
   read : (w w' : OpenWorkspace) (answer : Result (List ℤ) Fault) → old ≡ Some w → new ≡ Some w' → IsSameBut w w'

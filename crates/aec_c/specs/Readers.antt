@@ -32,7 +32,7 @@ pub data OpensReader (s : Settings) (count : Option ℕ) (bytes : List ℕ) (old
   not_opened : (fault : Fault) → CannotOpen s count fault → new ≡ old → reply ≡ refused_for fault
       → OpensReader s count bytes old new reply
 
--- the stored samples of the next interval were put into a buffer, if there was room for all of
+-- the stored samples of the next interval were written to a buffer, if there was room for all of
 -- them, and the reader is after them; no bytes if all samples were read; or the fault in that
 -- interval, never `Memory`
 pub data ReadsNext (before after : OpenReader) (old new : List ℕ) (reply : Reply) : Type 0 where
@@ -51,7 +51,7 @@ pub data ReadsNext (before after : OpenReader) (old new : List ℕ) (reply : Rep
       → reply ≡ refused_for fault
       → ReadsNext before after old new reply
 
--- the same for what a handle holds: nothing is put if it holds no reader
+-- the same for what a handle holds: nothing is written if it holds no reader
 pub data PutsNext (old new : Option OpenReader) (before after : List ℕ) (reply : Reply) : Type 0 where
   put : (w w' : OpenReader) → old ≡ Some w → new ≡ Some w' → ReadsNext w w' before after reply
       → PutsNext old new before after reply

@@ -71,7 +71,7 @@ reply_to (Err fault) room = refused_for fault
 abbrev pub over_front : {X : Type 0} → List X → List X → List X
 over_front answer before = answer ++ drop (length answer) before
 
--- a call had one of these answers
+-- a call had one of these results
 pub record Replies (answers : Result (List ℕ) Fault → Type 0) (before after : List ℕ) (reply : Reply) : Type 0 where
   pub answer : Result (List ℕ) Fault
   pub answered : answers answer

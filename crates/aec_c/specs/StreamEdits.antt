@@ -1,4 +1,4 @@
--- The answers and replies of editing a coded stream by a script.
+-- The results and replies of editing a coded stream by a script.
 use Rattle.std.specs.Prelude.{◌≡◌, ℕ, false, Option, Some, None, Result, Ok, Err, ℤ, List, length}
 use Rattle.aec_params.specs.declared.settings.Settings.{Settings}
 use Rattle.aec_params.specs.declared.fault.Fault.{Fault}
@@ -18,8 +18,8 @@ use Rattle.aec_c.specs.declared.stream_edits.EditReply.{EditReply}
 use Rattle.aec_c.specs.Calls.{most}
 use Rattle.aec_c.specs.Replies.{reply_to}
 
--- The bytes of the code of the samples that a script leaves of those that coded bytes are read as,
--- or why there are none.
+-- The bytes of the code of the samples that a script leaves of those that coded bytes decode to, or
+-- why there are none.
 pub data IsEditing (s : Settings) (count : Option ℕ) (script coded : List ℕ) : Result (List ℕ) EditFault → Type 0 where
   edited : (made : Recoded) → IsAllowed s
       → IsEdited s most count (input_of script false) (input_of coded false) (Ok made)
@@ -55,12 +55,12 @@ abbrev pub line_in : EditFault → ℕ
 line_in (Plain fault) = 0
 line_in (Line line fault) = line
 
--- an answer whose refusal no longer names its line
+-- a result whose refusal no longer names its line
 abbrev pub plain_answer : Result (List ℕ) EditFault → Result (List ℕ) Fault
 plain_answer (Ok bytes) = Ok bytes
 plain_answer (Err fault) = Err (fault_in fault)
 
--- the line that an answer names, or 0
+-- the line that a result names, or 0
 abbrev pub line_of : Result (List ℕ) EditFault → ℕ
 line_of (Ok bytes) = 0
 line_of (Err fault) = line_in fault

@@ -1,4 +1,4 @@
--- How a text is put into a buffer.
+-- How a text is written to a buffer.
 use Rattle.std.specs.Prelude.{◌≡◌, ℕ, ◌-◌, nat_lt, if◌then◌else◌, List, [], ◌∷◌, ◌++◌, length, take}
 use Rattle.aec_c.specs.Replies.{over_front}
 
@@ -8,7 +8,7 @@ abbrev pub text_in : List ℕ → List ℕ → List ℕ
 text_in text before = if nat_lt 0 (length before) then over_front (take (length before - 1) text ++ (0 ∷ [])) before
     else before
 
--- a text of `len` bytes was put into a buffer (not which text)
+-- a text of `len` bytes was written to a buffer (not which text)
 pub record PutsText (before after : List ℕ) (len : ℕ) : Type 0 where
   pub text : List ℕ
   pub put : after ≡ text_in text before

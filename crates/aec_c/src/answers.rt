@@ -30,7 +30,7 @@ pub(crate) fn params_of(options: &Options) -> Result<Params, Fault>
     Params::new(settings_of(options))
 }
 
-/// Puts the code of stored samples into a buffer if there is room for all of it. Returns how many
+/// Writes the code of stored samples to a buffer if there is room for all of it. Returns how many
 /// bytes it takes.
 pub(crate) fn encode_with(
     alloc: Global,
@@ -66,7 +66,7 @@ fn decode_front(
     }
 }
 
-/// Puts the stored samples of coded bytes into a buffer if there is room for all of them. With a
+/// Writes the stored samples of coded bytes to a buffer if there is room for all of them. With a
 /// count it first reads only `bound` bytes, which always suffice for a code of so many samples.
 fn decode_within_bound(
     alloc: Global,
@@ -91,7 +91,7 @@ fn decode_within_bound(
     decode_into(alloc, params, limits(), count, bytes, out)
 }
 
-/// Puts the stored samples of coded bytes into a buffer if there is room for all of them. Returns
+/// Writes the stored samples of coded bytes to a buffer if there is room for all of them. Returns
 /// how many bytes they take.
 pub(crate) fn decode_with(
     alloc: Global,
@@ -108,8 +108,8 @@ pub(crate) fn decode_with(
     decode_within_bound(alloc, &params, count_of(count), bound, bytes, out)
 }
 
-/// Decodes a range of the first `front` coded bytes, read as `count` samples, as `range_into` does.
-/// Returns `None` if that fails; the buffer is unchanged then.
+/// Decodes the first `front` coded bytes as `count` samples, and cuts out a range, as `range_into`
+/// does. Returns `None` if that fails; the buffer is unchanged then.
 fn range_front(
     alloc: Global,
     params: &Params,
@@ -133,7 +133,7 @@ fn range_front(
     }
 }
 
-/// Puts a range of the stored samples of coded bytes into a buffer if there is room for it. With a
+/// Writes a range of the stored samples of coded bytes to a buffer if there is room for it. With a
 /// count it first reads only `bound` bytes, which always suffice for a code of so many samples.
 fn range_within_bound(
     alloc: Global,
@@ -161,7 +161,7 @@ fn range_within_bound(
     range_into(alloc, params, limits(), count, first, len, bytes, out)
 }
 
-/// Puts a range of the stored samples of coded bytes into a buffer if there is room for it. Returns
+/// Writes a range of the stored samples of coded bytes to a buffer if there is room for it. Returns
 /// how many bytes it takes.
 pub(crate) fn range_with(
     alloc: Global,

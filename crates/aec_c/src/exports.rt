@@ -123,8 +123,8 @@ pub extern "C" fn aecp_bound(options: &Options, samples: u64) -> u64
     bound_of(options, samples)
 }
 
-/// Puts as much of a reply's text as fits into a buffer, and a zero after it. Returns the text's
-/// length.
+/// Writes to a buffer as much of a reply's text as fits before a zero, and the zero after it.
+/// Returns the text's length.
 #[unsafe(no_mangle)]
 pub extern "C" fn aecp_text(alloc: Global, reply: &Reply, out: &mut [u8]) -> usize
     ensures { PutsText out.old out.new result }

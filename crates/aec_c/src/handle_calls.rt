@@ -119,7 +119,7 @@ pub extern "C" fn aecp_open(
     reply.fault
 }
 
-/// Opens a workspace with the samples that a stream is read as. Replies how many samples these are.
+/// Opens a workspace with the samples that a stream decodes to. Replies how many samples these are.
 /// On success the workspace that the handle held is freed; on an error the handle is unchanged.
 #[unsafe(no_mangle)]
 pub extern "C" fn aecp_load(
@@ -164,7 +164,7 @@ pub extern "C" fn aecp_calls(alloc: Global, handle: &mut Handle) -> u64
     call_count(alloc, handle)
 }
 
-/// Puts the bytes of the code of all samples into a buffer. Replies how many bytes these are.
+/// Writes the bytes of the code of all samples to a buffer. Replies how many bytes these are.
 #[unsafe(no_mangle)]
 pub extern "C" fn aecp_write(
     alloc: Global,
@@ -179,7 +179,7 @@ pub extern "C" fn aecp_write(
     reply.fault
 }
 
-/// Puts the `len` samples from place `first` on into a buffer. Replies how many samples these are.
+/// Writes the `len` samples from place `first` on to a buffer. Replies how many samples these are.
 #[unsafe(no_mangle)]
 pub extern "C" fn aecp_read(
     alloc: Global,

@@ -29,7 +29,7 @@ pub(crate) fn copy_values(alloc: Global, values: &[i64]) -> Result<Samples, Faul
     Ok(Samples::new(Vec::from_slice(alloc, values)?))
 }
 
-/// Makes an edit of the workspace that a handle holds.
+/// Applies an edit to the workspace that a handle holds.
 pub(crate) fn apply_edit(alloc: Global, handle: &mut Handle, edit: &Edit) -> Reply
     ensures { OnHandle (MakesEdit edit.now) handle.old.value handle.new.value result }
 {
@@ -43,7 +43,7 @@ pub(crate) fn apply_edit(alloc: Global, handle: &mut Handle, edit: &Edit) -> Rep
     }
 }
 
-/// Makes an edit of the workspace that a handle holds, as `apply_edit` does, and drops the edit.
+/// Applies an edit to the workspace that a handle holds, as `apply_edit` does, and drops the edit.
 fn apply_and_drop(alloc: Global, handle: &mut Handle, edit: Edit) -> Reply
     ensures { OnHandle (MakesEdit edit) handle.old.value handle.new.value result }
 {

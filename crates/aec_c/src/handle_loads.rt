@@ -13,7 +13,7 @@ use aec_interval::decode_all;
 use aec_params::{Fault, Params};
 use std::alloc::Global;
 
-/// Returns the samples that coded bytes are read as.
+/// Returns the samples that coded bytes decode to.
 fn reading(alloc: Global, options: &Options, count: u64, bytes: &[u8]) -> Result<Vec<i64>, Fault>
     ensures ok { IfOk result (λ v. AreRead (settings_of options.now) (count_of count)
         bytes.now v.items) }

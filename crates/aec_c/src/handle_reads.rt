@@ -94,7 +94,7 @@ fn code_bytes(alloc: Global, work: &OpenWorkspace) -> Result<Vec<u8>, Fault>
     }
 }
 
-/// Puts the bytes of the code of all samples into a buffer.
+/// Writes the bytes of the code of all samples to a buffer.
 pub(crate) fn write_code(alloc: Global, handle: &mut Handle, out: &mut [u8]) -> Reply
     ensures { WritesOut handle.old.value handle.new.value out.old out.new result }
 {
@@ -108,7 +108,7 @@ pub(crate) fn write_code(alloc: Global, handle: &mut Handle, out: &mut [u8]) -> 
     }
 }
 
-/// Puts the `len` samples from place `first` on into a buffer.
+/// Writes the `len` samples from place `first` on to a buffer.
 pub(crate) fn read_range(
     alloc: Global,
     handle: &mut Handle,

@@ -31,7 +31,7 @@ pub extern "C" fn aecp_reader_open(
     reply.fault
 }
 
-/// Puts the stored samples of the next interval into a buffer, and goes on after them. Replies how
+/// Writes the stored samples of the next interval to a buffer, and goes on after them. Replies how
 /// many bytes they take; 0 if all samples were read.
 #[unsafe(no_mangle)]
 pub extern "C" fn aecp_reader_next(

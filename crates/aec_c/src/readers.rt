@@ -76,7 +76,7 @@ pub(crate) fn open_reader(
     }
 }
 
-/// Puts the stored samples of the next interval into a buffer with room for them, and goes on.
+/// Writes the stored samples of the next interval to a buffer with room for them, and goes on.
 fn next_open(alloc: Global, made: &mut OpenReader, out: &mut [u8]) -> Reply
     ensures { ReadsNext made.old made.new out.old out.new result }
 {
@@ -105,7 +105,7 @@ fn go_open(alloc: Global, made: &mut OpenReader, interval: u64) -> Reply
     }
 }
 
-/// Puts the stored samples of the next interval into a buffer, by the reader that a handle holds.
+/// Writes the stored samples of the next interval to a buffer, by the reader that a handle holds.
 pub(crate) fn put_next(alloc: Global, handle: &mut ReaderHandle, out: &mut [u8]) -> Reply
     ensures { PutsNext handle.old.value handle.new.value out.old out.new result }
 {

@@ -1,4 +1,4 @@
-//! Puts an answer of bytes or of samples into a buffer.
+//! Writes a result of bytes or of samples to a buffer.
 
 ghost use Rattle.std.specs.Prelude.{◌≡◌, ◌≤◌, Ok, length};
 ghost use Rattle.aec_engine.specs.Transfers.{answer_by};
@@ -8,7 +8,7 @@ ghost use Rattle.aec_c.specs.Replies.{over_front, reply_to};
 use crate::reply::{Reply, answered, refused, too_long};
 use aec_params::Fault;
 
-/// Puts an answer at the front of a buffer that has room for it.
+/// Writes a result to the front of a buffer that has room for it.
 fn put_front<T: Copy>(answer: &[T], out: &mut [T])
     requires { length answer.now ≤ length out.old }
     ensures { out.new ≡ over_front answer.now out.old }
@@ -16,7 +16,7 @@ fn put_front<T: Copy>(answer: &[T], out: &mut [T])
     out[..answer.len()].copy_from_slice(answer);
 }
 
-/// Puts an answer at the front of a buffer if there is room for all of it, and returns the reply.
+/// Writes a result to the front of a buffer if there is room for all of it, and returns the reply.
 pub(crate) fn settle_slice<T: Copy>(answer: &[T], out: &mut [T]) -> Reply
     ensures left { out.new ≡ left_of (Ok answer.now) out.old }
     ensures reply { result ≡ reply_to (Ok answer.now) (length out.old) }
@@ -30,7 +30,7 @@ pub(crate) fn settle_slice<T: Copy>(answer: &[T], out: &mut [T]) -> Reply
     }
 }
 
-/// Puts an answer at the front of a buffer as `settle_slice` does, or returns the reply for a
+/// Writes a result to the front of a buffer as `settle_slice` does, or returns the reply for a
 /// refusal, which leaves the buffer unchanged.
 pub(crate) fn settle<T: Copy>(answer: Result<Vec<T>, Fault>, out: &mut [T]) -> Reply
     ensures left { out.new ≡ left_of (answer_by (λ made. made.items) answer) out.old }

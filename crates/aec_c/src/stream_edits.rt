@@ -153,7 +153,7 @@ fn refused_edit(fault: EditFault) -> EditReply
     }
 }
 
-/// Puts an edited stream at the front of a buffer if there is room for all of it, and returns the
+/// Writes an edited stream to the front of a buffer if there is room for all of it, and returns the
 /// reply. A refusal leaves the buffer unchanged.
 pub(crate) fn settle_edited(answer: Result<EditedStream, EditFault>, out: &mut [u8]) -> EditReply
     ensures left { out.new ≡ left_of

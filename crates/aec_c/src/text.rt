@@ -53,7 +53,7 @@ pub(crate) fn text_of(alloc: Global, reply: &Reply) -> Result<String, AllocError
     }
 }
 
-/// Puts as much of a text into a buffer as fits before a zero, and the zero after it. Returns the
+/// Writes to a buffer as much of a text as fits before a zero, and the zero after it. Returns the
 /// length of the text.
 pub(crate) fn put_text(text: &[u8], out: &mut [u8]) -> usize
     ensures { PutsText out.old out.new result }

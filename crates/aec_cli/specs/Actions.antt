@@ -1,5 +1,5 @@
 -- For proofs alone: no public contract cites this file.
--- The answers of a run of the program, action by action.
+-- The results of a run of the program, action by action.
 use Rattle.std.specs.Prelude.{ℕ, ◌^◌, Bool, Result, List}
 use Rattle.aec_params.specs.declared.settings.Settings.{Settings}
 use Rattle.aec_params.specs.declared.fault.Fault.{Fault}
@@ -14,14 +14,14 @@ abbrev pub HasNoScript : Action → Type 0
 HasNoScript (Edit script count) = ⊥
 HasNoScript _ = Unit {0}
 
--- the answers of an action without a script to an input (an edit by a script has `LeavesEdited`)
+-- the results of an action without a script for an input (an edit by a script has `LeavesEdited`)
 abbrev pub IsAnswerOf : Action → Settings → Caps → Input → Result (List ℕ) Fault → Type 0
 IsAnswerOf Encode s caps = IsEncoded s caps
 IsAnswerOf (Decode count) s caps = IsDecoded s caps count
 IsAnswerOf (Range first len count) s caps = IsRanged s caps count first len
 IsAnswerOf (Edit script count) s caps = λ _ _. ⊥
 
--- whether bytes of a source are enough for its answer, whatever follows: they contain a refused
+-- whether bytes of a source are enough for its result, whatever follows: they contain a refused
 -- sample, or exceed the limit
 abbrev pub are_enough : Action → Settings → Caps → List ℕ → Bool
 are_enough Encode s caps = are_refused s caps.samples

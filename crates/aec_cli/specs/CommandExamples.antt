@@ -1,4 +1,4 @@
--- What the command makes of words that are written out. A wrong line here fails the check.
+-- How the command parses words that are written out. A wrong line here fails the check.
 use Rattle.std.specs.Prelude.{◌≡◌, List, [], ◌∷◌, Some, None, codes, refl}
 use Rattle.clap.proofs.OnLiterals.{clap_on_literals}
 use Rattle.clap.specs.Faults.{fault_of}

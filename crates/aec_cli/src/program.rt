@@ -81,7 +81,7 @@ fn limits() -> Limits
 }
 
 /// Does an action without a script on a source, within the limits of the program, and writes its
-/// answer to a sink.
+/// result to a sink.
 fn act<R: Source, W: Sink>(
     alloc: Global,
     params: &Params,

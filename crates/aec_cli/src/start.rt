@@ -52,7 +52,7 @@ fn is_closed<S: AsFd>(stream: &S) -> bool {
 }
 
 /// If a standard stream is closed, opens `/dev/null` in its place for reading and writing, until
-/// the process ends. The system gives a file the least free number. So call this for the three
+/// the process ends. The system assigns a file the least free number. So call this for the three
 /// streams in the order of their numbers, before any file is opened: then no file gets the number
 /// of a stream.
 pub fn fill_if_closed<F: Files, S: AsFd>(rt: &F, stream: &S) -> Result<(), StartFault>

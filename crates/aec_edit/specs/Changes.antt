@@ -18,7 +18,7 @@ use Rattle.aec_edit.specs.Opened.{opened_count}
 abbrev pub exchanged : Stretch → List ℤ → List ℤ → List ℤ
 exchanged gone values s = take gone.first s ++ (values ++ drop gone.stop s)
 
--- an exchange that a workspace can make: as many values as places, or the places reach the end
+-- an exchange that a workspace can apply: as many values as places, or the places reach the end
 pub record IsExchange (f : Format) (limit : ℕ) (s : List ℤ) (gone : Stretch) (values : List ℤ) : Type 0 where
   pub order : gone.first ≤ gone.stop
   pub within : gone.stop ≤ length s
@@ -51,7 +51,7 @@ head_of n first s = drop (first / n * n) (take first s)
 abbrev pub tail_of : ℕ → ℕ → List ℤ → List ℤ
 tail_of n stop s = drop stop (take (div_ceil stop n * n) s)
 
--- an exchange that was made: enough calls were left, and the calls rose by one for each interval
+-- an exchange that was applied: enough calls were left, and the calls rose by one for each interval
 pub record IsExchanged (needed calls coded after : ℕ) : Type 0 where
   pub left : want_of_calls calls needed ≡ None
   pub coded_is : coded ≡ needed
@@ -67,8 +67,8 @@ IsNotExchanged needed calls fault after =
 abbrev pub opened_by : ℕ → ℕ → ℕ → ℕ
 opened_by needed calls opened = if is_some (want_of_calls calls needed) then 0 else opened
 
--- an exchange and all that it does to a workspace, whose samples are `left` if it is made; nothing
--- has changed if it is refused with another fault than `Memory`
+-- an exchange and all that it does to a workspace, whose samples are `left` if it is applied;
+-- nothing has changed if it is refused with another fault than `Memory`
 pub record Exchanges {C : Type 0} (format_of : C → Format) (called read : C → ℕ) (coded opened : ℕ) (left : List ℤ)
     (r : Result ℕ Fault) (old new : Contents C)
     : Type 0 where
@@ -111,7 +111,7 @@ abbrev pub fresh_of : ℕ → List ℤ → Stretch → ℕ → List ℤ → List
 fresh_of n s gone to values = to_come n s (head_of n gone.first s) values (tail_of n gone.stop s)
     (div_ceil gone.stop n) to
 
--- an exchange that a workspace can make: what is coded fills whole intervals, or reaches the end
+-- an exchange that a workspace can apply: what is coded fills whole intervals, or reaches the end
 pub record IsExchangeUpTo (f : Format) (limit : ℕ) (s : List ℤ) (gone : Stretch) (to : ℕ)
     (values : List ℤ) : Type 0 where
   pub order : gone.first ≤ gone.stop
@@ -137,7 +137,7 @@ pub record IsCodeFor (f : Format) (limit : ℕ) (s : List ℤ) (from to : ℕ) (
 abbrev pub recoded_end : Format → List ℤ → ℕ → ℕ → ℕ
 recoded_end f s place len = if len % f.most == 0 then div_ceil place f.most else interval_count f s
 
--- a workspace that can make such an exchange
+-- a workspace that can apply such an exchange
 abbrev pub CanExchange : {C : Type 0} → (C → Format) → Contents C → Stretch → ℕ → List ℤ → Type 0
 CanExchange format_of w gone to values = IsExchangeUpTo (format_of w.codec) w.limit w.samples gone to values
 

@@ -44,7 +44,7 @@ AreLater to place end starts = (k : ℕ) → to ≤ k → k < length starts
 abbrev pub AreUpTo : ℕ → List ℕ → Type 0
 AreUpTo end starts = (k : ℕ) → k < length starts → slice_index starts k ≤ end
 
--- two cuts between which other code can be put
+-- two cuts between which other code can be inserted
 pub record CanBeReplaced (coded with : Coded) (from to : Cut) : Type 0 where
   pub intervals : from.interval ≤ to.interval
   pub intervals_within : to.interval ≤ length coded.starts.items
@@ -64,7 +64,7 @@ abbrev pub with_starts : List ℕ → ℕ → ℕ → List ℕ → ℕ → ℕ �
 with_starts starts from to with base old_end new_end =
     take from starts ++ (map (λ x. base + x) with ++ map (λ x. x - old_end + new_end) (drop to starts))
 
--- other code was put between two cuts, and the starts after them were moved
+-- other code was inserted between two cuts, and the starts after them were moved
 pub record IsReplaced (old new with : Coded) (from to : Cut) (count : ℕ) : Type 0 where
   pub bits : new.bits.list ≡ take from.bit old.bits.list ++ (with.bits.list ++ drop to.bit old.bits.list)
   pub starts : new.starts.items

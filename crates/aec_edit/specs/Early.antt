@@ -1,5 +1,5 @@
 -- For proofs alone: no public contract cites this file.
--- Overwrites that can be made before the samples after them are loaded.
+-- Overwrites that can be applied before the samples after them are loaded.
 use Rattle.std.specs.Prelude.{ℕ, ◌+◌, ◌≤◌, length}
 use Rattle.aec_params.specs.declared.edit.Edit.{Edit}
 use Rattle.aec_params.specs.declared.edit.Edit.TheVariants.{Overwrite, Append, Truncate, Insert, Remove}

@@ -1,5 +1,5 @@
 -- For proofs alone: no public contract cites this file.
--- Fresh samples that are handed out one interval at a time. The contract of `apply` cites
+-- Fresh samples that are taken one interval at a time. The contract of `apply` cites
 -- `samples_after`, `needed_calls` and `opened_intervals` instead.
 use Rattle.std.specs.Prelude.{◌≡◌, ℕ, ◌+◌, ◌*◌, ◌≤◌, ◌⊎◌, List, ◌++◌, length, take, drop, ℤ}
 

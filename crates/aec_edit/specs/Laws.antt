@@ -17,7 +17,7 @@ use Rattle.aec_edit.specs.Runs.{AnswersAll, all_left, all_coded}
 
 -- ---- one edit
 
--- an overwrite that is made counts one coder call for each interval that it touches
+-- an overwrite that is applied counts one coder call for each interval that it touches
 abbrev pub OverwritesCodeWhatTheyTouch : Type 0
 OverwritesCodeWhatTheyTouch = (f : Format) (limit : ℕ) (s : List ℤ) (calls first : ℕ) (values : Samples)
     (coded after : ℕ)
@@ -43,13 +43,13 @@ pub record CodesNothing (n old : ℕ) : Type 0 where
   pub remove_whole : (k j : ℕ) → needed_calls n old (Remove (k * n) (j * n)) ≡ 0
   pub remove_rest : (k : ℕ) → k * n ≤ old → needed_calls n old (Remove (k * n) (old - k * n)) ≡ 0
 
--- an edit that codes nothing and fits is made, never refused with `Memory`
+-- an edit that codes nothing and fits is applied, never refused with `Memory`
 abbrev pub IsAlwaysMade : Type 0
 IsAlwaysMade = (f : Format) (limit : ℕ) (s : List ℤ) (calls : ℕ) (e : Edit) (outcome : Outcome) (after : ℕ)
     → refusal_of f limit s e ≡ None → needed_calls f.most (length s) e ≡ 0
     → Answers f limit s calls e outcome after → (outcome ≡ Done 0) × (after ≡ calls)
 
--- which edits code nothing, and that those of them that fit are made
+-- which edits code nothing, and that those of them that fit are applied
 pub record EditsThatCodeNothingAreMade : Type 0 where
   pub which : (n old : ℕ) → 0 < n → CodesNothing n old
   pub made : IsAlwaysMade

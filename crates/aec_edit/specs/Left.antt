@@ -8,7 +8,7 @@ use Rattle.aec_edit.specs.Workspace.{Contents}
 use Rattle.aec_edit.specs.Runs.{AnswersAll, all_left}
 use Rattle.aec_edit.specs.declared.outcome.Outcome.{Outcome}
 
--- a workspace with a codec like this one, after edits with these outcomes, the first made on no
+-- a workspace with a codec like this one, after edits with these outcomes, the first applied to no
 -- samples
 pub record IsLeftBy {C : Type 0} (format_of : C → Format) (called : C → ℕ) (codec : C) (limit : ℕ) (edits : List Edit)
     (done : List Outcome) (w : Contents C)

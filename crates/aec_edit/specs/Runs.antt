@@ -1,4 +1,4 @@
--- The outcomes of a list of edits, made one after the other.
+-- The outcomes of a list of edits, applied one after the other.
 use Rattle.std.specs.Prelude.{◌≡◌, ℕ, ◌+◌, List, [], ◌∷◌, length, ℤ}
 use Rattle.aec_params.specs.declared.fault.Fault.TheVariants.{Memory}
 use Rattle.aec_params.specs.declared.edit.Edit.{Edit}

@@ -9,8 +9,8 @@ use Rattle.aec_edit.specs.declared.outcome.Outcome.{Outcome}
 use Rattle.aec_edit.specs.declared.outcome.Outcome.TheVariants.{Done, Refused}
 use Rattle.aec_edit.specs.Calls.{due_refusal, opened_at_most, RisesAtMost}
 
--- an edit of the samples s that is made: no refusal is due, and the count of calls rises by one for
--- each interval that it codes
+-- an edit of the samples s that is applied: no refusal is due, and the count of calls rises by one
+-- for each interval that it codes
 pub record IsAccepted (f : Format) (limit : ℕ) (s : List ℤ) (calls : ℕ) (e : Edit) (coded after : ℕ) : Type 0 where
   pub fits : due_refusal f limit s calls e ≡ None
   pub coded_is : coded ≡ needed_calls f.most (length s) e

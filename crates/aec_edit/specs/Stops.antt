@@ -8,16 +8,16 @@ use Rattle.aec_edit.specs.declared.outcome.Outcome.TheVariants.{Done, Refused}
 use Rattle.aec_edit.specs.declared.outcome.Stop.{Stop}
 use Rattle.aec_edit.specs.Runs.{HasRun}
 
--- each of these edits was made
+-- each of these edits was applied
 abbrev pub AreDone : List Outcome → Type 0
 AreDone [] = ⊤
 AreDone (Done coded ∷ outcomes) = AreDone outcomes
 AreDone (Refused fault ∷ outcomes) = ⊥
 
 -- what edits have done from the samples s and the codec's counts of calls and reads, with the
--- samples that are left and the counts after them: all were made; or one was refused, at its place
--- counted from 0, all before it were made, and none after it was tried (by cases on the list of
--- edits, cut at the refused one, where the code has a loop)
+-- samples that are left and the counts after them: all were applied; or one was refused, at its
+-- place counted from 0, all before it were applied, and none after it was tried (by cases on the
+-- list of edits, cut at the refused one, where the code has a loop)
 pub data StopsAtRefusal (f : Format) (limit : ℕ) (s : List ℤ) (calls reads : ℕ) (edits : List Edit)
     : Result (Unit {0}) Stop → List ℤ → ℕ → ℕ → Type 0 where
   all_made : (done : List Outcome) (left : List ℤ) (calls_after reads_after : ℕ) → AreDone done

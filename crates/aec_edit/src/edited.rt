@@ -1,4 +1,5 @@
-//! Makes edits, beginning with no samples, writes the resulting stream, and reads its samples back.
+//! Applies edits, beginning with no samples, writes the resulting stream, and reads its samples
+//! back.
 
 ghost use Rattle.std.specs.Prelude.{◌≡◌, ◌≢◌, ◌<◌, ◌≤◌, ◌^◌, ◌⊎◌, ℕ, List, [], length, vec_capacity, Err, IfOk, OnOk, IfErr, OnErr};
 ghost use Rattle.std.specs.Io.KnownBytes.{Appends, Keeps};
@@ -26,13 +27,13 @@ pub struct Edited<C: Codec + Drop> {
     pub outcomes: Vec<Outcome>,
     /// The number of bits in the stream.
     pub bits: u64,
-    /// All samples that the stream is read as.
+    /// All samples that the stream decodes to.
     pub samples: Vec<i64>,
     /// The codec that coded the edits, with its count of calls.
     pub codec: C,
 }
 
-/// Makes edits, beginning with no samples, and writes the resulting stream.
+/// Applies edits, beginning with no samples, and writes the resulting stream.
 ///
 /// Each edit has an outcome that is permitted for the samples that earlier edits left and for the
 /// codec's count of calls then. The written bytes are, bit for bit, the code of the samples that
@@ -86,7 +87,7 @@ pub fn write_edited<C: Codec + Drop, W: Sink>(
     })
 }
 
-/// Makes edits in an empty workspace, and appends the outcome of each to `outcomes`. Fails with
+/// Applies edits to an empty workspace, and appends the outcome of each to `outcomes`. Fails with
 /// `Memory` only if `outcomes` has room for fewer outcomes than there are edits.
 fn edit_from_nothing<C: Codec + Drop>(
     alloc: Global,

@@ -1,4 +1,4 @@
-//! Judges edits, makes each whole or not at all, and runs lists of them.
+//! Judges edits, applies each whole or not at all, and runs lists of them.
 
 use crate::outcome::{Outcome, Stop};
 use crate::workspace::Workspace;
@@ -21,7 +21,7 @@ impl<C: Codec> Workspace<C> {
     ghost use Rattle.aec_edit.specs.declared.outcome.Outcome.{Outcome as OutcomeOf};
     ghost use Rattle.aec_edit.specs.Stops.{StopsAtRefusal};
 
-    /// Makes an edit, and returns how many intervals it coded: `needed_calls`. Decodes at most as
+    /// Applies an edit, and returns how many intervals it coded: `needed_calls`. Decodes at most as
     /// many intervals as contain a sample that is kept and coded again.
     ///
     /// A refused edit changes no sample, and nothing at all unless it is refused with `Memory`. An
@@ -242,8 +242,8 @@ impl<C: Codec> Workspace<C> {
         Ok(())
     }
 
-    /// Makes edits in their order, up to the first that is refused: the edits before it are made,
-    /// those after it are not tried. Edits that code no interval never fail with `Memory`.
+    /// Applies edits in their order, up to the first that is refused: the edits before it are
+    /// applied, those after it are not tried. Edits that code no interval never fail with `Memory`.
     pub fn run_until_refused(&mut self, edits: &[Edit]) -> Result<(), Stop>
         ensures run { StopsAtRefusal (C.format self.old.codec) self.old.limit self.old.samples
             (C.called self.old.codec) (C.read self.old.codec)

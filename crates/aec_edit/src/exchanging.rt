@@ -1,4 +1,4 @@
-//! The one operation that makes every edit: places are exchanged for values.
+//! The one operation that applies every edit: places are exchanged for values.
 
 use crate::workspace::Workspace;
 use crate::workspace::fresh_coding::Fresh;
@@ -84,7 +84,7 @@ impl<C: Codec> Workspace<C> {
     }
 
     /// Decodes the first and the last interval that an exchange touches, if they keep a sample, and
-    /// puts their samples into `ends`. The last one is first decoded into `spare`.
+    /// appends their samples to `ends`. The last one is first decoded into `spare`.
     fn open_ends(
         &mut self,
         first: u64,

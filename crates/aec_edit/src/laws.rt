@@ -10,8 +10,7 @@ ghost use Rattle.aec_edit.specs.Laws.{
   RunsLeaveSamples,
 };
 
-/// For an overwrite that is made, one call of the coder is counted for each interval that it
-/// touches.
+/// An overwrite that is applied counts one call of the coder for each interval that it touches.
 pub fn overwrites_code_what_they_touch()
     ensures { OverwritesCodeWhatTheyTouch }
 {}
@@ -22,7 +21,7 @@ pub fn refused_edits_change_nothing()
     ensures { RefusedEditsChangeNothing }
 {}
 
-/// An edit that codes no interval is made if it fits, never refused with `Memory`.
+/// An edit that codes no interval is applied if it fits, never refused with `Memory`.
 pub fn edits_that_code_nothing_are_made()
     ensures { EditsThatCodeNothingAreMade }
 {}

@@ -5,7 +5,7 @@ use aec_params::Fault;
 /// The outcome of an edit.
 #[derive(Clone, Copy, Debug, PartialEq, Eq, Drop)]
 pub enum Outcome {
-    /// It was made, and this many intervals were coded.
+    /// It was applied, and this many intervals were coded.
     Done { coded: u64 },
     /// It was refused.
     Refused { fault: Fault },

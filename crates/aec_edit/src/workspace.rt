@@ -69,7 +69,7 @@ impl<C: Codec> Workspace<C> {
         ensures codec { result.codec ≡ codec }
         ensures room { (result.room.bits ≡ 0) × (result.room.intervals ≡ 0) }
     {
-        // For the invariant's bound on the codec's count of reads.
+        // The type's invariant relies on this call: it bounds the codec's count of reads.
         let _reads = codec.reads();
         Workspace {
             coded: Coded::new(alloc),
@@ -195,7 +195,7 @@ impl<C: Codec> Workspace<C> {
         ensures value { result ≡ (C.format self.now.codec).most }
         ensures sound { IsSound (C.format self.now.codec) self.now.limit self.now.samples }
     {
-        // For the clause `sound`.
+        // The clause `sound` relies on this read: the type's invariant is known of what is read.
         let _ = &self.coded;
         self.codec.interval_len()
     }

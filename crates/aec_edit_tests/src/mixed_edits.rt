@@ -294,8 +294,8 @@ fn expect_code<R: Abort>(
     Ok(())
 }
 
-/// Makes a first edit and two hundred more, and compares each with that of a plain list. Checks
-/// that there are enough of each kind, made and refused.
+/// Applies a first edit and two hundred more, and compares each with that of a plain list. Checks
+/// that there are enough of each kind, applied and refused.
 fn expect_edits<R: Abort>(rt: &R, alloc: Global, row: &Row) -> Result<(), Fail> {
     let params = Params::new(row.settings)?;
     let mut work = workspace(alloc, params, 0, row.limit);
@@ -317,7 +317,7 @@ fn expect_edits<R: Abort>(rt: &R, alloc: Global, row: &Row) -> Result<(), Fail> 
 }
 
 /// Checks that there are at least ten of each kind: refused for a value, as too many, as out of
-/// range; made.
+/// range; applied.
 fn expect_each_kind(rt: &impl Abort, tally: u64) {
     let [
         bad,

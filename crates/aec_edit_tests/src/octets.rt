@@ -53,7 +53,7 @@ overwrite 4      | 0 | 01 02 03 09 | 32 0 | 0
 truncate 3       | 1 | 01 02 03 | 24 0 | 1
 range 0 3        | 1 2 3 | 01 02 03 | 24 0 | 1",
     ),
-    // One call is left, then none. Edits that code nothing are made; the limit is judged before
+    // One call is left, then none. Edits that code nothing are applied; the limit is judged before
     // calls.
     (
         18446744073709551614,
@@ -254,7 +254,7 @@ fn mixed_edits_leave_the_octets_of_a_plain_list(rt: HostRuntime) -> Result<(), F
         holds_at(&rt, are_bytes_of(&stream(alloc, &work)?, &list), &edit);
         count(&mut tally, became);
     }
-    // More than 100 edits of each kind: refused for a value, as too many, as out of range; made.
+    // More than 100 edits of each kind: refused for a value, as too many, as out of range; applied.
     holds_at(&rt, tally.iter().all(|edits| *edits > 100), &tally);
     Ok(())
 }

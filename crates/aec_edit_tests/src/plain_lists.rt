@@ -94,7 +94,7 @@ fn refusal(row: &Row, count: u64, edit: &Edit) -> Option<Fault> {
     first_unheld(row, values_of(edit)).map(|index| Fault::SampleRange { index })
 }
 
-/// Makes an edit of a plain list.
+/// Applies an edit to a plain list.
 fn change(alloc: Global, list: &mut Vec<i64>, edit: &Edit) -> Result<(), AllocError> {
     let (first, stop) = places_of(list.len() as u64, edit);
     let mut behind = Vec::new(alloc);
@@ -202,10 +202,10 @@ fn keeping(row: &Row, count: u64, edit: &Edit, intervals: u64) -> u64 {
     kept
 }
 
-/// Makes an edit of a workspace, checks its result and cost, and makes it of the list if it fits.
-/// Returns a number with a 1 in the byte of what happened. From the last byte on: made, as an
-/// overwrite, an append, a truncation, an insertion or a removal; refused, as out of range, as too
-/// many, as no sample.
+/// Applies an edit to a workspace, checks its result and cost, and applies it to the list if it
+/// fits. Returns a number with a 1 in the byte of what happened. From the last byte on: applied, as
+/// an overwrite, an append, a truncation, an insertion or a removal; refused, as out of range, as
+/// too many, as no sample.
 pub(crate) fn expect_edit<R: Abort, C: Codec>(
     rt: &R,
     alloc: Global,

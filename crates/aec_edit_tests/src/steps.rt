@@ -215,8 +215,8 @@ fn last_stream(table: &str) -> &str {
     stream_after(table.lines().last().unwrap_or(""))
 }
 
-// Makes a run of edits, and returns the outcomes, one a line. The first line is an outcome that was
-// in the list before.
+// Applies edits as one run, and returns the outcomes, one a line. The first line is an outcome that
+// was in the list before.
 fn run_text<C: Codec>(
     alloc: Global,
     work: &mut Workspace<C>,
@@ -271,8 +271,8 @@ pub(crate) fn expect_run<R: Abort, C: Codec>(
     Ok(())
 }
 
-// Makes edits up to the first one that is refused. Returns its place among them and its fault, or
-// `made` if all are made.
+// Applies edits up to the first one that is refused. Returns its place among them and its fault, or
+// `made` if all are applied.
 fn stop_text<C: Codec>(
     alloc: Global,
     work: &mut Workspace<C>,
@@ -294,7 +294,7 @@ fn first_refusal(alloc: Global, answers: &str) -> Result<String, Fail> {
     Ok(String::from_str(alloc, "made")?)
 }
 
-// Returns whether a row is a range, or an edit that is made.
+// Returns whether a row is a range, or an edit that is applied.
 fn is_made(row: &str) -> bool {
     let (step, rest) = cell(row);
     step.starts_with("range ") || cell(rest).0.trim().parse::<u64>().is_ok()

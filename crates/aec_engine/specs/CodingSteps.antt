@@ -1,5 +1,5 @@
 -- For proofs alone: no public contract cites this file.
--- What feeding a source to a coder makes, step by step.
+-- What feeding a source to a coder results in, step by step.
 use Rattle.std.specs.Prelude.{◌≡◌, ℕ, ◌+◌, ◌-◌, ◌*◌, Bool, false, Option, Some, List, [], length}
 use Rattle.std.specs.Io.KnownBytes.{Consumes}
 use Rattle.aec_params.specs.declared.settings.Settings.{Settings}
@@ -10,8 +10,8 @@ use Rattle.aec_interval.specs.Feeding.{Coder, fresh_coder, Feeds}
 use Rattle.aec_engine.specs.Transfers.{Input, input_of, Taking, Gave}
 use Rattle.aec_engine.specs.Output.{are_refused, coding_refusal}
 
--- a new coder was fed what a source gave so far, in any pieces: its state, and the bits that it
--- made
+-- a new coder was fed what a source returned so far, in any pieces: its state, and the bits that it
+-- appended
 pub record IsFedSoFar (s : Settings) (limit : ℕ) (before after : Option (List ℕ)) (bits : List Bool)
     (coder : Coder) : Type 0 where
   pub allowed : IsAllowed s
@@ -19,14 +19,14 @@ pub record IsFedSoFar (s : Settings) (limit : ℕ) (before after : Option (List 
   pub taken : Consumes before after bytes
   pub feeds : Feeds (fresh_coder s limit) bytes [] bits coder
 
--- a new coder was fed all that a source gave
+-- a new coder was fed all that a source returned
 pub record IsFed (s : Settings) (limit : ℕ) (source : Taking) (bits : List Bool) (coder : Coder) : Type 0 where
   pub allowed : IsAllowed s
   pub bytes : List ℕ
   pub gave : Gave source (are_refused s limit) (input_of bytes false)
   pub feeds : Feeds (fresh_coder s limit) bytes [] bits coder
 
--- why it was not: `Memory`, or the refusal of what the source gave so far
+-- why it was not: `Memory`, or the refusal of what the source returned so far
 pub data StopsCoding (s : Settings) (limit : ℕ) (source : Taking) : Fault → Type 0 where
   no_memory : StopsCoding s limit source Memory
   refused : (input : Input) (fault : Fault) → Gave source (are_refused s limit) input

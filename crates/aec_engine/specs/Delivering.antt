@@ -9,18 +9,18 @@ use Rattle.aec_params.specs.Params.{IsAllowed, interval_len}
 use Rattle.aec_bits.specs.Devices.{AppendsFront}
 use Rattle.aec_engine.specs.Transfers.{Putting, IsBegunFirst}
 
--- bytes that waited and then more bytes are put, except those that wait afterwards
+-- bytes that waited and then more bytes are written, except those that wait afterwards
 pub record PutsPart (before after : Option (List ℕ)) (waited more waiting : List ℕ) : Type 0 where
   pub put : List ℕ
   pub appended : Appends before after put
   pub all : put ++ waiting ≡ waited ++ more
 
--- bytes are put to a sink, or a prefix of them if it failed
+-- bytes are written to a sink, or a prefix of them if it failed
 abbrev pub PutsAllOrFront : {X : Type 0} → Option (List ℕ) → Option (List ℕ) → List ℕ → Result X Fault → Type 0
 PutsAllOrFront before after bytes result =
     MatchResult result (λ _. Appends before after bytes) (λ _. AppendsFront before after bytes)
 
--- after one `begin` bytes are put to a sink, or a prefix of them if it failed
+-- after one `begin` bytes are written to a sink, or a prefix of them if it failed
 pub record Delivers (bytes : List ℕ) (sink : Putting) (result : Result (Unit {0}) Fault) : Type 0 where
   pub puts : PutsAllOrFront sink.before sink.after bytes result
   pub begun : IsBegunFirst sink

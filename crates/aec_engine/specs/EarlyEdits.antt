@@ -1,5 +1,5 @@
 -- For proofs alone: no public contract cites this file.
--- Edits of a script that are made before all samples are loaded.
+-- Edits of a script that are applied before all samples are loaded.
 use Rattle.std.specs.Prelude.{◌≡◌, ℕ, ◌+◌, ◌^◌, ◌≤◌, ◌⊎◌, Bool, Option, None, Result, Ok, Err, ℤ, List, [], ◌++◌, length}
 use Rattle.aec_params.specs.declared.settings.Settings.{Settings}
 use Rattle.aec_params.specs.declared.fault.Fault.{Fault}
@@ -19,7 +19,7 @@ use Rattle.aec_engine.specs.Scripts.{Listing}
 use Rattle.aec_engine.specs.Editing.{Left, left_with, edits_left, first_calls, LacksMemoryOn, Recoded}
 use Rattle.aec_engine.specs.EditingSteps.{StopsEditing, recoded_of}
 
--- Some edits, made on some samples, lead to other edits on what is left: both leave the same
+-- Some edits, applied to some samples, lead to other edits on what is left: both leave the same
 -- samples and calls or have the same refusal, and where the latter lack memory the former do.
 pub record LeadsToEdits (f : Format) (limit : ℕ) (from : Left) (script : Listing) (to : Left)
     (ahead : Listing) : Type 0 where
@@ -28,9 +28,9 @@ pub record LeadsToEdits (f : Format) (limit : ℕ) (from : Left) (script : Listi
   pub lacks : (line : ℕ) → LacksMemoryOn f limit to.calls to.samples ahead.edits ahead.lines line
       → LacksMemoryOn f limit from.calls from.samples script.edits script.lines line
 
--- The edits of a script were made on the samples loaded so far, up to those ahead. Whatever samples
--- are loaded after them, and however often the coder has been called before (far from the most that
--- it can be), the edits of the script lead to those ahead.
+-- The edits of a script were applied to the samples loaded so far, up to those ahead. Whatever
+-- samples are loaded after them, and however often the coder has been called before (far from the
+-- most that it can be), the edits of the script lead to those ahead.
 pub record CarriesEarly (f : Format) (limit : ℕ) (script : Listing) (s : List ℤ) (calls : ℕ) (ahead : Listing)
     (left : List ℤ)
     (calls_after : ℕ) : Type 0 where
@@ -55,9 +55,9 @@ pub record IsEmptyFor (start : Place) (f : Format) (limit : ℕ) (samples : List
   pub empty : samples ≡ []
   pub fresh : called ≡ 0
 
--- all samples that bits are read as were loaded, and meanwhile the edits up to those ahead were
--- made (the code loads them by whole intervals; `IsInside` of aec_edit says which edits are made
--- early)
+-- all samples that bits decode to were loaded, and meanwhile the edits up to those ahead were
+-- applied (the code loads them by whole intervals; `IsInside` of aec_edit says which edits are
+-- applied early)
 abbrev pub LoadsAll : Format → ℕ → Listing → Place → Listing → List ℤ → ℕ → Type 0
 LoadsAll f limit script start ahead left calls =
     (xs : List ℤ) → AreSamplesOf start xs
@@ -69,7 +69,7 @@ StopsLoading f limit script start fault =
     (fault ≡ Plain Memory) ⊎ ((xs : List ℤ) → AreSamplesOf start xs
     → StopsEditing f limit (first_calls f xs) xs script.edits script.lines fault)
 
--- the results of making edits on samples that can all be read
+-- the results of applying edits to samples that can all be read
 pub data EditsSamples (s : Settings) (limit : ℕ) (start : Place) (script : Listing) : Result Recoded EditFault
     → Type 0 where
   no_room : EditsSamples s limit start script (Err (Plain Memory))
@@ -81,7 +81,7 @@ pub data EditsSamples (s : Settings) (limit : ℕ) (start : Place) (script : Lis
       ≡ Ok left)
       → EditsSamples s limit start script (Ok (recoded_of (interval_format s) left.samples left.calls))
 
--- the results of making edits on the samples that bits are read as
+-- the results of applying edits to the samples that bits decode to
 pub data EditsBits (s : Settings) (caps : Caps) (count : Option ℕ) (bits : List Bool) (script : Listing)
     : Result Recoded EditFault → Type 0 where
   not_read : (fault : Fault) → RefusesDecoding s count caps.samples bits fault

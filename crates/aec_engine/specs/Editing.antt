@@ -1,4 +1,4 @@
--- The answer of carrying out a script: a function of the script and the coded input, or one
+-- The result of carrying out a script: a function of the script and the coded input, or one
 -- refusal.
 use Rattle.std.specs.Prelude.{◌≡◌, ℕ, ◌+◌, ◌<◌, ◌⊎◌, Option, Some, None, option_map, Result, Ok, Err, ℤ, List, ◌∷◌, length}
 use Rattle.std.specs.Option.{option_or, option_map_or}
@@ -37,7 +37,7 @@ pub record Left : Type 0 where
 abbrev pub left_with : List ℤ → ℕ → Left
 left_with samples calls = record { samples = samples; calls = calls }
 
--- What edits of the samples s leave, each with its line, made one after the other after `calls`
+-- What edits of the samples s leave, each with its line, applied one after the other after `calls`
 -- calls of the coder: each edit calls it as often as it needs. Or the first refusal, with its line:
 -- the edit doesn't fit, or too few calls are left for it. (COMMAND: Edits; over lists of samples,
 -- where the code has streams, and one count of calls)
@@ -59,13 +59,13 @@ script_left s caps script samples =
     let read : Listing = listing_of script.bytes in
     edits_left f caps.samples (first_calls f samples) samples read.edits read.lines
 
--- the result of carrying out a script: the bytes of a stream, and how often the coder has been
+-- what carrying out a script results in: the bytes of a stream, and how often the coder has been
 -- called
 pub record Recoded : Type 0 where
   pub bytes : List ℕ
   pub calls : ℕ
 
--- the answer of carrying out a script (COMMAND: Edits)
+-- the result of carrying out a script, or its refusal (COMMAND: Edits)
 pub data IsEdited (s : Settings) (caps : Caps) (count : Option ℕ) (script input : Input) : Result Recoded EditFault
     → Type 0 where
   -- the script is refused before the input is looked at
@@ -98,15 +98,15 @@ LacksMemoryOn f limit calls s (e ∷ edits) (n ∷ lines) line =
     × (((line ≡ n) × (0 < needed)) ⊎ LacksMemoryOn f limit (calls + needed) (samples_after s e) edits lines line)
 LacksMemoryOn f limit calls s edits lines line = ⊥
 
--- both sources gave what they had, and the script has no refusal
+-- both sources returned what they had, and the script has no refusal
 pub record GaveBoth (caps : Caps) (from source : Taking) (script input : Input) : Type 0 where
   pub gave_script : Gave from (are_past caps.bytes) script
   pub sound : script_refusal caps.bytes script ≡ None
   pub gave_input : Gave source (are_past caps.bytes) input
 
 -- The result of a run over the source of a script and that of an input, before anything is written:
--- the refusal of the script, with nothing taken of the input; the answer to both; or `Memory`, with
--- or without the line of an edit.
+-- the refusal of the script, with nothing taken of the input; the result for both; or `Memory`,
+-- with or without the line of an edit.
 pub data GivesEdited (s : Settings) (caps : Caps) (count : Option ℕ) (from source : Taking) : Result Recoded EditFault
     → Type 0 where
   script_refused : (script : Input) (fault : Fault) → Gave from (are_past caps.bytes) script
@@ -121,7 +121,7 @@ pub data GivesEdited (s : Settings) (caps : Caps) (count : Option ℕ) (from sou
       LacksMemoryOn f caps.samples (first_calls f samples) samples read.edits read.lines line)
       → GivesEdited s caps count from source (Err (Line line Memory))
 
--- What the engine leaves: the bytes of its answer, written after one `begin`, and it returns the
+-- What the engine leaves: the bytes of its result, written after one `begin`, and it returns the
 -- calls; or its refusal and nothing written; or a prefix of the bytes if the sink failed.
 pub data LeavesRecoded (s : Settings) (caps : Caps) (count : Option ℕ) (from source : Taking)
     (sink : Putting) : Result ℕ EditFault → Type 0 where

@@ -13,7 +13,7 @@ use Rattle.aec_engine.specs.Scripts.{Listing, listing_of}
 use Rattle.aec_engine.specs.Transfers.{Input, Taking, are_past, Gave}
 use Rattle.aec_engine.specs.Editing.{script_refusal, edits_left, LacksMemoryOn, Recoded}
 
--- a source gave a script with this listing
+-- a source returned a script with this listing
 pub record GaveScript (from : Taking) (limit : ℕ) (read : Listing) : Type 0 where
   pub script : Input
   pub gave : Gave from (are_past limit) script
@@ -26,7 +26,8 @@ pub data RefusesScript (from : Taking) (limit : ℕ) : Fault → Type 0 where
   no_edits : (script : Input) (fault : Fault) → Gave from (are_past limit) script
       → script_refusal limit script ≡ Some fault → RefusesScript from limit fault
 
--- why edits were not all made: one is refused for a reason other than memory, or memory was lacking
+-- why edits were not all applied: one is refused for a reason other than memory, or memory was
+-- lacking
 pub data StopsEditing (f : Format) (limit calls : ℕ) (s : List ℤ) (edits : List Edit) (lines : List ℕ) : EditFault
     → Type 0 where
   misfit : (fault : EditFault) → edits_left f limit calls s edits lines ≡ Err fault
@@ -34,13 +35,13 @@ pub data StopsEditing (f : Format) (limit calls : ℕ) (s : List ℤ) (edits : L
   lacks_memory : (line : ℕ) → LacksMemoryOn f limit calls s edits lines line
       → StopsEditing f limit calls s edits lines (Line line Memory)
 
--- the result of edits that were made up to the first refused one, each with a line: no refusal, or
--- the refusal with its line
+-- the result of edits that were applied up to the first refused one, each with a line: no refusal,
+-- or the refusal with its line
 abbrev pub named_by : List ℕ → Result (Unit {0}) Stop → Result (Unit {0}) EditFault
 named_by lines (Ok made) = Ok made
 named_by lines (Err stop) = Err (Line (slice_index lines stop.place) stop.fault)
 
--- the result of carrying out edits on a workspace: those before the first refused one were made,
+-- the result of carrying out edits on a workspace: those before the first refused one were applied,
 -- and the fault names its line
 pub record CarriesOut (f : Format) (limit : ℕ) (s : List ℤ) (calls reads : ℕ) (edits : List Edit) (lines : List ℕ)
     (result : Result (Unit {0}) EditFault) (left : List ℤ) (calls_after reads_after : ℕ) : Type 0 where

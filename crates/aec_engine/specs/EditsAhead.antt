@@ -1,5 +1,5 @@
 -- For proofs alone: no public contract cites this file.
--- What is left of a script whose lines are read again when their edits are made.
+-- What is left of a script whose lines are read again when their edits are applied.
 use Rattle.std.specs.Prelude.{◌≡◌, ℕ, ◌+◌, ◌-◌, ◌^◌, ◌≤◌, ◌⊎◌, Option, Some, None, option_map, MatchOption, ⊤, [], length, drop}
 use Rattle.aec_edit.specs.Early.{IsInside}
 use Rattle.aec_engine.specs.declared.script_edits.NextEdit.{NextEdit}
@@ -40,7 +40,7 @@ no_edits = record { edits = []; lines = []; bad = None }
 abbrev pub IsReady : EditsAhead → Type 0
 IsReady ahead = MatchOption ahead.next (behind ahead ≡ no_edits) (λ next. ⊤)
 
--- the edits that are left can be made: their lines are known, and the next one is ready
+-- the edits that are left can be applied: their lines are known, and the next one is ready
 pub record AreAhead (ahead : EditsAhead) : Type 0 where
   pub known : AreKnown ahead
   pub ready : IsReady ahead

@@ -1,4 +1,4 @@
--- The answers of coding and decoding for bytes in memory.
+-- The results of coding and decoding for bytes in memory.
 use Rattle.std.specs.Prelude.{◌≡◌, ℕ, ◌<◌, ◌≤◌, Option, Some, None, Ok, ℤ, List, length}
 use Rattle.aec_params.specs.declared.settings.Settings.{Settings}
 use Rattle.aec_params.specs.declared.fault.Fault.{Fault}
@@ -24,7 +24,7 @@ pub record IsCodeOf (s : Settings) (limit : ℕ) (bytes coded : List ℕ) : Type
 abbrev pub bytes_refusal : Settings → ℕ → List ℕ → Option Fault
 bytes_refusal s limit bytes = judged_samples limit (samples_of_bytes s bytes)
 
--- the stored bytes of the samples that coded bytes are read as
+-- the stored bytes of the samples that coded bytes decode to
 pub record IsStoredReadingOf (s : Settings) (caps : Caps) (count : Option ℕ) (coded bytes : List ℕ) : Type 0 where
   pub short_enough : length coded ≤ caps.bytes
   pub within : count_refusal caps.samples count ≡ None

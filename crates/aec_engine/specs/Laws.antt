@@ -13,13 +13,13 @@ use Rattle.aec_engine.specs.Editing.{script_refusal, IsEdited}
 
 -- ---- bytes or one refusal
 
--- an input has one answer
+-- an input has one result
 pub record HasOneAnswer {A E : Type 0} (answers : Input → Result A E → Type 0) (input : Input) : Type 0 where
   pub answer : Result A E
   pub is_answer : answers input answer
   pub only : (other : Result A E) → answers input other → other ≡ answer
 
--- each input has one answer of coding, of decoding and of each range
+-- each input has one result of coding, of decoding and of each range
 pub record EachInputHasOneAnswer : Type 0 where
   pub coding : (s : Settings) (caps : Caps) (input : Input) → HasOneAnswer (IsEncoded s caps) input
   pub decoding : (s : Settings) (caps : Caps) (count : Option ℕ) (input : Input) → IsAllowed s
@@ -27,13 +27,13 @@ pub record EachInputHasOneAnswer : Type 0 where
   pub ranging : (s : Settings) (caps : Caps) (count : Option ℕ) (first len : ℕ) (input : Input) → IsAllowed s
       → HasOneAnswer (IsRanged s caps count first len) input
 
--- each script and input have one answer
+-- each script and input have one result
 abbrev pub EachScriptHasOneAnswer : Type 0
 EachScriptHasOneAnswer = (s : Settings) (caps : Caps) (count : Option ℕ) (script input : Input) → IsAllowed s
     → HasOneAnswer (IsEdited s caps count script) input
 
--- a script that asks for nothing leaves all samples: the answer to each input is the code of what
--- it is read as, with one call for each interval
+-- a script that asks for nothing leaves all samples: the result for each input is the code of what
+-- it decodes to, with one call for each interval
 abbrev pub NoEditsKeepTheSamples : Type 0
 NoEditsKeepTheSamples = (s : Settings) (caps : Caps) (count : Option ℕ) (script input : Input) (samples : List ℤ)
     → script_refusal caps.bytes script ≡ None → (listing_of script.bytes).edits ≡ [] → IsRead s caps count input samples
@@ -42,7 +42,7 @@ NoEditsKeepTheSamples = (s : Settings) (caps : Caps) (count : Option ℕ) (scrip
 
 -- ---- inputs of which a front is enough
 
--- the front of an input is enough: both have one answer, the same refusal, whether or not their
+-- the front of an input is enough: both have one result, the same refusal, whether or not their
 -- source failed
 pub record IsJudgedByFront {A E : Type 0} (answers : Input → Result A E → Type 0) (front rest : List ℕ) : Type 0 where
   pub fault : E
@@ -72,7 +72,8 @@ pub record RefusedFrontsAreEnough : Type 0 where
       → caps.bytes < length front
       → IsJudgedByFront (λ script. IsEdited s caps count script input) front rest
 
--- the answer to what a source gave is the answer to all bytes that it had left, if it did not fail
+-- the result for what a source returned is the result for all bytes that it had left, if it did not
+-- fail
 abbrev pub IsJudgedWhole : {A E : Type 0} → (Input → Result A E → Type 0) → (List ℕ → Bool) → Type 0
 IsJudgedWhole {A} {E} answers enough = (source : Taking) (input : Input) (bytes : List ℕ) (answer : Result A E)
     → source.before ≡ Some bytes → source.failures ≡ 0 → Gave source enough input → answers input answer

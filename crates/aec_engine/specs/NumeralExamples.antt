@@ -1,4 +1,4 @@
--- The ranges that written-out texts stand for. A wrong line here fails the check.
+-- The ranges that written-out texts spell. A wrong line here fails the check.
 use Rattle.std.specs.Prelude.{◌≡◌, [], Some, None, codes, refl}
 use Rattle.aec_engine.specs.Numerals.{range_in}
 

@@ -18,8 +18,8 @@ abbrev pub fits_i64 : ℤ → Bool
 fits_i64 (pos n) = nat_lt n (2 ^ 63)
 fits_i64 (negsuc n) = nat_lt n (2 ^ 63)
 
--- the whole number below 2^width that a text of decimal digits alone stands for, if it is one
--- (COMMAND: Ranges; by the value of a list of digits, with no loop that stops at the first bad one)
+-- the whole number below 2^width that a text of decimal digits alone spells, if it is one (COMMAND:
+-- Ranges; by the value of a list of digits, with no loop that stops at the first bad one)
 abbrev pub decimal_in : ℕ → Text → Option ℕ
 decimal_in width text = if is_numeral text && nat_lt (digits_value 10 text) (2 ^ width)
     then Some (digits_value 10 text) else None

@@ -28,7 +28,7 @@ abbrev pub coding_refusal : Settings → ℕ → Input → Option Fault
 coding_refusal s limit input = option_or (judged_samples limit (samples_of_bytes s input.bytes))
     (if input.failed then Some Read else None)
 
--- the answer of coding (COMMAND: Limits, time and memory; how bytes are read isn't said)
+-- the result of coding (COMMAND: Limits, time and memory; how bytes are read isn't said)
 pub data IsEncoded (s : Settings) (caps : Caps) (input : Input) : Result (List ℕ) Fault → Type 0 where
   not_coded : (fault : Fault) → coding_refusal s caps.samples input ≡ Some fault → IsEncoded s caps input (Err fault)
   -- the bytes of the samples' code
@@ -47,28 +47,28 @@ abbrev pub intake_refusal : ℕ → Input → Option Fault
 intake_refusal limit input = if nat_lt limit (length input.bytes) then Some (StreamTooLong limit)
     else (if input.failed then Some Read else None)
 
--- the samples that an input is read as: it is taken whole, no count is above the limit, and its
+-- the samples that an input decodes to: it is taken whole, no count is above the limit, and its
 -- bits have this reading
 pub record IsRead (s : Settings) (caps : Caps) (count : Option ℕ) (input : Input) (samples : List ℤ) : Type 0 where
   pub taken : intake_refusal caps.bytes input ≡ None
   pub within : count_refusal caps.samples count ≡ None
   pub reading : IsReading s count caps.samples (bits_of_bytes input.bytes) samples
 
--- a source gave an input that is read as these samples
+-- a source returned an input that decodes to these samples
 pub record GaveSamples (s : Settings) (caps : Caps) (count : Option ℕ) (source : Taking)
     (samples : List ℤ) : Type 0 where
   pub input : Input
   pub gave : Gave source (are_past caps.bytes) input
   pub read : IsRead s caps count input samples
 
--- the answer of decoding (COMMAND: Order of a run)
+-- the result of decoding (COMMAND: Order of a run)
 pub data IsDecoded (s : Settings) (caps : Caps) (count : Option ℕ) (input : Input) : Result (List ℕ) Fault
     → Type 0 where
   -- the input is refused before it is read as coded data
   not_taken : (fault : Fault) → intake_refusal caps.bytes input ≡ Some fault → IsDecoded s caps count input (Err fault)
   not_counted : (fault : Fault) → intake_refusal caps.bytes input ≡ None → count_refusal caps.samples count ≡ Some fault
       → IsDecoded s caps count input (Err fault)
-  -- the samples that it is read as, or the fault of its bits
+  -- the samples that it decodes to, or the fault of its bits
   decoded : (samples : List ℤ) → IsRead s caps count input samples
       → IsDecoded s caps count input (Ok (all_stored s samples))
   faulty : (fault : Fault) → intake_refusal caps.bytes input ≡ None → count_refusal caps.samples count ≡ None
@@ -80,14 +80,14 @@ pub data IsDecoded (s : Settings) (caps : Caps) (count : Option ℕ) (input : In
 abbrev pub samples_from : ℕ → ℕ → List ℤ → List ℤ
 samples_from first len samples = take len (drop first samples)
 
--- the answer of cutting out a range (COMMAND: Ranges; a refusal of decoding, then of its place,
+-- the result of cutting out a range (COMMAND: Ranges; a refusal of decoding, then of its place,
 -- else the stored bytes of the part)
 pub data IsRanged (s : Settings) (caps : Caps) (count : Option ℕ) (first len : ℕ) (input : Input) : Result
     (List ℕ) Fault → Type 0 where
   -- the refusals of decoding: the whole input has to be sound
   not_decoded : (fault : Fault) → IsDecoded s caps count input (Err fault)
       → IsRanged s caps count first len input (Err fault)
-  -- a place outside the samples that it is read as
+  -- a place outside the samples that it decodes to
   outside : (samples : List ℤ) → IsRead s caps count input samples → length samples < first + len
       → IsRanged s caps count first len input (Err (OutOfRange (length samples)))
   cut_out : (samples : List ℤ) → IsRead s caps count input samples → first + len ≤ length samples

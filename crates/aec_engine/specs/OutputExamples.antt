@@ -1,4 +1,4 @@
--- The answers of coding and of cutting out a range for written-out inputs. A wrong line here fails
+-- The results of coding and of cutting out a range for written-out inputs. A wrong line here fails
 -- the check.
 use Rattle.std.specs.Prelude.{◌≡◌, ℕ, true, false, Some, None, Ok, Err, pos, [], ◌∷◌, List, Bool, refl}
 use Rattle.aec_params.specs.declared.fault.Fault.TheVariants.{SampleRange, TooManySamples, OutOfRange, Read}
@@ -16,7 +16,7 @@ use Rattle.aec_engine.specs.Output.{IsRanged, not_taken, not_decoded, outside, c
 abbrev at_most : ℕ → Caps
 at_most samples = record { samples = samples; bytes = 0 }
 
--- what a source gave
+-- what a source returned
 abbrev input : List ℕ → Bool → Input
 input bytes failed = record { bytes = bytes; failed = failed }
 

@@ -13,7 +13,7 @@ use Rattle.aec_interval.specs.Pieces.{Place, place_at, is_wanted_at, HasRead}
 use Rattle.aec_engine.specs.Transfers.{input_of, Taking, are_past, Gave, IsTakenWhole, Putting, Settles}
 use Rattle.aec_engine.specs.Output.{all_stored, samples_from}
 
--- a source gave bytes with these bits, and failed after them or not
+-- a source returned bytes with these bits, and failed after them or not
 pub record GaveBits (source : Taking) (limit : ℕ) (bits : List Bool) (failed : Bool) : Type 0 where
   pub bytes : List ℕ
   pub gave : Gave source (are_past limit) (input_of bytes failed)
@@ -26,7 +26,7 @@ pub record GaveWhole (before after : Option (List ℕ)) (failures limit : ℕ) (
   pub taken : IsTakenWhole before after failures limit bytes
   pub spelled : bits ≡ bits_of_bytes bytes
 
--- bits are read as these samples
+-- bits decode to these samples
 pub record AreSamplesOf (p : Place) (samples : List ℤ) : Type 0 where
   pub reading : IsReading p.settings p.count p.limit p.bits samples
 
@@ -87,7 +87,7 @@ pub record EndsAt (p : Place) (bit : ℕ) : Type 0 where
   pub read : HasRead (place_at p.settings p.count p.limit p.bits block bit) samples
   pub done : is_wanted_at (place_at p.settings p.count p.limit p.bits block bit) ≡ false
 
--- bits are read as `total` samples
+-- bits decode to `total` samples
 pub record HaveSamples (p : Place) (total : ℕ) : Type 0 where
   pub samples : List ℤ
   pub reading : IsReading p.settings p.count p.limit p.bits samples
@@ -105,7 +105,7 @@ pub data StoresPart (s : Settings) (first len : ℕ) (samples : List ℤ) : Resu
   stored : StoresPart s first len samples (Ok (all_stored s (samples_from first len samples)))
   no_room : StoresPart s first len samples (Err Memory)
 
--- the answers of decoding bits
+-- the results of decoding bits
 pub data DecodesBits (s : Settings) (count : Option ℕ) (limit : ℕ) (bits : List Bool) : Result (List ℕ) Fault
     → Type 0 where
   read : (samples : List ℤ) → count_refusal limit count ≡ None → IsReading s count limit bits samples
@@ -113,7 +113,7 @@ pub data DecodesBits (s : Settings) (count : Option ℕ) (limit : ℕ) (bits : L
   unread : (fault : Fault) → RefusesDecoding s count limit bits fault → DecodesBits s count limit bits (Err fault)
   no_memory : DecodesBits s count limit bits (Err Memory)
 
--- the answers of cutting a range out of bits
+-- the results of cutting a range out of bits
 pub data CutsBits (s : Settings) (count : Option ℕ) (limit first len : ℕ) (bits : List Bool) : Result (List ℕ) Fault
     → Type 0 where
   cut : (samples : List ℤ) → count_refusal limit count ≡ None → IsReading s count limit bits samples
@@ -126,7 +126,7 @@ pub data CutsBits (s : Settings) (count : Option ℕ) (limit first len : ℕ) (b
       → CutsBits s count limit first len bits (Err fault)
   lacks_memory : CutsBits s count limit first len bits (Err Memory)
 
--- one of these answers is written, or refused with nothing written
+-- one of these results is written, or refused with nothing written
 pub record SettlesOne (answers : Result (List ℕ) Fault → Type 0) (sink : Putting)
     (result : Result (Unit {0}) Fault) : Type 0 where
   pub answer : Result (List ℕ) Fault

@@ -24,8 +24,8 @@ is_word (byte ∷ bytes) = true
 abbrev pub words_of : Text → List Text
 words_of line = filter is_word (slice_split is_blank line)
 
--- the whole number of 64 bits that decimal digits after a sign or nothing stand for (COMMAND:
--- Scripts; by the value of a list of digits)
+-- the whole number of 64 bits that decimal digits after a sign or nothing spell (COMMAND: Scripts;
+-- by the value of a list of digits)
 abbrev pub signed_in : Text → Option ℤ
 signed_in word =
     if is_numeral (without_leading_sign word) && fits_i64 (signed_digits_value 10 word)

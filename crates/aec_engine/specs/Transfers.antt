@@ -33,7 +33,7 @@ pub data RefusesIntake (before after : Option (List ℕ)) (failures limit : ℕ)
   too_many_bytes : (bytes : List ℕ) → PassesLimit before after failures limit bytes
       → RefusesIntake before after failures limit (StreamTooLong limit)
 
--- what a source gave: its bytes in order, and whether it failed after them
+-- what a source returned: its bytes in order, and whether it failed after them
 pub record Input : Type 0 where
   pub bytes : List ℕ
   pub failed : Bool
@@ -80,8 +80,8 @@ putting_of taken begun mark failed old new =
 abbrev pub are_past : ℕ → List ℕ → Bool
 are_past limit bytes = nat_lt limit (length bytes)
 
--- the source gave this input: all to its end or its failure, or bytes that are enough for an
--- answer, whatever follows
+-- the source returned this input: all to its end or its failure, or bytes that are enough for a
+-- result, whatever follows
 pub record Gave (source : Taking) (enough : List ℕ → Bool) (input : Input) : Type 0 where
   pub taken : Consumes source.before source.after input.bytes
   pub failed : input.failed ≡ true → source.failures ≡ 1
@@ -99,8 +99,8 @@ pub record IsBegunFirst (sink : Putting) : Type 0 where
   pub once : sink.begun_after ≡ counted sink.begun_before
   pub first : Keeps sink.mark sink.before
 
--- What an engine whose answers are a function of its input leaves: its answer, written after one
--- `begin`; or its refusal or `Memory`, and nothing written; or a prefix of its answer if the sink
+-- What an engine whose results are a function of its input leaves: its result, written after one
+-- `begin`; or its refusal or `Memory`, and nothing written; or a prefix of its result if the sink
 -- failed. (COMMAND: Coding and DEST)
 pub data Leaves (answers : Input → Result (List ℕ) Fault → Type 0) (source : Taking) (enough : List ℕ → Bool)
     (sink : Putting)
@@ -115,7 +115,7 @@ pub data Leaves (answers : Input → Result (List ℕ) Fault → Type 0) (source
       → AppendsFront sink.before sink.after bytes
       → IsBegunFirst sink → sink.failures ≡ 1 → Leaves answers source enough sink (Err Write)
 
--- the result of a run over a source before anything is written: the answer to its input, or
+-- the result of a run over a source before anything is written: the result for its input, or
 -- `Memory`
 pub data GivesAnswer (answers : Input → Result (List ℕ) Fault → Type 0) (source : Taking)
     (enough : List ℕ → Bool) : Result (List ℕ) Fault → Type 0 where
@@ -123,13 +123,13 @@ pub data GivesAnswer (answers : Input → Result (List ℕ) Fault → Type 0) (s
       → GivesAnswer answers source enough answer
   lacks_memory : GivesAnswer answers source enough (Err Memory)
 
--- an answer in terms of what is asked of it, as its bytes; or its refusal
+-- a result in terms of what is asked of it, as its bytes; or its refusal
 abbrev pub answer_by : {X A E : Type 0} → (X → A) → Result X E → Result A E
 answer_by asked (Ok x) = Ok (asked x)
 answer_by asked (Err fault) = Err fault
 
--- what writing an answer leaves: its bytes, after one `begin`; nothing for a refusal; or a prefix
--- of its bytes if the sink failed
+-- what writing a result leaves: its bytes, after one `begin`; nothing for a refusal; or a prefix of
+-- its bytes if the sink failed
 pub data Settles (sink : Putting) : Result (List ℕ) Fault → Result (Unit {0}) Fault → Type 0 where
   settled : (bytes : List ℕ) → Appends sink.before sink.after bytes → IsBegunFirst sink → sink.failures ≡ 0
       → Settles sink (Ok bytes) (Ok tt)

@@ -11,8 +11,8 @@ use aec_bits::WriteSink;
 use aec_params::{Fault, Limits, Params};
 use std::alloc::Global;
 
-/// Returns the stored bytes of `len` of the samples that coded bytes are read as, from place
-/// `first` on. Fails as `decode_bytes` does, and then with `OutOfRange`.
+/// Returns the stored bytes of `len` of the samples that coded bytes decode to, from place `first`
+/// on. Fails as `decode_bytes` does, and then with `OutOfRange`.
 pub fn range_bytes(
     alloc: Global,
     params: &Params,

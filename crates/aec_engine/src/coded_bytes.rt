@@ -76,7 +76,7 @@ pub fn encode_bytes(
     bytes_in(alloc, &bits)
 }
 
-/// Puts the bytes that bits fill to the front of a buffer, if there is room for all of them.
+/// Writes the bytes that bits fill to the front of a buffer, if there is room for all of them.
 /// Returns how many bytes they take.
 fn put_front(bits: &BitBuf, out: &mut [u8]) -> u64
     ensures len { result ≡ length (bytes_of bits.now.list) }
@@ -89,7 +89,7 @@ fn put_front(bits: &BitBuf, out: &mut [u8]) -> u64
     len
 }
 
-/// Puts the bytes of the code of stored samples to the front of a buffer if there is room for all
+/// Writes the bytes of the code of stored samples to the front of a buffer if there is room for all
 /// of them, and changes no other byte of it. Returns how many bytes they take. Fails as
 /// `encode_bytes` does; the buffer is unchanged then.
 ///

@@ -1,4 +1,4 @@
-//! Makes edits over the coder of intervals, beginning with no samples, and decodes the resulting
+//! Applies edits over the coder of intervals, beginning with no samples, and decodes the resulting
 //! stream.
 
 ghost use Rattle.std.specs.Prelude.{◌≡◌, ◌≤◌, ◌^◌, [], length, Some, IfOk, IfErr};
@@ -43,7 +43,7 @@ struct Written {
     count: u64,
 }
 
-/// Makes edits, beginning with no samples, and returns the resulting stream.
+/// Applies edits, beginning with no samples, and returns the resulting stream.
 fn write_stream(
     alloc: Global,
     params: &Params,
@@ -80,13 +80,12 @@ fn write_stream(
     })
 }
 
-/// Makes edits, beginning with no samples, and decodes the bytes of the resulting stream, given the
-/// number of samples.
+/// Applies edits, beginning with no samples, and decodes the bytes of the resulting stream, given
+/// the number of samples.
 ///
 /// Each edit has an outcome that is permitted for the samples and calls that earlier edits left;
 /// the codec counts the calls. The bytes are the stream of the samples that the accepted edits
-/// leave, and given the number of these samples the bytes are read as these samples. Fails only
-/// with `Memory`.
+/// leave, and given the number of these samples the bytes decode to them. Fails only with `Memory`.
 pub fn decode_edited(
     alloc: Global,
     params: &Params,
@@ -107,7 +106,7 @@ pub fn decode_edited(
         (bits_of_bytes decoded.stream.items) decoded.samples.items) }
     ensures fault { IfErr result (λ fault. fault ≡ Memory) }
 {
-    // Laws from which clauses follow. These calls do nothing.
+    // The clauses follow from these laws. The calls do nothing.
     streams_are_read_back();
     bits_are_read_in_one_way();
     runs_leave_samples();

@@ -50,7 +50,7 @@ pub(crate) fn memory_for_write(fault: Fault) -> Fault
     }
 }
 
-/// Returns the stored bytes of the samples that coded bytes are read as: the first `count`, or all
+/// Returns the stored bytes of the samples that coded bytes decode to: the first `count`, or all
 /// without a count.
 pub fn decode_bytes(
     alloc: Global,

@@ -2,18 +2,18 @@
 
 ghost use Rattle.aec_engine.specs.Laws.{EachInputHasOneAnswer, EachScriptHasOneAnswer, NoEditsKeepTheSamples, RefusedFrontsAreEnough, WhatIsTakenIsEnough};
 
-/// Each input has exactly one answer of coding, of decoding and of each range: bytes or one
+/// Each input has exactly one result of coding, of decoding and of each range: bytes or one
 /// refusal.
 pub fn each_input_has_one_answer()
     ensures { EachInputHasOneAnswer }
 {}
 
-/// Each script and input have exactly one answer: bytes or one refusal.
+/// Each script and input have exactly one result: bytes or one refusal.
 pub fn each_script_has_one_answer()
     ensures { EachScriptHasOneAnswer }
 {}
 
-/// A script without edits results in the code of the samples that the input is read as, whatever
+/// A script without edits results in the code of the samples that the input decodes to, whatever
 /// coder wrote the input.
 pub fn no_edits_keep_the_samples()
     ensures { NoEditsKeepTheSamples }
@@ -26,7 +26,7 @@ pub fn refused_fronts_are_enough()
     ensures { RefusedFrontsAreEnough }
 {}
 
-/// If a source did not fail, the answer to the bytes taken from it is the answer to all of its
+/// If a source did not fail, the result for the bytes taken from it is the result for all of its
 /// bytes.
 pub fn what_is_taken_is_enough()
     ensures { WhatIsTakenIsEnough }

@@ -1,4 +1,4 @@
-//! The words of a script's line, and the numbers that they stand for.
+//! The words of a script's line, and the numbers that they spell.
 
 ghost use Rattle.std.specs.Prelude.{◌≡◌, ◌<◌, ◌≤◌, ◌∷◌, [], false, length, slice_index, MatchOption, IfSome};
 ghost use Rattle.std.specs.List.{position_or_len};

@@ -101,7 +101,7 @@ fn an_edit_without_calls_is_named_by_its_line(rt: HostRuntime) -> Result<(), Fai
         [0x10, 0x0C, 0x30, 0x80, 0x02].as_slice(),
     );
     same(&rt, work.calls(), u64::MAX);
-    // An edit that doesn't fit is refused for that, and an edit that codes nothing is made.
+    // An edit that doesn't fit is refused for that, and an edit that codes nothing is applied.
     let fault = Fault::OutOfRange { count: 32 };
     let line = Some(EditFault::Line { line: 1, fault });
     same(&rt, carried(&rt, alloc, &mut work, "insert 33 0")?, line);

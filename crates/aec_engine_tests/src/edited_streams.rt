@@ -15,7 +15,7 @@ fn appended(alloc: Global, values: &[i64]) -> Result<Edit, AllocError> {
 }
 
 /// Appends five samples of 7 and four more. A truncation to ten samples is refused; those to six
-/// and to five are made.
+/// and to five are applied.
 #[test]
 fn edited_streams_are_decoded(rt: HostRuntime) -> Result<(), Fail> {
     let alloc = rt.alloc();

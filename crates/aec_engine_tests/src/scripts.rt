@@ -1,4 +1,4 @@
-//! Scripts, and the edits that their lines stand for.
+//! Scripts, and the edits that their lines ask for.
 
 use crate::asserts::{holds, same, same_at};
 use aec_engine::{Script, script};

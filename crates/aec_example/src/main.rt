@@ -1,5 +1,5 @@
 //! A program that edits a coded stream in memory: it replaces one of forty-eight zeros. It prints
-//! the result of a refused edit and of one that is made, the bytes of the stream, where its
+//! the result of a refused edit and of one that is applied, the bytes of the stream, where its
 //! intervals begin, some samples that are read back, and how many intervals were coded and decoded
 //! in all.
 #![tactic(auto)]
@@ -34,7 +34,7 @@ fn edit_and_print<R: Print>(rt: &R, alloc: Global) -> Result<(), Fault> {
 }
 
 /// Returns a workspace of 48 zeros, with the one at place 20 changed. An edit past their end is
-/// refused, and the edit after it is made all the same.
+/// refused, and the edit after it is applied all the same.
 fn edited_zeros(alloc: Global, outcomes: &mut Vec<Outcome>) -> Result<Workspace<AecCodec>, Fault> {
     let params = Params::new(Settings::USUAL)?;
     let mut workspace = Workspace::new(alloc, AecCodec::new(alloc, params), 1 << 32);

@@ -93,7 +93,7 @@ impl<'a> PlainReader<'a> {
         (SEGMENT - self.place % SEGMENT).min(interval.saturating_sub(self.place))
     }
 
-    /// Returns how many blocks a coded data set stands for, or why it is refused.
+    /// Returns how many blocks a coded data set decodes to, or why it is refused.
     fn judge(&self, set: &CodedSet) -> Result<u64, Fault> {
         let bit = self.bits.start();
         let left = self.blocks_left();
@@ -155,7 +155,7 @@ impl<'a> PlainReader<'a> {
     }
 }
 
-/// Returns how many blocks the number of a run stands for, with `left` blocks left in its segment.
+/// Returns how many blocks the number of a run means, with `left` blocks left in its segment.
 fn run_len(number: u64, left: u64) -> u64 {
     match number {
         0..=3 => number + 1,

@@ -28,7 +28,7 @@ IntervalsAreTold = (s : Settings) (a b : List ℤ) (x y : List Bool) → IsAllow
     → AreOfInterval s b → length a ≡ length b
     → interval_bits s a ++ x ≡ interval_bits s b ++ y → (a ≡ b) × (x ≡ y)
 
--- the code of samples, read with their count, is read as these samples, whatever bits follow
+-- the code of samples, read with their count, decodes to these samples, whatever bits follow
 abbrev pub StreamsAreReadBack : Type 0
 StreamsAreReadBack = (s : Settings) (limit : ℕ) (samples : List ℤ) (rest : List Bool) → IsAllowed s
     → AllByRecursion (IsHeld s) samples
@@ -69,8 +69,8 @@ ReadsEach s [] [] = ⊤
 ReadsEach s (code ∷ codes) (v ∷ intervals) = ReadsBlocks s code (blocks_of s v) × ReadsEach s codes intervals
 ReadsEach s codes intervals = ⊥
 
--- if nothing is padded, such codes for the intervals of samples, one after the other, are read with
--- the count of the samples as the samples, whatever bits follow
+-- if nothing is padded, such codes for the intervals of samples, one after the other, decode to the
+-- samples if they are read with the samples' count, whatever bits follow
 abbrev pub EachCodeIsRead : Type 0
 EachCodeIsRead = (s : Settings) (limit : ℕ) (samples : List ℤ) (codes : List (List Bool)) (rest : List Bool)
     → IsAllowed s → s.pad ≡ false

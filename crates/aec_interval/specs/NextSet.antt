@@ -1,5 +1,5 @@
 -- For proofs alone: no public contract cites this file.
--- What the private functions of `reading` compute: what a coded data set that was read stands for
+-- What the private functions of `reading` compute: what a coded data set that was read decodes to
 -- after other blocks. The contract of `decode_all` cites `IsReading` and `IsFault` instead.
 use Rattle.std.specs.Prelude.{ℕ, ◌+◌, ◌-◌, ◌%◌, ◌≤◌, min, nat_lt, if◌then◌else◌, Option, Some, None, Result, Ok, Err, ℤ, List, [], ◌∷◌}
 use Rattle.std.specs.Int.{div_ceil}
@@ -21,7 +21,7 @@ abbrev pub run_count : Settings → ℕ → RunLen → ℕ
 run_count s p (Blocks z) = z
 run_count s p Rest = segment_left s p
 
--- the block after a coded data set that begins at block i and at this bit and stands for z blocks,
+-- the block after a coded data set that begins at block i and at this bit and decodes to z blocks,
 -- or its refusal: `RunTooLong` if its segment has fewer blocks left, else `TooManySamples` if the
 -- samples with it pass the limit
 abbrev pub block_behind : Settings → Option ℕ → ℕ → ℕ → ℕ → ℕ → Result ℕ Fault
@@ -39,7 +39,7 @@ kept_count s (Some count) i z = min z (div_ceil count s.block_size - i)
 abbrev pub blocks_before_end : Settings → ℕ → ℕ
 blocks_before_end s i = s.interval - i % s.interval
 
--- what a coded data set stands for can come after samples of i blocks: a block, by `IsNextBlock`;
+-- what a coded data set decodes to can come after samples of i blocks: a block, by `IsNextBlock`;
 -- or a run whose first `kept` blocks are in their interval
 abbrev pub IsNextCds : Settings → ℕ → List ℤ → ℕ → Cds → Type 0
 IsNextCds s i samples kept (Single b) = IsNextBlock s samples b
@@ -47,7 +47,7 @@ IsNextCds s i samples kept (Zeros reference len) =
     (1 ≤ kept) × ((i % s.interval + kept ≤ s.interval)
     × HasReference s (is_reference_block s (i % s.interval)) reference)
 
--- of what a coded data set stands for, the one block, or the first `kept` blocks of the run
+-- of what a coded data set decodes to, the one block, or the first `kept` blocks of the run
 abbrev pub cds_front : Settings → ℕ → Cds → List Block
 cds_front s kept (Single b) = b ∷ []
 cds_front s kept (Zeros reference len) = run_blocks s reference kept

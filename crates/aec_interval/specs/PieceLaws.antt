@@ -14,14 +14,14 @@ use Rattle.aec_interval.specs.Pieces.{Place, place_at, is_wanted_at, ReadsInterv
 pub record StepsAreTheReading (p : Place) (xs : List ℤ) : Type 0 where
   -- the samples of a step come after xs
   pub more : (ys : List ℤ) (q : Place) → ReadsInterval p ys q → HasRead q (xs ++ ys)
-  -- if no more is wanted, the bits are read as xs
+  -- if no more is wanted, the bits decode to xs
   pub all : is_wanted_at p ≡ false → IsReading p.settings p.count p.limit p.bits xs
   -- the refusal of a step is that of all bits
   pub refused : (fault : Fault) → RefusesAt p fault → RefusesReading p.settings p.count p.limit p.bits 0 0 fault
-  -- if the bits are read as samples, a step is refused only with `Memory`
+  -- if the bits decode to samples, a step is refused only with `Memory`
   pub memory_only : (samples : List ℤ) (fault : Fault) → IsReading p.settings p.count p.limit p.bits samples
       → RefusesAt p fault → fault ≡ Memory
-  -- if the bits are read as samples, xs is a front of them
+  -- if the bits decode to samples, xs is a front of them
   pub front : (samples : List ℤ) → (is_wanted_at p ≡ true → p.block % p.settings.interval ≡ 0)
       → IsReading p.settings p.count p.limit p.bits samples
       → (ys : List ℤ) × (samples ≡ xs ++ ys)

@@ -65,7 +65,7 @@ pub record ReadsIntervals (p : Place) (samples : List ℤ) (q : Place) : Type 0 
 abbrev pub HasRead : Place → List ℤ → Type 0
 HasRead p samples = ReadsPiece (place_at p.settings p.count p.limit p.bits 0 0) samples p
 
--- why the interval that begins at a place is not read: a fault in it, or want of memory for its
+-- why the interval that begins at a place is not read: a fault in it, or a lack of memory for its
 -- samples
 abbrev pub RefusesAt : Place → Fault → Type 0
 RefusesAt p fault = RefusesUpTo p.settings p.count p.limit p.bits p.block p.bit (p.block + p.settings.interval) fault

@@ -23,7 +23,7 @@ pub record IsReached (s : Settings) (count : Option ℕ) (limit : ℕ) (bits : L
   pub leads : LeadsTo s count limit bits first start sets i b
   pub filled : FillBlocks s samples (kept_blocks s count first (stream_blocks s first sets))
 
--- the bits from position `start` on, where an interval begins, are read as these samples
+-- the bits from position `start` on, where an interval begins, decode to these samples
 pub record IsReadFrom (s : Settings) (count : Option ℕ) (limit : ℕ) (bits : List Bool) (start : ℕ)
     (samples : List ℤ) : Type 0 where
   pub blocks : List Block
@@ -42,8 +42,8 @@ pub record LeadsBehindOne (s : Settings) (count : Option ℕ) (limit : ℕ) (bit
   pub bit : ℕ
   pub leads : LeadsTo s count limit bits first start (sets ++ (last ∷ [])) block bit
 
--- why a reading from block `first` at position `start` on returns no samples: its fault, or want of
--- memory for those of a coded data set that was read
+-- why a reading from block `first` at position `start` on returns no samples: its fault, or a lack
+-- of memory for those of a coded data set that was read
 pub data RefusesReading (s : Settings) (count : Option ℕ) (limit : ℕ) (bits : List Bool) (first start : ℕ) : Fault
     → Type 0 where
   no_memory : LeadsBehindOne s count limit bits first start → RefusesReading s count limit bits first start Memory
@@ -51,7 +51,7 @@ pub data RefusesReading (s : Settings) (count : Option ℕ) (limit : ℕ) (bits 
       → RefusesReading s count limit bits first start fault
 
 -- why such a reading is refused up to block `end`: the fault of a coded data set that would begin
--- before `end`, or want of memory for the samples of sets that lead to `end` at most
+-- before `end`, or a lack of memory for the samples of sets that lead to `end` at most
 pub data RefusesUpTo (s : Settings) (count : Option ℕ) (limit : ℕ) (bits : List Bool) (first start end : ℕ) : Fault
     → Type 0 where
   no_room : (h : LeadsBehindOne s count limit bits first start) → h.block ≤ end

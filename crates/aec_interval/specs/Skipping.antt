@@ -27,7 +27,7 @@ abbrev pub asked_len : Settings → Option ℕ → ℕ → ℕ → ℕ
 asked_len s None i j = (j - i) * s.block_size
 asked_len s (Some count) i j = min ((j - i) * s.block_size) (count - i * s.block_size)
 
--- the next interval is read as `len` samples (`ReadsInterval` of some list of samples)
+-- the next interval decodes to `len` samples (`ReadsInterval` of some list of samples)
 pub record HasInterval (p : Place) (len : ℕ) (q : Place) : Type 0 where
   pub samples : List ℤ
   pub read : ReadsInterval p samples q
@@ -37,7 +37,7 @@ pub record HasInterval (p : Place) (len : ℕ) (q : Place) : Type 0 where
 abbrev pub IsFaultAt : Place → Fault → Type 0
 IsFaultAt p fault = IsFaultBefore p.settings p.count p.limit p.bits p.block p.bit (p.block + p.settings.interval) fault
 
--- wanted and lawful coded data sets, from where an interval begins, stand for samples
+-- wanted and lawful coded data sets, from where an interval begins, decode to samples
 abbrev pub AllSetsStandForSamples : Type 0
 AllSetsStandForSamples = (s : Settings) (count : Option ℕ) (limit : ℕ) (bits : List Bool) (i b : ℕ)
     (sets : List CodedDataSet) (j e : ℕ) → IsAllowed s

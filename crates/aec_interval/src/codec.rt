@@ -182,8 +182,8 @@ fn append_decoded(
     append_list(&samples, out)
 }
 
-/// Puts the first `count` samples that the bits from place `pos` on stand for, at most those of one
-/// interval, into an empty list.
+/// Appends to an empty list the first `count` samples that the bits from place `pos` on decode to,
+/// at most those of one interval.
 fn read_counted(
     alloc: Global,
     params: &Params,
@@ -216,7 +216,7 @@ fn read_counted(
     Ok(())
 }
 
-/// Puts the samples of the interval whose code begins at bit `pos` into an empty list. Fails with
+/// Appends to an empty list the samples of the interval whose code begins at bit `pos`. Fails with
 /// `Memory` if an allocation fails; the list is then empty.
 fn fill_empty(
     alloc: Global,

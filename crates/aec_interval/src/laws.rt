@@ -24,7 +24,7 @@ pub fn intervals_are_told()
     ensures { IntervalsAreTold }
 {}
 
-/// The code of samples, read with their count, is read as these samples, whatever bits follow it.
+/// The code of samples, read with their count, decodes to these samples, whatever bits follow it.
 pub fn streams_are_read_back()
     ensures { StreamsAreReadBack }
 {}
@@ -46,9 +46,9 @@ pub fn codes_are_shortest()
     ensures { AllCodesAreShortest }
 {}
 
-/// If nothing is padded, coded data sets for the blocks of each interval, one after the other, are
-/// read with the count of the samples as the samples, whatever bits follow. So all that
-/// `codes_are_shortest` compares with the code of the samples is read as these samples.
+/// If nothing is padded, coded data sets for the blocks of each interval, one after the other,
+/// decode to the samples if they are read with the samples' count, whatever bits follow. So all
+/// that `codes_are_shortest` compares with the code of the samples decodes to these samples.
 pub fn each_code_is_read()
     ensures { EachCodeIsRead }
 {}
@@ -59,13 +59,13 @@ pub fn cuts_make_no_difference()
     ensures { AllCutsMakeNoDifference }
 {}
 
-/// What a `StreamReader` returns step by step is what the bits are read as, and its refusal is that
-/// of all bits.
+/// A `StreamReader` returns, step by step, the samples that the bits decode to, and its refusal is
+/// that of all bits.
 pub fn steps_are_the_reading()
     ensures { AllStepsAreTheReading }
 {}
 
-/// Lawful coded data sets from the start of an interval on stand for samples.
+/// Lawful coded data sets from the start of an interval on decode to samples.
 pub fn coded_data_sets_stand_for_samples()
     ensures { AllSetsStandForSamples }
 {}

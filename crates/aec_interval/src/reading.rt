@@ -129,7 +129,7 @@ pub(crate) fn block_count(params: &Params, place: u64, len: RunLen) -> u64
 }
 
 /// Returns the number of the block after a coded data set that begins at bit `bit`, at place
-/// `place` of its interval, and stands for `len` blocks. Fails with `RunTooLong` if its segment has
+/// `place` of its interval, and decodes to `len` blocks. Fails with `RunTooLong` if its segment has
 /// fewer blocks left, else with `TooManySamples` if the samples pass the limit.
 pub(crate) fn block_after_set(
     params: &Params,
@@ -319,7 +319,7 @@ pub(crate) fn cut_to_count(params: &Params, wanted: Wanted, samples: &mut Vec<i6
     }
 }
 
-/// Puts the samples that the bits from `wanted.start` on stand for into an empty list: with a
+/// Appends to an empty list the samples that the bits from `wanted.start` on decode to: with a
 /// count, the first `count`; without one, all samples of all blocks.
 fn decode_list(
     alloc: Global,
@@ -359,7 +359,7 @@ fn decode_list(
     Ok(())
 }
 
-/// Returns the samples that the bits from `wanted.start` on stand for: with a count, the first
+/// Returns the samples that the bits from `wanted.start` on decode to: with a count, the first
 /// `count`; without one, all samples of all blocks.
 pub(crate) fn decode_from(
     alloc: Global,

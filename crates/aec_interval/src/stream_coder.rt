@@ -78,9 +78,9 @@ impl StreamCoder {
     ///
     /// Fails at the first refused sample: with `TooManySamples` past the limit; with `SampleRange`
     /// and its index, counted from the first of all pieces; with `Memory` at a sample that is
-    /// neither too many nor out of range. What was appended is then the code of the intervals
-    /// complete before that sample; for `Memory`, of some of these intervals, from the first on, or
-    /// nothing. From then on each call returns the same refusal and changes nothing.
+    /// neither too many nor out of range. The code of the intervals complete before that sample is
+    /// then appended; after `Memory`, that of the first few of these intervals, or nothing. From
+    /// then on each call returns the same refusal and changes nothing.
     pub fn feed(&mut self, piece: &[u8], out: &mut BitBuf) -> Result<(), Fault>
         ensures ok { OnOk result (Feeds self.old piece.now out.old.list out.new.list self.new) }
         ensures refuses { MatchOption self.old.refusal

@@ -11,8 +11,8 @@ use aec_params::{Fault, Params};
 use std::alloc::Global;
 use std::marker::Model;
 
-/// Reads the samples that coded bits stand for, as `decode_all` does, and hands them out interval
-/// by interval. It keeps no samples, only the values of one block. Contracts see its place.
+/// Reads the samples that coded bits decode to, as `decode_all` does, and returns them interval by
+/// interval. It keeps no samples, only the values of one block. Contracts see its place.
 #[derive(Debug, Drop)]
 pub struct StreamReader<'a> {
     params: Params,

@@ -44,8 +44,8 @@ fn code_intervals(alloc: Global, params: &Params, samples: &[i64]) -> Result<Bit
 /// is allocated; else with `Memory` if an allocation fails.
 ///
 /// Without padding no coded data sets for the same blocks are shorter: take for each interval any
-/// bits that the definitions read as its blocks, including the filler of the last block, by any
-/// options and any runs. Together these bits are never fewer than ours.
+/// bits that by the definitions decode to its blocks, including the filler of the last block, by
+/// any options and any runs. Together these bits are never fewer than ours.
 pub fn encode_all(alloc: Global, params: &Params, samples: &[i64]) -> Result<BitBuf, Fault>
     ensures ok { IfOk result (λ b. b.list ≡ stream_of params.now samples.now) }
     ensures shortest { params.now.pad ≡ false → IfOk result (λ b. (codes : List (List Bool))

@@ -1,4 +1,4 @@
-//! Bytes read as samples.
+//! Bytes that are decoded to samples.
 
 use crate::settings::{even_blocks, padded, unprocessed, with_interval};
 use crate::streams::{expect_read, expect_zeros};

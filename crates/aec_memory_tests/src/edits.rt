@@ -219,7 +219,7 @@ const LINES: &str = "# p\noverwrite 20 1 -2\nappend\ntruncate 5";
 
 const MOVING_LINES: &str = "insert 3 1 -2\nremove 4 5\ninsert 0";
 
-/// Makes edits one by one, a range, a run of edits, and scripts.
+/// Applies edits one by one, reads a range, runs a list of edits, and reads scripts.
 pub fn try_edits<R: Print + Eprint>(rt: &R, alloc: Global) -> Result<(), Fault> {
     try_calls(rt, &ZEROS_EDITED, &mut Edits::new(alloc, 48, ZEROS)?);
     try_calls(rt, &EDITED[..3], &mut Edits::new(alloc, 48, SEVENS)?);

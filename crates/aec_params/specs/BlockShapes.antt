@@ -17,12 +17,12 @@ pub record IsBlockOf (s : Settings) (is_reference : Bool) (b : Block) : Type 0 w
   pub below : AllByRecursion (λ v. v < 2 ^ s.bits) b.values
   pub place : HasReferencePlace b.reference b.values
 
--- a block that can stand at block p of an interval (§4)
+-- a block that an interval can have as its block p (§4)
 abbrev pub IsBlockAt : Settings → ℕ → Block → Type 0
 IsBlockAt s p b = IsBlockOf s (is_reference_block s p) b
 
--- blocks that can stand from block i of the stream on, one after the other (§4; the blocks of
--- samples are these, and no others: law `samples_are_blocks`)
+-- blocks that a stream can have from block i on, one after the other (§4; the blocks of samples are
+-- these, and no others: law `samples_are_blocks`)
 abbrev pub AreBlocksFrom : Settings → ℕ → List Block → Type 0
 AreBlocksFrom s i [] = ⊤
 AreBlocksFrom s i (b ∷ blocks) = IsBlockAt s (i % s.interval) b × AreBlocksFrom s (i + 1) blocks

@@ -88,7 +88,7 @@ pub record HasShape (s : Settings) (is_reference : Bool) (c : CodedDataSet) : Ty
   pub body : HasBody s is_reference c.body
 
 -- the numbers that are judged: all values, but in a reference block not the first member of the
--- first pair (§12; a list, where the code passes over that member)
+-- first pair (§12; a list, where the code skips that member)
 abbrev pub judged_in : Option ℕ → Body → List ℕ
 judged_in reference (uncompressed_values values) = values
 judged_in None (value_pairs values) = values

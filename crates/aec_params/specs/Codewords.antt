@@ -24,7 +24,7 @@ abbrev pub padded_to_byte : List Bool → List Bool
 padded_to_byte bits = bits ++ replicate (up_to_multiple 8 (length bits)) false
 
 -- the bytes that bits fill, the last one filled with zeros (§10; the list of all bytes, where the
--- code makes the byte that is asked for)
+-- code computes the byte that is asked for)
 abbrev pub bytes_of : List Bool → List ℕ
 bytes_of bits = map bits_number (pieces_of 8 (padded_to_byte bits))
 

@@ -44,7 +44,7 @@ moved_intervals n len count places =
 -- how many intervals, each of n samples, an edit codes if the list has `old` samples: those of the
 -- result that hold a new sample or are cut anew. By the law `moves_code_what_is_new` an insertion
 -- or a removal codes exactly the intervals that did not exist before; the law `moves_by_length`
--- gives their number.
+-- states their number.
 abbrev pub needed_calls : ℕ → ℕ → Edit → ℕ
 needed_calls n old (Overwrite first values) = length (touched_intervals n first (length values))
 needed_calls n old (Append values) = if length values == 0 then 0 else div_ceil (old + length values) n - old / n

@@ -7,13 +7,13 @@ use Rattle.aec_params.specs.CodedDataSets.{CodedDataSet, HasShape, has_small_val
 use Rattle.aec_params.specs.Places.{stays_in_segment, is_reference_block, IsLawfulAt}
 use Rattle.aec_params.specs.Reading.{StandsAt, next_block, is_wanted, keeps_limit, LeadsTo}
 
--- a coded data set, lawful or not, of a reference block or of another, that stands at position b
+-- a coded data set, lawful or not, of a reference block or of another, that begins at position b
 -- (§12)
 pub record IsSetAt (s : Settings) (is_reference : Bool) (bits : List Bool) (b : ℕ) (c : CodedDataSet) : Type 0 where
   pub shape : HasShape s is_reference c
   pub stands : StandsAt s bits b c
 
--- why no coded data set is read at position b (§12; no coded data set at all stands there, where
+-- why no coded data set is read at position b (§12; no coded data set at all begins there, where
 -- the code runs out of bits)
 pub data IsNotRead (s : Settings) (is_reference : Bool) (bits : List Bool) (b : ℕ) : Fault → Type 0 where
   -- none begins there

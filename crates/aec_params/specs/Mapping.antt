@@ -29,8 +29,8 @@ abbrev pub mapped_after : Settings → ℤ → List ℤ → List ℕ
 mapped_after s p [] = []
 mapped_after s p (x ∷ xs) = mapped_value s p x ∷ mapped_after s x xs
 
--- an interval's samples mapped; with preprocessing 0 stands in the place of the first, the
--- reference sample (§4; all at once, where the code carries one sample)
+-- an interval's samples mapped; with preprocessing 0 takes the place of the first, the reference
+-- sample (§4; all at once, where the code carries one sample)
 abbrev pub mapped_values : Settings → List ℤ → List ℕ
 mapped_values s [] = []
 mapped_values s (x ∷ xs) = (if s.preprocess then 0 else sample_pattern s x) ∷ mapped_after s x xs

@@ -1,4 +1,4 @@
--- Coded data sets at their place in an interval: which blocks they stand for, and when they are
+-- Coded data sets at their place in an interval: which blocks they decode to, and when they are
 -- lawful there.
 use Rattle.std.specs.Prelude.{◌≡◌, ℕ, ◌+◌, ◌-◌, ◌%◌, min, Bool, true, ◌&&◌, ◌==◌, nat_lt, nat_le, if◌then◌else◌, Option, Some, None, List, [], ◌∷◌, replicate, unwrap_or}
 use Rattle.aec_params.specs.declared.settings.Settings.{Settings}
@@ -17,18 +17,18 @@ segment_left s p = min (segment_len - p % segment_len) (s.interval - p)
 abbrev pub told_blocks : ℕ → Option ℕ
 told_blocks m = if nat_lt m 4 then Some (m + 1) else (if m == 4 then None else Some m)
 
--- how many blocks the number of a run's code stands for at block p of an interval (§8)
+-- how many blocks the number of a run's code means at block p of an interval (§8)
 abbrev pub run_len : Settings → ℕ → ℕ → ℕ
 run_len s p m = unwrap_or (told_blocks m) (segment_left s p)
 
--- how many blocks a coded data set with this body stands for at block p (§7)
+-- how many blocks a coded data set with this body decodes to at block p (§7)
 abbrev pub body_blocks : Settings → ℕ → Body → ℕ
 body_blocks s p (uncompressed_values values) = 1
 body_blocks s p (value_pairs values) = 1
 body_blocks s p (split_values k values) = 1
 body_blocks s p (zero_blocks m) = run_len s p m
 
--- how many blocks a coded data set stands for at block p (§7)
+-- how many blocks a coded data set decodes to at block p (§7)
 abbrev pub block_count : Settings → ℕ → CodedDataSet → ℕ
 block_count s p c = body_blocks s p c.body
 
@@ -47,8 +47,8 @@ pub record IsLawfulAt (s : Settings) (p : ℕ) (c : CodedDataSet) : Type 0 where
   pub small : has_small_values s c ≡ true
   pub within : stays_in_segment s p c ≡ true
 
--- values with 0 put in the reference place, if there is one (§4; lists, where the code puts the 0
--- first and goes on)
+-- values with 0 added in the reference place, if there is one (§4; lists, where the code writes the
+-- 0 first and goes on)
 abbrev pub placed_values : Option ℕ → List ℕ → List ℕ
 placed_values None values = values
 placed_values (Some r) values = 0 ∷ values
@@ -70,7 +70,7 @@ block_of_members reference members = record { reference = reference; values = pl
 abbrev pub zero_block : Settings → Option ℕ → Block
 zero_block s reference = record { reference = reference; values = replicate s.block_size 0 }
 
--- the blocks that a reference and a body stand for at block p (§12; a list of blocks, also for a
+-- the blocks that a reference and a body decode to at block p (§12; a list of blocks, also for a
 -- run, where the code pushes samples)
 abbrev pub blocks_in : Settings → ℕ → Option ℕ → Body → List Block
 blocks_in s p reference (uncompressed_values values) = block_of_values reference values ∷ []
@@ -78,6 +78,6 @@ blocks_in s p reference (value_pairs members) = block_of_members reference membe
 blocks_in s p reference (split_values k values) = block_of_values reference values ∷ []
 blocks_in s p reference (zero_blocks m) = zero_block s reference ∷ replicate (run_len s p m - 1) (zero_block s None)
 
--- the blocks that a coded data set stands for at block p (§12)
+-- the blocks that a coded data set decodes to at block p (§12)
 abbrev pub cds_blocks : Settings → ℕ → CodedDataSet → List Block
 cds_blocks s p c = blocks_in s p c.reference c.body

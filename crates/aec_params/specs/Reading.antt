@@ -1,4 +1,4 @@
--- Reading: which samples a list of bits stands for, with a sample count or without, and else its
+-- Reading: which samples a list of bits decodes to, with a sample count or without, and else its
 -- first fault.
 use Rattle.std.specs.Prelude.{◌≡◌, ℕ, ◌+◌, ◌-◌, ◌*◌, ◌%◌, ◌<◌, min, Bool, true, false, ◌&&◌, ◌==◌, nat_lt, nat_le, if◌then◌else◌, IsTrue, Option, Some, None, ℤ, List, [], ◌∷◌, ◌++◌, length, take, drop}
 use Rattle.std.specs.List.{list_any, AllByRecursion, flat_map}
@@ -20,7 +20,7 @@ abbrev pub Covers : Settings → ℕ → ℕ → List CodedDataSet → Type 0
 Covers s n p [] = IsTrue (nat_le n p)
 Covers s n p (c ∷ sets) = (p < n) × IsLawfulAt s p c × Covers s n (p + block_count s p c) sets
 
--- the blocks that coded data sets from block p of an interval on stand for (§12)
+-- the blocks that coded data sets from block p of an interval on decode to (§12)
 abbrev pub covered_blocks : Settings → ℕ → List CodedDataSet → List Block
 covered_blocks s p [] = []
 covered_blocks s p (c ∷ sets) = cds_blocks s p c ++ covered_blocks s (p + block_count s p c) sets
@@ -34,8 +34,8 @@ pub record ReadsBlocks (s : Settings) (bits : List Bool) (blocks : List Block) :
 
 -- ---- a whole stream: block i of the stream is block i % r of its interval
 
--- the coded data set c stands in the bits from position b on (§12; the bits from there on are its
--- bits and then others)
+-- the coded data set c begins at position b of the bits (§12; the bits from there on are its bits
+-- and then others)
 abbrev pub StandsAt : Settings → List Bool → ℕ → CodedDataSet → Type 0
 StandsAt s bits b c = drop b bits ≡ cds_bits s c ++ drop (b + length (cds_bits s c)) bits
 
@@ -72,7 +72,7 @@ LeadsTo s count limit bits i b (c ∷ sets) j e =
     × (keeps_limit s count limit (next_block s i c) ≡ true)
     × LeadsTo s count limit bits (next_block s i c) (next_begin s bits i b c) sets j e
 
--- the blocks that coded data sets from block i of the stream on stand for (§12)
+-- the blocks that coded data sets from block i of the stream on decode to (§12)
 abbrev pub stream_blocks : Settings → ℕ → List CodedDataSet → List Block
 stream_blocks s i [] = []
 stream_blocks s i (c ∷ sets) = cds_blocks s (i % s.interval) c ++ stream_blocks s (next_block s i c) sets
@@ -83,8 +83,8 @@ abbrev pub kept_blocks : Settings → Option ℕ → ℕ → List Block → List
 kept_blocks s (Some count) i blocks = take (div_ceil count s.block_size - i) blocks
 kept_blocks s None i blocks = blocks
 
--- the bits from block i at position b on are read as these blocks (§12; that coded data sets for
--- them exist)
+-- the bits from block i at position b on decode to these blocks (§12; that coded data sets for them
+-- exist)
 pub record IsBlockReading (s : Settings) (count : Option ℕ) (limit : ℕ) (bits : List Bool) (i b : ℕ)
     (blocks : List Block) : Type 0 where
   pub sets : List CodedDataSet
@@ -106,7 +106,7 @@ abbrev pub counted_samples : Option ℕ → List ℤ → List ℤ
 counted_samples (Some count) samples = take count samples
 counted_samples None samples = samples
 
--- the bits are read as these samples (§12; bits have one reading at most or one fault, never both:
+-- the bits decode to these samples (§12; bits have one reading at most or one fault, never both:
 -- law `bits_are_read_in_one_way`)
 pub record IsReading (s : Settings) (count : Option ℕ) (limit : ℕ) (bits : List Bool) (samples : List ℤ) : Type 0 where
   pub blocks : List Block

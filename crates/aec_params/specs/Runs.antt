@@ -19,7 +19,7 @@ segment_len = 64
 abbrev pub segments_of : List Block → List (List Block)
 segments_of blocks = pieces_of segment_len blocks
 
--- groups with a zero block and its reference put before them: if the first group is a run, the
+-- groups with a zero block and its reference added before them: if the first group is a run, the
 -- block joins it (§8)
 abbrev pub with_zero_block : Option ℕ → List Group → List Group
 with_zero_block reference (zero_run later z ∷ groups) = zero_run reference (z + 1) ∷ groups

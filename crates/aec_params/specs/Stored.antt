@@ -56,7 +56,8 @@ samples_of_groups s i [] = Ok []
 samples_of_groups s i (g ∷ gs) = sample_before (sample_of_number s (number_in s g)) i (samples_of_groups s (i + 1) gs)
 
 -- the samples that bytes hold, or the index of the first group that is no sample (§2; one function
--- with both results, where the code goes over the bytes twice: to check them, then to read them)
+-- with both results, where the code reads the bytes twice: to check them, then to take their
+-- samples)
 abbrev pub samples_of_bytes : Settings → List ℕ → Result (List ℤ) ℕ
 samples_of_bytes s bytes = samples_of_groups s 0 (byte_groups s bytes)
 

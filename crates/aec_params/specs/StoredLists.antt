@@ -13,7 +13,7 @@ least_extended s = 2 ^ (8 * storage_len s) - (if s.signed then 2 ^ (s.bits - 1) 
 abbrev pub IsOutside : ℕ → ℕ → ℕ → Type 0
 IsOutside low high u = (u < low) ⊎ (high ≤ u)
 
--- the numbers that stand in bytes one after the other, n bytes each, are all outside
+-- the numbers that bytes contain one after the other, n bytes each, are all outside
 abbrev pub AreOutside : (List ℕ → ℕ) → ℕ → List ℕ → ℕ → ℕ → Type 0
 AreOutside number n bytes low high = (k : ℕ) → k < length bytes / n → IsOutside low high (number (drop (n * k) bytes))
 

@@ -116,7 +116,7 @@ impl Params {
     pub fn known_allowed(&self)
         ensures { IsAllowed self.now }
     {
-        // For the clause alone: the type's invariant is known of what is read.
+        // The clause relies on this read: the type's invariant is known of what is read.
         let _settings = &self.settings;
     }
 

@@ -70,7 +70,7 @@ pub fn append_samples(params: &Params, bytes: &[u8], samples: &mut Vec<i64>) -> 
     Ok(())
 }
 
-/// Puts the samples of bytes in which `first_bad` finds none into a slice of exactly their number.
+/// Writes the samples of bytes in which `first_bad` finds none to a slice of exactly their number.
 /// Allocates nothing.
 pub fn load_samples(params: &Params, bytes: &[u8], out: &mut [i64])
     requires good { result_err (samples_of_bytes params.now bytes.now) ≡ None }

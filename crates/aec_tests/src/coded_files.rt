@@ -3,7 +3,7 @@
 use crate::runs::runs_end_so;
 use std::test::Fail;
 
-// With the usual settings: no samples, and zero bits that stand for none; a zero block; a ramp;
+// With the usual settings: no samples, and zero bits that decode to none; a zero block; a ramp;
 // filler; two intervals. In the last two rows SOURCE is also DEST.
 const USUAL: &str = "\
          in got |                         | 0 |

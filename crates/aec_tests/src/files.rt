@@ -64,10 +64,10 @@ fn sources_go_step_by_step(rt: HostRuntime) -> Result<(), Fail> {
 }
 
 // A row: the name of the file; the steps; how often the sink has then failed and begun; how it
-// ends, or `-` if it isn't finished. `abc=3` puts `abc`, of which 3 bytes are taken; `abc!` puts it
-// and fails; `+abc` writes the file, and `?abc` checks that it holds `abc`. The rows: a file that
-// exists and is emptied; a second `begin`; bytes before `begin`; a file that can't be created; a
-// full one; one that can't be synced; a sink without `begin`.
+// ends, or `-` if it isn't finished. `abc=3` calls `put` with `abc`, of which 3 bytes are taken;
+// `abc!` calls it with `abc`, and the call fails; `+abc` writes the file, and `?abc` checks that it
+// holds `abc`. The rows: a file that exists and is emptied; a second `begin`; bytes before `begin`;
+// a file that can't be created; a full one; one that can't be synced; a sink without `begin`.
 const SINKS: &str = "\
 written        | +there-before ?there-before begin ? abc=3 =0 de=2 ?abcde | 0 1 | -
 kept           | begin abc=3 begin ?abc de=2 ?abcde | 0 2 | ends

@@ -84,7 +84,7 @@ fn next_sequence(window: Window) -> (u32, Window)
     (window.left - top - 1, rest)
 }
 
-/// Puts the numbers of the next fundamental sequences into `numbers`, one by one. Returns the
+/// Fills `numbers` with the numbers of the next fundamental sequences, one by one. Returns the
 /// window after them; `None` if the 64 bits at one of them have no 1.
 #[inline(never)]
 fn sequences_one_by_one(buf: &BitBuf, window: Window, numbers: &mut [u32]) -> Option<Window>
@@ -105,7 +105,7 @@ fn sequences_one_by_one(buf: &BitBuf, window: Window, numbers: &mut [u32]) -> Op
     Some(rest)
 }
 
-/// Puts the numbers of the fundamental sequences that begin a window into `numbers`, and returns
+/// Fills `numbers` with the numbers of the fundamental sequences that begin a window, and returns
 /// what is left after them. The window has a 1 bit for each, so each is found.
 #[inline(always)]
 fn sequences_within(window: Window, numbers: &mut [u32]) -> Window
@@ -147,7 +147,7 @@ fn with_ones(buf: &BitBuf, window: Window, count: usize) -> Window
     window_from(buf, place_of(window))
 }
 
-/// Puts the numbers of the next fundamental sequences into `numbers`, with one test for all if 64
+/// Fills `numbers` with the numbers of the next fundamental sequences, with one test for all if 64
 /// bits have a 1 for each. Returns the window after them; `None` if the 64 bits at one of them have
 /// no 1.
 #[inline(always)]
@@ -163,7 +163,7 @@ fn next_sequences(buf: &BitBuf, window: Window, numbers: &mut [u32]) -> Option<W
     sequences_one_by_one(buf, ready, numbers)
 }
 
-/// Puts the numbers of the fundamental sequences from place `start` on into `numbers`, eight at a
+/// Fills `numbers` with the numbers of the fundamental sequences from place `start` on, eight at a
 /// time. Returns the place after them; `None` if the 64 bits at one of them have no 1.
 #[inline(always)]
 pub(crate) fn sequences_from(buf: &BitBuf, start: u64, numbers: &mut [u32]) -> Option<u64>
@@ -309,7 +309,7 @@ fn numbers_within(word: u64, width: u32, numbers: &mut [u32])
     }
 }
 
-/// Puts the next numbers into `numbers`, `N` at a time.
+/// Fills `numbers` with the next numbers, `N` at a time.
 #[inline(always)]
 fn numbers_by<const N: usize>(buf: &BitBuf, start: u64, width: u32, numbers: &mut [u32])
     requires some { 0 < N }

@@ -61,8 +61,8 @@ fn refuses_the_first_bad_sample(rt: HostRuntime) -> Result<(), Fail> {
     Ok(())
 }
 
-// Checks that `bytes` are read as one sample `x`, and that `x` is written as `bytes`, with later
-// bytes unchanged.
+// Checks that `bytes` are the one sample `x`, and that `x` is written as `bytes`, with later bytes
+// unchanged.
 fn goes_both_ways(
     rt: &impl Abort,
     alloc: Global,

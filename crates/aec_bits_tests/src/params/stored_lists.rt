@@ -7,8 +7,8 @@ use std::alloc::Global;
 use std::process::Abort;
 use std::test::Fail;
 
-// Checks that `bytes` have no bad sample, are read as `wanted`, also after another sample, and are
-// written back.
+// Checks that `bytes` have no bad sample, that their samples are `wanted`, also after another
+// sample, and that these are written back as `bytes`.
 fn goes_both_ways(
     rt: &impl Abort,
     alloc: Global,

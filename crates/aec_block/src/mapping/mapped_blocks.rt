@@ -79,7 +79,7 @@ fn map_predicted(params: &Params, previous: i64, samples: &[i64], values: &mut [
     map_offsets(top, p, values);
 }
 
-/// Puts the patterns of samples into `values`.
+/// Fills `values` with the patterns of samples.
 #[inline(always)]
 fn put_patterns(params: &Params, samples: &[i64], values: &mut [u32])
     requires { HaveValuePlaces params.now samples.now values.old }

@@ -9,7 +9,7 @@ use crate::mapping::small_differences::{are_near, near_differences, next_places,
 use crate::mapping::{greatest_offset, offset_of, unmap_offset};
 use aec_params::Params;
 
-/// Puts the samples for which values are coded into `samples`, the first predicted from the sample
+/// Fills `samples` with the samples for which values are coded, the first predicted from the sample
 /// at `offset`. Returns the offset of the last.
 #[inline(always)]
 fn put_each(params: &Params, offset: u32, values: &[u32], samples: &mut [i64]) -> u32
@@ -35,8 +35,8 @@ fn put_far(params: &Params, offset: u32, values: &[u32], samples: &mut [i64]) ->
     put_each(params, offset, values, samples)
 }
 
-/// Puts the samples for which eight near values are coded, and whose offsets are given, into
-/// `samples`. Returns the offset of the last.
+/// Fills `samples` with the samples for which eight near values are coded, and whose offsets are
+/// passed. Returns the offset of the last.
 #[inline(always)]
 fn put_near(
     params: &Params,
@@ -60,7 +60,7 @@ fn put_near(
     place
 }
 
-/// Puts the samples for which eight values are coded into `samples`, at once if all are near, else
+/// Fills `samples` with the samples for which eight values are coded, at once if all are near, else
 /// one by one. Returns the offset of the last.
 #[inline(always)]
 fn put_eight(params: &Params, offset: u32, values: &[u32], samples: &mut [i64]) -> u32
@@ -77,7 +77,7 @@ fn put_eight(params: &Params, offset: u32, values: &[u32], samples: &mut [i64]) 
     put_far(params, offset, values, samples)
 }
 
-/// Puts the samples of the first values into the front of `samples`, eight at a time, until fewer
+/// Writes the samples of the first values to the front of `samples`, eight at a time, until fewer
 /// than eight are left. Returns the offset of the last.
 #[inline(always)]
 fn put_eights(params: &Params, offset: u32, values: &[u32], samples: &mut [i64]) -> u32
@@ -96,8 +96,8 @@ fn put_eights(params: &Params, offset: u32, values: &[u32], samples: &mut [i64])
     last
 }
 
-/// Puts the samples for which values are coded into `samples`, with preprocessing: eight at a time,
-/// and the last few, fewer than eight, one by one.
+/// Fills `samples` with the samples for which values are coded, with preprocessing: eight at a
+/// time, and the last few, fewer than eight, one by one.
 #[inline(always)]
 fn put_offsets(params: &Params, previous: i64, values: &[u32], samples: &mut [i64])
     requires on { params.now.preprocess ≡ true }
@@ -111,7 +111,7 @@ fn put_offsets(params: &Params, previous: i64, values: &[u32], samples: &mut [i6
     put_each(params, last, &values[done..], &mut samples[done..]);
 }
 
-/// Puts the samples of patterns into `samples`.
+/// Fills `samples` with the samples of patterns.
 fn put_patterns(params: &Params, patterns: &[u32], samples: &mut [i64])
     requires off { params.now.preprocess ≡ false }
     requires values { HaveSamplePlaces params.now patterns.now samples.old }

@@ -33,13 +33,12 @@ pub fn is_plain_next(params: &Params, reader: &mut BitReader) -> bool
     matches!(kind, Ok(Kind::NoCompression | Kind::Split(_)))
 }
 
-/// Reads the coded data set that begins at the reader's place as one without a reference sample and
-/// moves past it, if it is plain and its values are at most the greatest that the width has:
-/// `values` then contains them. Else returns false; the reader then hasn't moved, and the contents
-/// of `values` are unspecified. Allocates nothing. Inlined for blocks of `N` values; other blocks
-/// are read too. `COPY` is for speed alone: with any number the result is the same. Calls with
-/// different `COPY` share no code, since the compiler inlines a large function only into its only
-/// caller. This crate uses 0 to 2.
+/// Reads a plain coded data set without a reference sample into `values`, and moves past it.
+/// Returns false if none begins at the reader's place, or if a value of it is above the greatest
+/// that the width has; the reader then hasn't moved, and the contents of `values` are unspecified.
+/// Allocates nothing. Inlined for blocks of `N` values; other blocks are read too. `COPY` is for
+/// speed alone: with any number the result is the same. Calls with different `COPY` share no code,
+/// since the compiler inlines a large function only into its only caller. This crate uses 0 to 2.
 #[inline(always)]
 #[tactic(auto, using(crate::proofs::NoPlainLemmas::none_stands))]
 pub fn read_plain<const N: usize, const COPY: usize>(
@@ -76,9 +75,9 @@ pub fn read_plain<const N: usize, const COPY: usize>(
     true
 }
 
-/// Reads the next coded data set, one with a reference sample, if it is plain and all its values
-/// are at most the greatest that the width has: `values` then contains those that are written.
-/// Returns the pattern of the reference sample; else `None`, or a fault.
+/// Reads a plain coded data set with a reference sample, and writes to `values` those of its values
+/// that are written one by one. Returns the pattern of the reference sample; `None` or a fault if
+/// no such set comes next, or if a value of it is above the greatest that the width has.
 #[inline(always)]
 fn fill_first<const M: usize>(
     params: &Params,
@@ -120,11 +119,11 @@ fn fill_first<const M: usize>(
     }
 }
 
-/// Reads the coded data set that begins at the reader's place as one with a reference sample and
-/// moves past it, if it is plain and its values are at most the greatest that the width has:
-/// `values` then contains them, with 0 in the reference place. Returns the pattern of the reference
-/// sample. Else returns `None`; the reader then hasn't moved, and the contents of `values` are
-/// unspecified. Allocates nothing. Inlined for blocks of which `M` values are written.
+/// Reads a plain coded data set with a reference sample into `values`, with 0 in the reference
+/// place, and moves past it. Returns the pattern of the reference sample. Returns `None` if no such
+/// set begins at the reader's place, or if a value of it is above the greatest that the width has;
+/// the reader then hasn't moved, and the contents of `values` are unspecified. Allocates nothing.
+/// Inlined for blocks of which `M` values are written.
 #[inline(always)]
 pub fn read_plain_first<const M: usize>(
     params: &Params,

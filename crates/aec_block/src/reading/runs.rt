@@ -19,7 +19,7 @@ use aec_bits::BitReader;
 use aec_params::{Fault, Params};
 
 /// Reads what follows the identifier of a run and its reference sample. Returns how many zero
-/// blocks the run stands for.
+/// blocks the run decodes to.
 #[inline(always)]
 fn take_run_len(
     params: &Params,
@@ -35,7 +35,7 @@ fn take_run_len(
 }
 
 /// Reads the next coded data set, if it is a run. Returns its reference sample, if one is due, and
-/// how many zero blocks it stands for; else `None`, or a fault.
+/// how many zero blocks it decodes to; else `None`, or a fault.
 #[inline(always)]
 fn take_run(
     params: &Params,
@@ -64,7 +64,7 @@ fn take_run(
 
 /// Reads the coded data set that begins at the reader's place, of a block with a reference sample
 /// or of another, and moves past it, if it is a run of zero blocks. Returns its reference sample,
-/// if there is one, and how many blocks it stands for. Else returns `None`, and the reader hasn't
+/// if there is one, and how many blocks it decodes to. Else returns `None`, and the reader hasn't
 /// moved. Allocates nothing.
 #[inline(always)]
 pub fn read_run(

@@ -47,7 +47,7 @@ fn are_below(values: &[u32], limit: u64) -> bool
     u64::from(most) < limit
 }
 
-/// Puts a value at a place if the value is below `limit`. Returns whether it is.
+/// Writes a value to a place if the value is below `limit`. Returns whether it is.
 fn put_value(values: &mut [u32], place: usize, value: u64, limit: u64) -> bool
     requires place { place < length values.old }
     requires limit { limit ≤ 2 ^ 32 }
@@ -100,7 +100,7 @@ pub(crate) fn read_pairs(
     Ok(fit)
 }
 
-/// Puts the next numbers into `highs`, one by one. Returns whether all are below `limit`; if not,
+/// Fills `highs` with the next numbers, one by one. Returns whether all are below `limit`; if not,
 /// the contents of `highs` are unspecified.
 fn read_long_highs(reader: &mut BitReader, highs: &mut [u32], limit: u64) -> Result<bool, Fault>
     requires within { reader.old.pos ≤ length reader.old.list }
@@ -132,7 +132,7 @@ fn are_short(values: &[u32], gone: u64, limit: u64) -> bool
     gone < limit + values.len() as u64 || are_below(values, limit)
 }
 
-/// Puts the next numbers into `highs`. Returns whether all are below `limit`; if not, the contents
+/// Fills `highs` with the next numbers. Returns whether all are below `limit`; if not, the contents
 /// of `highs` are unspecified.
 #[inline(always)]
 pub(crate) fn read_highs(
@@ -162,7 +162,7 @@ fn joined(high: u32, low: u32, k: u32) -> u32
     (high << k) + low
 }
 
-/// Puts the lowest `k` bits after each high part.
+/// Joins each high part with the lowest `k` bits of its value.
 fn join(values: &mut [u32], lows: &[u32], k: u32)
     requires shift { k < 32 }
     requires len { length values.old ≡ length lows.now }

@@ -48,9 +48,9 @@ fn read_script<Q: Source>(
     Ok(text)
 }
 
-/// Makes the edits that are ahead, up to the first that is refused: the edits before it are made,
-/// and the fault names its line. Fails with plain `Memory` if the allocation for the values of the
-/// next edit fails.
+/// Applies the edits that are ahead, up to the first that is refused: the edits before it are
+/// applied, and the fault names its line. Fails with plain `Memory` if the allocation for the
+/// values of the next edit fails.
 fn carry_rest<C: Codec>(
     alloc: Global,
     workspace: &mut Workspace<C>,
@@ -79,10 +79,10 @@ fn carry_rest<C: Codec>(
     Ok(())
 }
 
-/// Reads bits as samples, makes the edits of a script on them, and returns a workspace with the
+/// Decodes bits to samples, applies the edits of a script to them, and returns a workspace with the
 /// samples that are left. `codec` must have coded nothing, and the lines of the script must have
 /// been judged. All bits are judged before memory is allocated for samples and before an edit is
-/// made.
+/// applied.
 fn edit_bits<C: Codec + Drop>(
     alloc: Global,
     codec: C,
@@ -164,17 +164,18 @@ pub fn edit_over<C: Codec + Drop, Q: Source, R: Source, W: Sink>(
     Ok(workspace)
 }
 
-/// Reads a script whole, then the source, makes the edits of the script on the samples that the
+/// Reads a script whole, then the source, applies the edits of the script to the samples that the
 /// source codes (the first `count`, or all without a count), and writes the bytes of the code of
 /// the samples that the edits leave.
 ///
 /// The refusals in their order: `Read`, `StreamTooLong` and `Memory` as they are met while the
 /// script is read, then `Script` (up to here nothing is taken from the source); those of `decode`;
-/// `Memory`, also if there is no room to read a line again before its edit is made. The run ends at
-/// the first edit that is refused for its place, the limit, its values or lack of calls, and the
-/// fault names its line; so it does for the first edit that lacks memory, in the order in which
-/// edits are made. All other faults name no line. On these refusals nothing is written and `begin`
-/// isn't called. After `begin` it fails only with `Write`, with a prefix of the bytes written.
+/// `Memory`, also if there is no room to read a line again before its edit is applied. The run ends
+/// at the first edit that is refused for its place, the limit, its values or lack of calls, and the
+/// fault names its line. Edits may be applied in another order than the script's: the first of them
+/// that fails with `Memory` ends the run too, and the fault names its line. All other faults name
+/// no line. On these refusals nothing is written and `begin` isn't called. After `begin` it fails
+/// only with `Write`, with a prefix of the bytes written.
 pub fn edit<Q: Source, R: Source, W: Sink>(
     alloc: Global,
     params: &Params,
@@ -211,8 +212,8 @@ fn line_of(script: &Script, place: usize) -> u64
     script.lines[place]
 }
 
-/// Makes the edits of a script, up to the first that is refused: the edits before it are made, and
-/// the fault names its line.
+/// Applies the edits of a script, up to the first that is refused: the edits before it are applied,
+/// and the fault names its line.
 pub fn carry_out<C: Codec>(workspace: &mut Workspace<C>, script: &Script) -> Result<(), EditFault>
     requires lines { length script.now.edits.items ≤ length script.now.lines.items }
     ensures ok { OnOk result (edits_left (C.format workspace.old.codec) workspace.old.limit

@@ -1,7 +1,8 @@
 //! Decodes coded bytes in memory into a buffer. If the first reading returns all samples asked for,
-//! they are put there at once. Else the bytes of the first samples are kept while judging, and a
-//! second reading puts the rest into the buffer. The buffer can't be a `Sink`: contracts say what
-//! the sink that an engine returns has taken, but not that it still has the same buffer.
+//! they are written to the buffer at once. Else the bytes of the first samples are kept while
+//! judging, and a second reading writes the rest to the buffer. The buffer can't be a `Sink`:
+//! contracts say what the sink that an engine returns has taken, but not that it still has the same
+//! buffer.
 
 ghost use Rattle.std.specs.Prelude.{◌≡◌, ℕ, ◌+◌, ◌*◌, ◌<◌, ◌≤◌, ◌^◌, ◌++◌, List, [], ℤ, None, Some, Ok, false, length, take, drop, max, vec_len, vec_capacity, IsOk, IfOk, IfErr, OnOk, ◌↔◌, IsTrue, Err};
 ghost use Rattle.std.specs.List.{AllByRecursion};
@@ -37,7 +38,7 @@ fn bits_of(alloc: Global, coded: &[u8], limit: u64) -> Result<BitBuf, Fault>
     BitBuf::from_bytes(alloc, coded)
 }
 
-/// Puts the bytes of samples after the first `at` bytes of a buffer. Returns where they end.
+/// Writes the bytes of samples after the first `at` bytes of a buffer. Returns where they end.
 fn put_behind(params: &Params, samples: &[i64], at: usize, out: &mut [u8]) -> usize
     requires held { AllByRecursion (IsHeld params.now) samples.now }
     requires room { at + storage_len params.now * length samples.now ≤ length out.old }
@@ -50,8 +51,8 @@ fn put_behind(params: &Params, samples: &[i64], at: usize, out: &mut [u8]) -> us
     end
 }
 
-/// Reads the samples from where the reader is up to the last of a part, and puts the bytes of the
-/// part into `out`, which has their length. Never fails with `Memory`.
+/// Reads the samples from where the reader is up to the last of a part, and writes the bytes of the
+/// part to `out`, which has their length. Never fails with `Memory`.
 fn fill_range(
     params: &Params,
     reader: &mut StreamReader,
@@ -82,7 +83,7 @@ fn fill_range(
     Ok(())
 }
 
-/// Puts the bytes of a part of the samples to the front of a buffer, if there is room for them.
+/// Writes the bytes of a part of the samples to the front of a buffer, if there is room for them.
 /// Returns how many bytes they take. Fails with `Memory` if the allocation for an interval of
 /// samples fails.
 fn put_range_front(
@@ -110,8 +111,8 @@ fn put_range_front(
     Ok(size)
 }
 
-/// Puts kept bytes, and after them the bytes of the rest of the samples, to the front of a buffer,
-/// if there is room for them. Returns how many bytes they take. Allocates nothing.
+/// Writes kept bytes, and after them the bytes of the rest of the samples, to the front of a
+/// buffer, if there is room for them. Returns how many bytes they take. Allocates nothing.
 fn put_kept(
     params: &Params,
     reader: &mut StreamReader,
@@ -194,8 +195,8 @@ fn read_first(
     Ok(())
 }
 
-/// Puts the bytes of samples to the front of a buffer, if there is room for them. Returns how many
-/// bytes they take.
+/// Writes the bytes of samples to the front of a buffer, if there is room for them. Returns how
+/// many bytes they take.
 fn put_first(params: &Params, samples: &[i64], out: &mut [u8]) -> u64
     requires held { AllByRecursion (IsHeld params.now) samples.now }
     ensures { FillsOne (λ answer. answer ≡ Ok (all_stored params.now samples.now)) out.old out.new
@@ -244,8 +245,8 @@ fn first_bytes(
     Ok(bytes)
 }
 
-/// If `left` isn't 0, empties `samples` and makes room in it for an interval: not for twice that,
-/// since nothing else is in it.
+/// Makes room for the samples of an interval if `left` samples have to be read again. Drops the
+/// samples that are there first, so that they take no memory beside it.
 fn room_for_rest(params: &Params, left: u64, samples: &mut Vec<i64>) -> Result<(), Fault>
     ensures room { OnOk result (0 < left → interval_len params.now ≤ vec_capacity samples.new) }
     ensures fault { IfErr result (λ e. e ≡ Memory) }
@@ -295,8 +296,8 @@ fn decode_rest_into(
     put_kept(params, reader, &bytes, rest, samples, out)
 }
 
-/// Reads the first samples. If they are all that are asked for, puts their bytes to the front of a
-/// buffer, if there is room; else goes on as `decode_rest_into` does.
+/// Reads the first samples. If they are all that are asked for, writes their bytes to the front of
+/// a buffer, if there is room; else goes on as `decode_rest_into` does.
 fn decode_bits_into(
     alloc: Global,
     params: &Params,
@@ -319,9 +320,9 @@ fn decode_bits_into(
     decode_rest_into(alloc, params, &mut reader, room, &mut samples, out)
 }
 
-/// Puts the stored bytes of the samples that coded bytes are read as to the front of a buffer if
-/// there is room for all of them, and changes no other byte of it. Returns how many bytes they
-/// take. Fails as `decode_bytes` does; the buffer is unchanged then.
+/// Decodes coded bytes, and writes the stored bytes of the samples to the front of a buffer if
+/// there is room for all of them. Changes no other byte of the buffer. Returns how many bytes the
+/// samples take. Fails as `decode_bytes` does; the buffer is unchanged then.
 ///
 /// Allocates room for the coded bytes, and for an interval of samples, or more but at most 4,096.
 /// Unless a count is given and the first reading returns all samples, it also allocates room for
@@ -343,9 +344,9 @@ pub fn decode_into(
     decode_bits_into(alloc, params, limits, count, &bits, out)
 }
 
-/// Reads coded bits twice: first it judges them and the range, then it reads on from the last
-/// interval that begins at or before the range, and puts the bytes of the range to the front of a
-/// buffer, if there is room.
+/// Reads coded bits twice: first it judges them and the range, then it reads from the last interval
+/// that begins at or before the range, and writes the bytes of the range to the front of a buffer,
+/// if there is room.
 fn range_bits_into(
     alloc: Global,
     params: &Params,

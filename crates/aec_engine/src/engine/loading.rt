@@ -1,5 +1,5 @@
-//! Loads the samples of coded bits into a workspace by whole intervals. Meanwhile it makes the
-//! leading overwrites of a script on samples already loaded, while little of the stream follows
+//! Loads the samples of coded bits into a workspace by whole intervals. Meanwhile it applies the
+//! leading overwrites of a script to samples already loaded, while little of the stream follows
 //! them.
 
 ghost use Rattle.std.specs.Prelude.{◌≡◌, ◌≢◌, ◌+◌, ◌<◌, ◌≤◌, ◌/◌, ◌%◌, ◌-◌, ◌^◌, ◌⊎◌, ◌++◌, min, max, length, true, false, [], IfOk, IfErr, OnOk};
@@ -67,8 +67,9 @@ fn append_behind(samples: &mut Vec<i64>, more: &[i64]) -> Result<(), Fault>
     Ok(())
 }
 
-/// Once the coder has been called this many times, no edit is made before all samples are loaded.
-/// The number is far below `u64::MAX`, so that each edit made before has enough calls left.
+/// Once the coder has been called this many times, no edit is applied before all samples are
+/// loaded. The number is far below `u64::MAX`, so that each edit applied before has enough calls
+/// left.
 const MAX_EARLY_CALLS: u64 = 1 << 62;
 
 /// Returns whether an edit only overwrites places among the first `count`.
@@ -85,12 +86,12 @@ fn is_inside(edit: &Edit, count: u64) -> bool
     }
 }
 
-/// Makes the edits of a script that overwrite samples already loaded, up to the first other edit,
+/// Applies the edits of a script that overwrite samples already loaded, up to the first other edit,
 /// and leaves the others ahead.
 ///
 /// These edits have the same result, whatever samples are loaded after them. If an edit is refused,
 /// the fault names its line. Fails with plain `Memory` if the allocation for the values of the next
-/// edit fails. Makes no edit once the coder was called `2^62` times.
+/// edit fails. Applies no edit once the coder was called `2^62` times.
 fn carry_early<C: Codec>(
     alloc: Global,
     workspace: &mut Workspace<C>,
@@ -125,9 +126,10 @@ fn carry_early<C: Codec>(
 }
 
 /// Appends the samples of coded bits to an empty workspace over a codec that has coded nothing, and
-/// meanwhile makes edits of a script. The edits that are left are then ahead.
+/// meanwhile applies edits of a script. The edits that are left are then ahead.
 ///
-/// No clause uses the premise `room`: it proves that room is there before the first append.
+/// No clause of this call relies on `room`. It makes each caller prove that it has reserved the
+/// room before the first append.
 pub(crate) fn append_all<C: Codec>(
     alloc: Global,
     params: &Params,

@@ -191,10 +191,10 @@ fn append_part(params: &Params, samples: &[i64], bytes: &mut Vec<u8>)
 /// The most samples of short intervals that are read together.
 pub(crate) const SAMPLES_AT_ONCE: usize = 2048;
 
-/// Once this many bytes wait in memory, they are put to the sink.
+/// Once this many bytes wait in memory, they are written to the sink.
 pub(crate) const WAITING_BYTES: usize = 65536;
 
-/// Puts all bytes that wait to the sink, and empties `bytes`.
+/// Writes all bytes that wait to the sink, and empties `bytes`.
 fn put_waiting<W: Sink>(bytes: &mut Vec<u8>, sink: &mut W) -> Result<(), Fault>
     ensures puts { PutsAllOrFront (W.taken sink.old) (W.taken sink.new) bytes.old.items result }
     ensures none { OnOk result (bytes.new.items ≡ []) }
@@ -207,7 +207,8 @@ fn put_waiting<W: Sink>(bytes: &mut Vec<u8>, sink: &mut W) -> Result<(), Fault>
     Ok(())
 }
 
-/// Appends the bytes of samples to those that wait, and puts all of them once they are a piece.
+/// Appends the bytes of samples to those that wait, and writes all of them to the sink once they
+/// are a piece.
 fn put_part<W: Sink>(
     params: &Params,
     samples: &[i64],
@@ -233,8 +234,8 @@ fn put_part<W: Sink>(
     Ok(())
 }
 
-/// Reads the samples from where the reader is up to the last of a part, and puts the bytes of the
-/// part. Never fails with `Memory`.
+/// Reads the samples from where the reader is up to the last of a part, and writes the bytes of the
+/// part to the sink. Never fails with `Memory`.
 fn put_range<W: Sink>(
     params: &Params,
     reader: &mut StreamReader,
@@ -263,7 +264,7 @@ fn put_range<W: Sink>(
     put_all(sink, bytes)
 }
 
-/// Calls `begin`, and puts all bytes that wait. Fails with `Write` if the sink fails.
+/// Calls `begin`, and writes all bytes that wait. Fails with `Write` if the sink fails.
 #[tactic(auto, using(crate::proofs::PutRangeLemmas::begun_then, crate::proofs::PutRangeLemmas::begun_front, crate::proofs::PutRangeLemmas::front_none))]
 fn begin_with<W: Sink>(bytes: &mut Vec<u8>, sink: &mut W) -> Result<(), Fault>
     ensures delivers { let put : Putting
@@ -276,8 +277,8 @@ fn begin_with<W: Sink>(bytes: &mut Vec<u8>, sink: &mut W) -> Result<(), Fault>
     put_waiting(bytes, sink)
 }
 
-/// Calls `begin`, puts all bytes that wait, and then a part of the samples, read again. Fails with
-/// `Write` if the sink fails.
+/// Calls `begin`, writes all bytes that wait, and then a part of the samples, read again. Fails
+/// with `Write` if the sink fails.
 #[tactic(auto, using(crate::proofs::PutRangeLemmas::puts_behind, crate::proofs::PutRangeLemmas::front_behind))]
 pub(crate) fn deliver_range<W: Sink>(
     params: &Params,

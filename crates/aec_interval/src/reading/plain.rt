@@ -46,7 +46,7 @@ fn untested_end(params: &Params, wanted: Wanted, end: u64) -> u64
     unpadded.min(samples / size)
 }
 
-/// Reads the next blocks while they are plain, at most `most`, each into `values`, and puts their
+/// Reads the next blocks while they are plain, at most `most`, each into `values`, and writes their
 /// samples after the first `from` samples. Returns how many blocks it read. Each `COPY` has one
 /// caller for each `N`.
 #[inline(always)]

@@ -41,7 +41,7 @@ const PREDICTED: usize = 11;
 const UNPREDICTED: usize = 12;
 
 /// Reads the next block as the first of its interval, with a reference sample, if it is plain, and
-/// puts its samples into the front of `samples`. Else returns false. `M` is the number of values
+/// writes its samples to the front of `samples`. Else returns false. `M` is the number of values
 /// after a reference sample: one less than the block size for which this is compiled.
 #[inline(always)]
 fn fill_reference_block<const M: usize>(
@@ -111,7 +111,7 @@ fn fill_first_block<const N: usize, const M: usize, const KIND: usize>(
     }
 }
 
-/// Reads the other blocks of an interval whose first block was read, if they are plain, and puts
+/// Reads the other blocks of an interval whose first block was read, if they are plain, and writes
 /// their samples after those of the first. Else returns false.
 #[inline(always)]
 fn fill_rest<const N: usize, const COPY: usize>(
@@ -134,7 +134,7 @@ fn fill_rest<const N: usize, const COPY: usize>(
     fill_plain_blocks::<N, COPY>(params, reader, rest, values, samples, N) == rest
 }
 
-/// Reads the next interval, if all its blocks are plain, and puts its samples into `samples`. Else
+/// Reads the next interval, if all its blocks are plain, and writes its samples to `samples`. Else
 /// returns false, and the reader hasn't moved.
 #[inline(always)]
 fn fill_plain_interval<const N: usize, const M: usize, const KIND: usize>(
@@ -192,7 +192,7 @@ pub(crate) fn is_zero_interval_next(params: &Params, reader: &mut BitReader) -> 
     comes
 }
 
-/// Reads the next interval, if it is one run of zero blocks, and puts its samples into `samples`.
+/// Reads the next interval, if it is one run of zero blocks, and writes its samples to `samples`.
 /// Else returns false, and the reader hasn't moved.
 #[inline(always)]
 fn fill_zero_interval(params: &Params, reader: &mut BitReader, samples: &mut [i64]) -> bool
@@ -207,7 +207,7 @@ fn fill_zero_interval(params: &Params, reader: &mut BitReader, samples: &mut [i6
     true
 }
 
-/// Reads the next interval, if it is of kind `KIND`, and puts its samples into `samples`. Else
+/// Reads the next interval, if it is of kind `KIND`, and writes its samples to `samples`. Else
 /// returns false, and the reader hasn't moved. One loop for all kinds would make each slower.
 #[inline(always)]
 fn fill_interval<const N: usize, const M: usize, const KIND: usize>(
@@ -229,8 +229,8 @@ fn fill_interval<const N: usize, const M: usize, const KIND: usize>(
     fill_plain_interval::<N, M, KIND>(params, reader, values, samples)
 }
 
-/// Reads the next intervals while `fill_interval` reads them, at most `most`, and puts their
-/// samples into `samples`. Returns how many intervals it read.
+/// Reads the next intervals while `fill_interval` reads them, at most `most`, and writes their
+/// samples to `samples`. Returns how many intervals it read.
 #[inline(never)]
 fn fill_intervals<const N: usize, const M: usize, const KIND: usize>(
     params: &Params,

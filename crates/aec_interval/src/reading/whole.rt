@@ -20,7 +20,7 @@ pub(crate) fn judge_count(count: Option<u64>, limit: u64) -> Result<(), Fault>
     }
 }
 
-/// Returns the samples that coded bits stand for.
+/// Returns the samples that coded bits decode to.
 ///
 /// With a count, returns the first `count` samples: reads only the blocks that hold them, and
 /// ignores bits after the last coded data set that is needed. Without a count, returns all samples
