@@ -50,6 +50,7 @@ impl BitBuf {
     ghost use Rattle.aec_bits.specs.WordBits.{word_bits};
     ghost use Rattle.aec_bits.specs.Windows.{bits_from};
 
+    // bare: it only fills in the fields of a new value
     /// Returns an empty list. Allocates nothing.
     pub fn new(alloc: Global) -> BitBuf
         ensures list { result.list ≡ [] }
@@ -61,6 +62,7 @@ impl BitBuf {
         }
     }
 
+    // bare: it returns a field
     /// Returns the number of bits.
     pub fn len(&self) -> u64
         ensures value { result ≡ length self.now.list }

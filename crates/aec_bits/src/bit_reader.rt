@@ -36,6 +36,7 @@ impl<'a> BitReader<'a> {
     ghost use Rattle.std.specs.List.{flat_map};
     ghost use Rattle.aec_bits.specs.BitReader.{StaysWithin, MovesBy, has_one, behind_ones, AreBelow, StopsBefore};
 
+    // bare: it only fills in the fields of a new value
     /// Returns a reader at the first bit.
     pub fn new(buf: &'a BitBuf) -> BitReader<'a>
         ensures list { result.list ≡ buf.now.list }
@@ -44,6 +45,7 @@ impl<'a> BitReader<'a> {
         BitReader { buf, pos: 0 }
     }
 
+    // bare: it returns a field
     /// Returns the place of the next bit.
     pub fn pos(&self) -> u64
         ensures value { result ≡ self.now.pos }

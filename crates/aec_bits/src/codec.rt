@@ -32,10 +32,12 @@ pub trait Codec {
     fn holds(&self, x: i64) -> bool
         ensures { result ≡ (format self.now).holds x };
 
+    // bare: each impl returns a field
     /// Returns the count of coded intervals, plus the count that the codec began with.
     fn calls(&self) -> u64
         ensures { result ≡ called self.now };
 
+    // bare: each impl returns a field
     /// Returns the count of `decode` calls, at most `u64::MAX`.
     fn reads(&self) -> u64
         ensures { result ≡ read self.now };

@@ -23,6 +23,7 @@ pub trait Source {
         ensures bytes { ReadConsumes (left self.old) (left self.new) result buf.new }
         ensures failure { FailsOnce ReadFault (failed self.old) (failed self.new) result };
 
+    // bare: each impl only returns whether it has failed
     /// Returns 1 if the source has failed, else 0.
     fn failures(&self) -> u64
         ensures { result ≡ failed self.now };
@@ -60,10 +61,12 @@ pub trait Sink {
         ensures order { mark self.new ≡ mark self.old }
         ensures failure { FailsOnce WriteFault (failed self.old) (failed self.new) result };
 
+    // bare: each impl only returns whether it has failed
     /// Returns 1 if the sink has failed, else 0.
     fn failures(&self) -> u64
         ensures { result ≡ failed self.now };
 
+    // bare: each impl returns a field
     /// Returns how often `begin` has been called.
     fn begins(&self) -> u64
         ensures { result ≡ begun self.now };

@@ -15,6 +15,7 @@ pub struct ReadSource<R> {
 impl<R: Read> ReadSource<R> {
     ghost use Rattle.std.specs.Prelude.{◌≡◌};
 
+    // bare: it only fills in the fields of a new value
     /// Returns a source of the bytes that the reader has left. Allocates nothing.
     pub fn new(inner: R) -> ReadSource<R>
         ensures left { ⟦<ReadSource<R> as Source>⟧.left result ≡ R.remaining inner }
@@ -26,6 +27,7 @@ impl<R: Read> ReadSource<R> {
         }
     }
 
+    // bare: it returns a field
     /// Returns the reader.
     pub fn into_inner(self) -> R
         ensures { ⟦<ReadSource<R> as Source>⟧.left self ≡ R.remaining result }
@@ -73,6 +75,7 @@ pub struct WriteSink<W> {
 impl<W: Write> WriteSink<W> {
     ghost use Rattle.std.specs.Prelude.{◌≡◌};
 
+    // bare: it only fills in the fields of a new value
     /// Returns a sink that appends to what the writer holds. Allocates nothing.
     pub fn new(inner: W) -> WriteSink<W>
         ensures taken { ⟦<WriteSink<W> as Sink>⟧.taken result ≡ W.contents inner }
@@ -86,6 +89,7 @@ impl<W: Write> WriteSink<W> {
         }
     }
 
+    // bare: it returns a field
     /// Returns the writer.
     pub fn into_inner(self) -> W
         ensures { ⟦<WriteSink<W> as Sink>⟧.taken self ≡ W.contents result }

@@ -100,6 +100,7 @@ impl Block {
         self.values.push_reserved(m);
     }
 
+    // bare: it returns the length of a field
     /// Returns the number of values, with the one in the reference place.
     pub fn len(&self) -> usize
         ensures value { result ≡ length self.now.values }
@@ -108,6 +109,7 @@ impl Block {
         self.values.len()
     }
 
+    // bare: it returns a field
     /// Returns the values, with the one in the reference place.
     pub fn values(&self) -> &[u32]
         ensures value { result.now ≡ self.now.values }
@@ -116,6 +118,7 @@ impl Block {
         self.values.as_slice()
     }
 
+    // bare: it returns a field
     /// Returns the pattern of the reference sample, if the block has one.
     pub fn reference(&self) -> Option<u32>
         ensures value { result ≡ self.now.reference }

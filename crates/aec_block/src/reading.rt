@@ -198,6 +198,7 @@ fn cds_found(found: Found, block: Block) -> Cds
     }
 }
 
+// bare: it only calls `read_into`, which has edits, and wraps the result
 /// Reads the one coded data set that begins at the reader's place, of a block with a reference
 /// sample or of another, and moves past it. Fails with `Truncated` if none begins there, with
 /// `ValueTooLarge` if a value of it is above the greatest of the width. Both faults name the

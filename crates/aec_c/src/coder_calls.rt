@@ -74,6 +74,7 @@ pub extern "C" fn aecp_coder_take(
     reply.fault
 }
 
+// bare: a wrong body would show no more than that of `aecp_close`
 /// Frees the coder that a handle holds.
 #[unsafe(no_mangle)]
 pub extern "C" fn aecp_coder_close(alloc: Global, coder: &mut CoderHandle)

@@ -15,6 +15,7 @@ use crate::stream_edits::{EditReply, edited_stream, settle_edited};
 use crate::text::{put_text, text_of};
 use std::alloc::Global;
 
+// bare: it returns a constant
 /// Returns the version of the library: 10,000 times its first number, plus 100 times its second,
 /// plus its third.
 #[unsafe(no_mangle)]

@@ -155,6 +155,7 @@ pub extern "C" fn aecp_size(alloc: Global, handle: &mut Handle) -> u64
     sample_count(alloc, handle)
 }
 
+// bare: a wrong body would show no more than that of `aecp_size`
 /// Returns how many intervals the coder has coded.
 #[unsafe(no_mangle)]
 pub extern "C" fn aecp_calls(alloc: Global, handle: &mut Handle) -> u64

@@ -62,6 +62,7 @@ pub extern "C" fn aecp_reader_go_to(
     reply.fault
 }
 
+// bare: a wrong body would show no more than that of `aecp_close`
 /// Frees the reader that a handle holds.
 #[unsafe(no_mangle)]
 pub extern "C" fn aecp_reader_close(alloc: Global, reader: &mut ReaderHandle)

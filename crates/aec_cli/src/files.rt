@@ -136,6 +136,7 @@ pub struct DestSink<'a, F: Files> {
 }
 
 impl<'a, F: Files> DestSink<'a, F> {
+    // bare: it only fills in the fields of a new value
     /// Returns a sink of the file at `path`, which is not created yet. The sink keeps `rt`.
     pub fn new(rt: &'a F, path: String) -> DestSink<'a, F>
         ensures failed { ⟦<DestSink<'a, F> as Sink>⟧.failed result ≡ 0 }

@@ -61,6 +61,7 @@ impl<C: Codec> Workspace<C> {
     ghost use Rattle.aec_edit.specs.Unchanged.{IsOnlyRead, KeepsCodec};
     ghost use Rattle.aec_edit.specs.Changes.{recoded, IsCodeFor};
 
+    // bare: a new workspace that is not empty would break clauses of each later append
     /// Returns an empty workspace for at most `limit` samples. Allocates nothing.
     pub fn new(alloc: Global, codec: C, limit: u64) -> Workspace<C>
         requires { limit ≤ 2 ^ 32 }
@@ -98,6 +99,7 @@ impl<C: Codec> Workspace<C> {
         self.coded.reserve(bits, intervals)
     }
 
+    // bare: it returns a field
     /// Returns the number of samples.
     pub fn count(&self) -> u64
         ensures value { result ≡ length self.now.samples }
@@ -108,6 +110,7 @@ impl<C: Codec> Workspace<C> {
         self.coded.count
     }
 
+    // bare: it returns the length of a field
     /// Returns the number of intervals that the samples fill.
     pub fn intervals(&self) -> u64
         ensures { result ≡ interval_count (C.format self.now.codec) self.now.samples }
@@ -115,6 +118,7 @@ impl<C: Codec> Workspace<C> {
         self.coded.starts.len() as u64
     }
 
+    // bare: it returns the length of a field
     /// Returns the number of bits in the code of the samples.
     pub fn stream_bits(&self) -> u64
         ensures { result ≡ length (code_of (C.format self.now.codec) self.now.samples) }
@@ -144,6 +148,7 @@ impl<C: Codec> Workspace<C> {
         self.codec.calls()
     }
 
+    // bare: it only calls `Codec::reads`
     /// Returns the codec's count of calls of `decode`.
     pub fn reads(&self) -> u64
         ensures { result ≡ C.read self.now.codec }
@@ -159,6 +164,7 @@ impl<C: Codec> Workspace<C> {
         codec
     }
 
+    // bare: it only calls `BitBuf::write_to`, which has edits
     /// Writes the bytes of the code of the samples to the sink; zeros fill the last byte. Fails
     /// with `Write` if the sink fails; the sink has then taken a prefix of these bytes. Never fails
     /// with `Memory`, and doesn't call `begin`.

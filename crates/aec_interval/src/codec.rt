@@ -56,6 +56,7 @@ impl AecCodec {
         }
     }
 
+    // bare: it returns a field
     /// Returns the parameters that it was made with.
     pub fn params(&self) -> Params
         ensures { result ≡ self.now.params }

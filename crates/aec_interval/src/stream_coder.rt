@@ -48,6 +48,7 @@ impl StreamCoder {
     ghost use Rattle.aec_params.specs.Streams.{stream_of};
     ghost use Rattle.aec_interval.specs.Feeding.{fresh_coder, Feeds, StopsFeeding};
 
+    // bare: it only fills in the fields of a new value
     /// Returns a coder that was fed nothing. It takes at most `limit` samples. Allocates nothing.
     pub fn new(alloc: Global, params: Params, limit: u64) -> StreamCoder
         ensures { result ≡ fresh_coder params limit }
@@ -64,6 +65,7 @@ impl StreamCoder {
         }
     }
 
+    // bare: it returns the length of a field
     /// Returns the number of whole samples that are not coded yet, fewer than an interval has.
     /// After a refusal it may be any such number. Allocates nothing.
     pub fn held(&self) -> u64

@@ -38,6 +38,7 @@ impl Limits {
         }
     }
 
+    // bare: it returns a field
     /// Returns the greatest number of samples.
     pub fn samples(&self) -> u64
         ensures value { result ≡ self.now.samples }
@@ -46,6 +47,7 @@ impl Limits {
         self.samples
     }
 
+    // bare: it returns a field
     /// Returns the greatest number of bytes.
     pub fn bytes(&self) -> u64
         ensures value { result ≡ self.now.bytes }

@@ -79,6 +79,7 @@ impl Params {
         Ok(Params { settings })
     }
 
+    // bare: it returns a field
     /// Returns the bits per sample, n.
     pub fn bits(&self) -> u32
         ensures value { result ≡ self.now.bits }
@@ -87,6 +88,7 @@ impl Params {
         self.settings.bits
     }
 
+    // bare: it returns a field
     /// Returns the number of samples in a block, J.
     pub fn block_size(&self) -> u32
         ensures value { result ≡ self.now.block_size }
@@ -95,6 +97,7 @@ impl Params {
         self.settings.block_size
     }
 
+    // bare: it returns a field
     /// Returns the number of blocks in a reference sample interval, r.
     pub fn interval(&self) -> u32
         ensures value { result ≡ self.now.interval }
@@ -111,6 +114,7 @@ impl Params {
         u64::from(self.settings.block_size) * u64::from(self.settings.interval)
     }
 
+    // bare: it does nothing: its clause is the type's invariant
     /// Does nothing: its clause says that the settings are allowed.
     #[inline(always)]
     pub fn known_allowed(&self)
@@ -184,6 +188,7 @@ impl Params {
         }
     }
 
+    // bare: it returns a field
     /// Returns whether samples are signed.
     pub fn signed(&self) -> bool
         ensures { result ≡ self.now.signed }
@@ -191,6 +196,7 @@ impl Params {
         self.settings.signed
     }
 
+    // bare: it returns a field
     /// Returns whether a stored sample has its most significant byte first.
     pub fn msb_first(&self) -> bool
         ensures { result ≡ self.now.msb_first }
@@ -198,6 +204,7 @@ impl Params {
         self.settings.msb_first
     }
 
+    // bare: it returns a field
     /// Returns whether the preprocessor runs.
     pub fn preprocess(&self) -> bool
         ensures { result ≡ self.now.preprocess }

@@ -33,6 +33,7 @@ pub fn read_samples(alloc: Global, params: &Params, bytes: &[u8]) -> Result<Vec<
     collect_samples(alloc, params, bytes)
 }
 
+// bare: it only calls `append_samples`, which has edits
 /// Returns the samples of bytes in which `first_bad` finds none. Fails with `Memory` if an
 /// allocation fails, never for bytes without a whole sample.
 pub fn collect_samples(alloc: Global, params: &Params, bytes: &[u8]) -> Result<Vec<i64>, Fault>

@@ -164,6 +164,7 @@ pub fn edit_over<C: Codec + Drop, Q: Source, R: Source, W: Sink>(
     Ok(workspace)
 }
 
+// bare: it only calls `edit_over`, which has edits
 /// Reads a script whole, then the source, makes the edits of the script on the samples that the
 /// source codes (the first `count`, or all without a count), and writes the bytes of the code of
 /// the samples that the edits leave.
