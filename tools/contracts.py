@@ -4,24 +4,29 @@
 For each function it prints these lines:
 
 - its path, its file and line, and the first sentence of its doc comment,
-- its clauses, as the source has them,
-- the must-fail edits that change its body, or a private function that it reaches by calls of private functions. Those that the gate
-  tries come first.
-- the tests that name it, directly or by a function of the same file, and the scripts of tests/ that contain its name. A name without
-  `_` isn't looked for in scripts.
+- its clauses, as the source has them, each on one line,
+- the must-fail edits that change its body, or a private function that it reaches by calls of
+  private functions; those that the gate tries come first,
+- the tests that name it, directly or by a function of the same file, and the scripts of tests/
+  that contain its name. A name without `_` isn't looked for in scripts.
 
 With words it prints only the functions whose lines contain all of them, in capitals or not.
 
-A function that a trait declares has the edits of its impls. A method of an impl is printed only if it adds clauses. Calls are found as
-in walk.py, by names, so an edit can be printed that belongs to a function of the same name.
+A function that a trait declares has the edits of its impls. A method of an impl is printed only
+if it adds clauses. Calls are found by names, as in walk.py. So an edit of another function of the
+same name can be printed, and a call through a trait of the kit is missed.
 
 With --check it prints only what is wrong. It fails in these cases:
+
 - A public function has no clause or no doc comment.
-- A public function has no must-fail edit, and no line `// bare: REASON` above its doc comment or above its `pub fn`. Laws need none.
-- A line `// bare:` stands above a law, above a function that isn't public, or above one that has a must-fail edit.
-- The gate tries fewer edits of a crate than half its functions `pub fn`, rounded down (aec_c aside, whose exports aren't counted).
-- docs/PROOFS.md names a function or a clause that doesn't exist: in the part of a crate, after `Contract:` in an item, in the form
-  `PATH` or `PATH: CLAUSE, CLAUSE`.
+- A public function has no must-fail edit, and no line `// bare: REASON` above its doc comment or
+  above its `pub fn`. Laws need none.
+- A line `// bare:` stands above a law, above a function that isn't public, or above one that has
+  a must-fail edit.
+- The gate tries fewer edits of a crate than half its functions `pub fn`, rounded down. The
+  exports of aec_c aren't counted.
+- docs/PROOFS.md names a function or a clause that doesn't exist: in the part of a crate, after
+  `Contract:` in an item, in the form `PATH` or `PATH: CLAUSE, CLAUSE`.
 """
 
 import re
@@ -36,23 +41,26 @@ from walk import LIBRARIES, CallGraph, key
 PAGE = "docs/PROOFS.md"
 BARE = re.compile(r"\s*// bare: (\S.*)")
 CLAUSE = re.compile(r"\s*(?:ensures|requires)\b")
-OF_COLLECTIONS = ("append", "clear", "extend", "insert", "len", "remove", "replace", "reserve", "truncate")
+OF_COLLECTIONS = "append clear extend insert len remove replace reserve truncate".split()
 CONST = re.compile(r"(?:pub(?:\(\w+\))? )?(?:const|static) (\w+)")
 
 
 class Text(NamedTuple):
-    """A function's text: its doc comment, its clauses, the reason of its line `bare`, its last line counted from 0."""
+    """What the source says of a function."""
 
+    # The first sentence of its doc comment.
     doc: str
     clauses: list
+    # The reason of its line `bare`.
     bare: str
+    # Its last line, counted from 0.
     end: int
 
 
 class Contract(NamedTuple):
     one: tuple
     text: Text
-    # The edits in the order in which they are printed: pairs of whether the gate leaves one out, and its name.
+    # The edits as they are printed: pairs of whether the gate leaves one out, and its name.
     edits: list
     tests: list
 
@@ -80,7 +88,8 @@ def read(lines, one):
     clauses, at, is_body = [], one.at, False
     while at + 1 < len(lines):
         line = lines[at]
-        is_body |= line.startswith(indent) and line.endswith(("{", "{}")) and not line.startswith(indent + "  ")
+        is_outer = line.startswith(indent) and not line.startswith(indent + "  ")
+        is_body |= is_outer and line.endswith(("{", "{}"))
         if CLAUSE.match(line) and not is_body:
             clauses.append(line.strip())
         elif clauses and not is_body:
@@ -102,14 +111,16 @@ def constant_at(lines, number):
 
 
 class Graph(CallGraph):
-    """The calls in the libraries. A method with a name that collections also have is found only after `self` or after a variable or
-    field with the first word of its type's name."""
+    """The calls in the libraries. A method with a name that collections also have is found only
+    after `self`, or after a variable or field with the first word of its type's name."""
 
     def called_in(self, caller, body):
         for one in super().called_in(caller, body):
-            words = re.findall("^[A-Z][a-z0-9]*", one.owner) + ["self"] * (one.owner == caller.owner)
-            before = rf"\b(?:{'|'.join(words).lower()})\.|::"
-            if not one.owner or one.name not in OF_COLLECTIONS or re.search(rf"(?:{before}){one.name}\(", body):
+            words = re.findall("^[A-Z][a-z0-9]*", one.owner)
+            words += ["self"] * (one.owner == caller.owner)
+            call = rf"(?:\b(?:{'|'.join(words).lower()})\.|::){one.name}\("
+            is_clear = not one.owner or one.name not in OF_COLLECTIONS
+            if is_clear or re.search(call, body):
                 yield one
 
 
@@ -132,24 +143,26 @@ class Library:
         self.graph = Graph()
         self.functions = [one for one in self.graph.functions if one.crate in LIBRARIES]
         self.texts = {key(one): read(self.lines[one.file], one) for one in self.functions}
-        self.listed = {key(one) for one in self.functions if one.is_public or self.adds_clauses(one)}
+        listed = [one for one in self.functions if one.is_public or self.adds_clauses(one)]
+        self.listed = {key(one) for one in listed}
         self.edits = self.edits_by_function()
         self.tests = self.tests_by_function()
 
     def adds_clauses(self, one):
-        return one.trait and one.owner in self.crates[one.crate].exports and self.texts[key(one)].clauses
+        is_exported = one.owner in self.crates[one.crate].exports
+        return one.trait and is_exported and self.texts[key(one)].clauses
 
     def edits_by_function(self):
-        """Returns the keys of the edits that change each function, or a constant that it names."""
+        """Returns the edits that change each function, or a constant that it names."""
         found = {}
-        for crate in LIBRARIES:
-            for edit in edits_of(crate):
-                for file, old in edit.changes:
-                    for one in self.changed(f"crates/{crate}/{file}", old):
-                        found.setdefault(key(one), set()).add((not edit.is_in_gate, edit.name))
+        for edit in (edit for crate in LIBRARIES for edit in edits_of(crate)):
+            for file, old in edit.changes:
+                for one in self.changed(f"crates/{edit.crate}/{file}", old):
+                    found.setdefault(key(one), set()).add((not edit.is_in_gate, edit.name))
         return found
 
     def changed(self, path, old):
+        """Returns the functions that a change of this text in a file changes."""
         before, is_found, _ = "\n".join(self.lines.get(path, ())).partition(old)
         if not is_found:
             return []
@@ -160,10 +173,11 @@ class Library:
         return inside or [one for one in of_file if constant and self.names(one, constant)]
 
     def names(self, one, word):
-        return re.search(rf"\b{word}\b", "\n".join(self.lines[one.file][one.at : self.texts[key(one)].end]))
+        lines = self.lines[one.file][one.at : self.texts[key(one)].end]
+        return re.search(rf"\b{word}\b", "\n".join(lines))
 
     def edits_that_reach(self, one):
-        """Returns the edits of a function, and those of the private functions that it reaches by calls of private functions."""
+        """Returns the edits of a function and of the private functions that it reaches."""
         seen, left, edits = {key(one)}, deque([one]), set()
         while left:
             caller = left.popleft()
@@ -176,39 +190,52 @@ class Library:
         return sorted(edits)
 
     def tests_by_function(self):
-        """Returns the tests that name each function, directly or by functions of their file."""
+        """Returns the tests that name each function."""
         graph, found = TestGraph(), {}
         for test in graph.functions:
-            if not (test.is_test and test.crate.endswith("_tests")):
-                continue
-            seen, left = {key(test)}, deque([test])
-            while left:
-                for called in graph.calls[key(left.popleft())]:
-                    if key(called) in self.listed:
-                        found.setdefault(key(called), []).append(test.path())
-                    elif called.file == test.file and key(called) not in seen:
-                        seen.add(key(called))
-                        left.append(called)
-        scripts = {path: set(re.findall(r"\w+", text_of(path))) for path in files_below("tests", ".py", ".c")}
+            if test.is_test and test.crate.endswith("_tests"):
+                for at in self.named_by(test, graph):
+                    found.setdefault(at, []).append(test.path())
+        scripts = files_below("tests", ".py", ".c")
+        words = {path: set(re.findall(r"\w+", text_of(path))) for path in scripts}
         for one in self.functions:
             if key(one) in self.listed and "_" in one.name:
-                found.setdefault(key(one), []).extend(path for path, words in scripts.items() if one.name in words)
-        return {at: list(dict.fromkeys(tests)) for at, tests in found.items()}
+                scripts_of_one = [path for path in scripts if one.name in words[path]]
+                found.setdefault(key(one), []).extend(scripts_of_one)
+        return found
+
+    def named_by(self, test, graph):
+        """Returns the listed functions that a test names, directly or by functions of its file."""
+        seen, left, named = {key(test)}, deque([test]), {}
+        while left:
+            for called in graph.calls[key(left.popleft())]:
+                if key(called) in self.listed:
+                    named[key(called)] = True
+                elif called.file == test.file and key(called) not in seen:
+                    seen.add(key(called))
+                    left.append(called)
+        return list(named)
 
     def contracts(self):
         for one in self.functions:
-            if key(one) in self.listed:
-                yield Contract(one, self.text_of(one), self.edits_that_reach(one), self.tests.get(key(one), []))
+            at = key(one)
+            if at in self.listed:
+                edits = self.edits_that_reach(one)
+                yield Contract(one, self.text_of(one), edits, self.tests.get(at, []))
 
     def text_of(self, one):
         """Returns a function's text. A method of an impl without a doc comment has the trait's."""
         text = self.texts[key(one)]
-        declared = [it for it in self.graph.by_name[one.name] if it.is_declared and it.owner == one.trait]
-        return text._replace(doc=self.texts[key(declared[0])].doc) if declared and not text.doc else text
+        for it in self.graph.by_name[one.name]:
+            if it.is_declared and it.owner == one.trait and not text.doc:
+                text = text._replace(doc=self.texts[key(it)].doc)
+        return text
 
 
 def wrapped(head, words):
-    return [textwrap.fill(f"{head} {words}", 100, initial_indent="    ", subsequent_indent="        ", break_long_words=False)]
+    """Returns a line of a contract on several lines, or none without words."""
+    indents = {"initial_indent": " " * 4, "subsequent_indent": " " * 8}
+    return [textwrap.fill(f"{head} {words}", 100, **indents)] if words else []
 
 
 def printed(contract):
@@ -216,11 +243,12 @@ def printed(contract):
     one, text = contract.one, contract.text
     gate = " ".join(name for is_left_out, name in contract.edits if not is_left_out)
     others = " ".join(name for is_left_out, name in contract.edits if is_left_out)
-    lines = [f"{one.path()}  {one.file}:{one.at + 1}", f"    {text.doc}", *(f"    {it}" for it in text.clauses)]
-    lines += wrapped("must-fail edits of the gate:", gate) if gate else []
-    lines += wrapped("other must-fail edits:", others) if others else []
-    lines += wrapped("no must-fail edit:", text.bare) if text.bare else []
-    lines += wrapped("tests:", " ".join(contract.tests)) if contract.tests else []
+    lines = [f"{one.path()}  {one.file}:{one.at + 1}"]
+    lines += [f"    {line}" for line in (text.doc, *text.clauses)]
+    lines += wrapped("must-fail edits of the gate:", gate)
+    lines += wrapped("other must-fail edits:", others)
+    lines += wrapped("no must-fail edit:", text.bare)
+    lines += wrapped("tests:", " ".join(contract.tests))
     return "\n".join(lines) + "\n"
 
 
@@ -236,22 +264,25 @@ def wrongs_of(contract):
         yield f"{place} has no doc comment"
     is_free = one.module == "laws" or bool(contract.edits)
     if is_free == bool(text.bare):
-        yield f"{place} has {'a needless' if text.bare else 'no must-fail edit, and no'} line `// bare: REASON`"
+        lack = "a needless" if text.bare else "no must-fail edit, and no"
+        yield f"{place} has {lack} line `// bare: REASON`"
 
 
 def wrongs_of_bare(library):
-    """Yields the lines `bare` that stand above no public function."""
-    public = sum(bool(library.texts[key(one)].bare) for one in library.functions if one.is_public)
-    lines = [f"{path}:{at + 1}" for path, found in library.lines.items() for at, line in enumerate(found) if BARE.match(line)]
-    if len(lines) != public:
-        yield f"{len(lines)} lines `// bare:`, but {public} public functions with one: {', '.join(lines)}"
+    """Yields a message if lines `bare` stand above no public function."""
+    public = [one for one in library.functions if one.is_public]
+    read = sum(bool(library.texts[key(one)].bare) for one in public)
+    every = [line for lines in library.lines.values() for line in lines if BARE.match(line)]
+    if len(every) != read:
+        yield f"{len(every)} lines `// bare:`, but only {read} above public functions"
 
 
 def wrongs_of_gate(library):
     """Yields the crates of which the gate tries too few edits."""
     for crate in LIBRARIES:
         tried = sum(edit.is_in_gate for edit in edits_of(crate))
-        lines = [line for path, found in library.lines.items() if path.startswith(f"crates/{crate}/src/") for line in found]
+        paths = [path for path in library.lines if path.startswith(f"crates/{crate}/src/")]
+        lines = [line for path in paths for line in library.lines[path]]
         public = sum(bool(re.match(r"\s*pub (?:const )?fn ", line)) for line in lines)
         if tried < public // 2:
             yield f"{crate}: the gate tries {tried} edits, for {public} functions `pub fn`"
@@ -261,15 +292,16 @@ def has_clauses(crate, path, clauses):
     """Returns whether a function of a crate, or a type by a ghost item, has these clauses."""
     ones = [one for one in crate.functions if ("::" + one.path()).endswith("::" + path)]
     ghosts = crate.ghosts.get(path.split("::")[-1], set())
-    return any(set(clauses) <= one.clauses | one.premises for one in ones) or bool(clauses and set(clauses) <= ghosts)
+    is_ghost = bool(clauses and set(clauses) <= ghosts)
+    return is_ghost or any(set(clauses) <= one.clauses | one.premises for one in ones)
 
 
 def wrongs_of_page(library):
     """Yields the names in the crates' parts of the page that nothing has."""
     for part in re.split(r"(?m)^### ", text_of(PAGE))[1:]:
         crate = library.crates.get(part.split("\n")[0])
-        cited = " ".join(re.findall(r"\bContract: ([^.]*)", part.replace("\n", " "))) if crate else ""
-        for path, clauses in re.findall(r"`([\w:]*\w)(?:: ([\w, ]+))?`", cited):
+        lists = re.findall(r"\bContract: ([^.]*)", part.replace("\n", " ")) if crate else ()
+        for path, clauses in re.findall(r"`([\w:]*\w)(?:: ([\w, ]+))?`", " ".join(lists)):
             if not has_clauses(crate, path, re.findall(r"\w+", clauses)):
                 yield f"{PAGE}: {crate.name} has no {path}{': ' + clauses if clauses else ''}"
 
