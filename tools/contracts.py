@@ -30,6 +30,7 @@ With --check it prints only what is wrong. It fails in these cases:
 """
 
 import re
+import signal
 import sys
 import textwrap
 from collections import deque
@@ -321,6 +322,7 @@ def main():
     if words == ["--check"]:
         public, wrongs = checked(library)
         return ended(max(public - len(wrongs), 0), wrongs)
+    signal.signal(signal.SIGPIPE, signal.SIG_DFL)  # `make contracts | head` ends without a message.
     for contract in library.contracts():
         text = printed(contract)
         if all(word in text.lower() for word in words):
