@@ -33,14 +33,12 @@ OPTIONS ?= -n 16
 sizes:
 	@PYTHONPATH=python python3 -m aecp fit $(FILE) $(OPTIONS)
 
-# Checks the generated pages, runs the gate (`rt ci`), then tests the program that the gate has built.
+# Checks the contracts and the generated pages, runs the gate (`rt ci`), then tests the program that the gate has built.
 test:
 	sh tests/run.sh
 
-# Writes docs/PROOFS.md from the claims of the crates, after it has checked each name that they cite, and the tables of modules in the
-# README of each crate.
+# Writes the tables of modules in the README of each crate.
 pages:
-	@python3 tools/pages.py
 	@python3 tools/modules.py
 
 # Writes man/aec.1 from docs/COMMAND.md, and man/aecp.1 from docs/ARCHIVE.md.
@@ -55,6 +53,11 @@ version:
 # Writes docs/theorems/: all that a reader of a theorem has to believe. For another theorem: make theorem OF="aec_edit::write_edited samples"
 theorem:
 	@python3 tools/theorem.py $(OF)
+
+# Prints the contract of each public function, its must-fail edits and its tests. make contracts offset: only those with this word.
+.PHONY: contracts
+contracts:
+	@python3 tools/contracts.py $(WORDS)
 
 # Prints the functions that are called for one sample, with their files, and the mean number of clauses of a function in each crate.
 .PHONY: walk
@@ -163,3 +166,11 @@ dist:
 # Installs the packages into empty roots, runs the commands of the pages there, and removes the packages again.
 test-packages:
 	$(PYTHON) tests/packages.py
+
+# With `make contracts WORD..` the words are no targets. This stands last, so that it holds for words that name targets, too.
+ifeq (contracts,$(firstword $(MAKECMDGOALS)))
+WORDS := $(wordlist 2,$(words $(MAKECMDGOALS)),$(MAKECMDGOALS))
+.PHONY: $(WORDS)
+$(WORDS):
+	@:
+endif

@@ -5,7 +5,7 @@ Words are counted as `wc -w` does: whatever stands between blanks, also code, ta
 writes into a page, from a line `<!-- Written by .. -->` to a line `<!-- end -->` or the end of the page, and the tables of
 docs/SURFACE.md, which surface.py checks. The pages are those at the top
 and in docs/, README.md of examples/ and of each crate and package, and bench/steps.md. Not among them: docs/theorems/, bench/tables.md
-and LICENSE, and the claims, from which docs/PROOFS.md is written.
+and LICENSE.
 
 A list item begins a line: ` - ` before a word within a line is an item that was joined to the one before it.
 
@@ -34,10 +34,11 @@ MOST = {
     "docs/FORMAT.md": 3800,
     "docs/LIBRARY.md": 1200,
     "docs/PACKAGING.md": 400,
+    "docs/PROOFS.md": 12500,
     "docs/RECIPES.md": 1600,
     "docs/SPEED.md": 1500,
 }
-ALL = 28000
+ALL = 40500
 FOLDERS = ("*.md", "docs/*.md", "examples/*.md", "crates/*/README.md", "bench/steps.md")
 ALONE = ("python/README.md", "rust/*/README.md")
 RUN = 8

@@ -1,6 +1,6 @@
 #!/bin/sh
-# Runs every test, from the top of the repository, for `make test`: that generated pages are current, that files keep the limits of
-# the house, that each must-fail edit can be applied, that each lemma is cited, that the crates export what docs/SURFACE.md lists, then
+# Runs every test, from the top of the repository, for `make test`: that each public function has a contract and a must-fail edit, that
+# generated pages are current, that files keep the limits of the house, that each must-fail edit can be applied, that each lemma is cited, that the crates export what docs/SURFACE.md lists, then
 # the gate, then the scripts of tests/ on the programs that the gate has built.
 # Fails if one part fails. At the end it prints the seconds of each part. The last line counts what passed and failed: it is the gate's
 # line if all parts have passed, else that of the first part that failed, and the lines above say why it failed.
@@ -55,7 +55,7 @@ explain() {
     grep -E 'MemTotal|MemAvailable' /proc/meminfo
 }
 
-part pages python3 tools/pages.py --check
+part contracts python3 tools/contracts.py --check
 part definitions python3 tests/definitions.py
 part modules python3 tools/modules.py --check
 part theorems python3 tools/theorem.py --check
@@ -104,7 +104,7 @@ part instructions on_program tests/instructions_bounded.py
 
 last=gate
 # Every part in the order above. The first that failed is explained.
-for name in pages definitions modules theorems man limits edits cited surface gate coded cuts damaged memory calls files small trips \
+for name in contracts definitions modules theorems man limits edits cited surface gate coded cuts damaged memory calls files small trips \
     scripts recipes installed worked pictures instructions; do
     if ! has_passed "$name"; then
         last=$name

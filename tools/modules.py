@@ -2,9 +2,9 @@
 """Writes the table of modules at the end of each crate's README.md: modules.py [--check]
 
 A row has a module, its public functions, types and traits, and the first sentence of the `//!` comment of its file. Below the
-table are the libraries that the crate uses, from crates.txt, and a link to its claims. The text above the line NOTE is written by
-hand. A crate of tests needs no README. All crates of tests are rows of a table in docs/ARCHITECTURE.md, which this script writes
-too.
+table are the libraries that the crate uses, from crates.txt, and a link to what docs/PROOFS.md says of the crate. The text above
+the line NOTE is written by hand. A crate of tests needs no README. All crates of tests are rows of a table in
+docs/ARCHITECTURE.md, which this script writes too.
 
 Fails if a module has no `//!` comment, or if a crate has no README (crates of tests aside). With --check nothing is written, and
 the script also fails if a page differs from what it would write.
@@ -36,7 +36,7 @@ def sentence_of(text):
 
 
 def items_of(crate, path):
-    """Returns the names of a module's items that its crate exports; none for `laws`, which only claims describe."""
+    """Returns the names of a module's items that its crate exports; none for `laws`, which only docs/PROOFS.md describes."""
     names, opened = exports_of(crate)
     module = module_of(path)
     items = ITEM.findall(text_of(path))
@@ -71,12 +71,12 @@ def table_of(crate, wrongs):
 
 
 def uses_of(crate):
-    """Returns the line that says which libraries a crate uses, where its claims are and how to check it."""
+    """Returns the line that says which libraries a crate uses, what docs/PROOFS.md says of it and how to check it."""
     named = re.search(rf"(?m)^{crate}(?: staticlib)?: (.*)$", text_of("crates.txt"))[1].split()
     uses = f"Uses {', '.join(f'`{name}`' for name in named)}."
-    has_claims = os.path.exists(os.path.join(TOP, f"crates/{crate}/claims.txt"))
-    claims = f" What is proved: [PROOFS.md](../../docs/PROOFS.md#{crate})." if has_claims else ""
-    return f"{uses}{claims} How to check it: [CONTRIBUTING.md](../../CONTRIBUTING.md#commands).\n"
+    is_told = re.search(rf"(?m)^### {crate}$", text_of("docs/PROOFS.md"))
+    proved = f" What is proved: [PROOFS.md](../../docs/PROOFS.md#{crate})." if is_told else ""
+    return f"{uses}{proved} How to check it: [CONTRIBUTING.md](../../CONTRIBUTING.md#commands).\n"
 
 
 def written(crate, wrongs):

@@ -27,6 +27,8 @@ class Function(NamedTuple):
     is_test: bool
     # Declared by a trait, so only impls have a body.
     is_declared: bool
+    # The trait whose impl it is in, without its path; empty elsewhere.
+    trait: str
     # Its file, and its line there, counted from 0.
     file: str
     at: int
@@ -45,6 +47,16 @@ class Crate(NamedTuple):
     modules: list
     # The names that its root exports.
     exports: set
+
+
+class Edit(NamedTuple):
+    """A must-fail edit."""
+
+    crate: str
+    name: str
+    is_in_gate: bool
+    # Pairs of a file, from the crate's folder, and a text that is changed in it.
+    changes: list
 
 
 def text_of(path):
@@ -79,19 +91,19 @@ def exports_of(crate):
 def functions_in(path, crate, found):
     """Adds the functions of a file to `found`, and its ghost items and impls to the crate."""
     names, opened = exports_of(crate.name)
-    module, owner, is_trait, is_test, clauses = module_of(path), "", False, False, {}
+    module, owner, trait, is_trait, is_test, clauses = module_of(path), "", "", False, False, {}
     for number, line in enumerate(text_of(path).splitlines()):
         if line.startswith("}"):
-            owner, is_trait = "", False
+            owner, trait, is_trait = "", "", False
         elif at := OWNER.match(line):
-            owner, is_trait = at[2] or at[3], bool(at[3])
+            owner, trait, is_trait = at[2] or at[3], (at[1] or "").split("::")[-1], bool(at[3])
             crate.impls.add((at[1], owner))
         elif at := FUNCTION.match(line):
             clauses = {"ensures": set(), "requires": set()}
             is_open = at[3] or module in opened or (owner or at[4]) in names
             is_public = bool(is_open) and (is_trait or at[2] == "pub ")
             place = (crate.name, module, owner, at[4])
-            kinds = (is_public, is_test, is_trait)
+            kinds = (is_public, is_test, is_trait, trait)
             found.append(Function(*place, *clauses.values(), *kinds, path, number))
             is_test = False
         elif at := CLAUSE.match(line):
@@ -116,10 +128,34 @@ def all_crates():
     return {line[1]: crate_of(line[1]) for line in lines if line}
 
 
-def edits_of(crate, folders=("must-fail", "more-must-fail")):
-    """Returns the names of the must-fail edits of a crate."""
-    paths = [it for folder in folders for it in files_below(f"crates/{crate}/{folder}", ".edit")]
-    return [os.path.basename(path).removesuffix(".edit") for path in paths]
+def read_edit(crate, name, is_in_gate, lines):
+    """Returns a must-fail edit: its lines `old:` and `new:` change the file that the last line `file:` before them names."""
+    changes, file, old = [], "", ""
+    for line in lines:
+        word, _, rest = line.partition(":")
+        if word == "file":
+            file = rest.strip()
+        elif word == "old":
+            old = rest.removeprefix(" ")
+        elif word == "new":
+            changes.append((file, old))
+    return Edit(crate, name, is_in_gate, changes)
+
+
+def edits_of(crate):
+    """Returns the must-fail edits of a crate: those of must-fail/, which the gate tries, then those of more-must-fail/, or if
+    there is no such folder, those of more-must-fail.txt, whose entries begin with a line `name:`."""
+    edits = []
+    for folder in ("must-fail", "more-must-fail"):
+        for path in files_below(f"crates/{crate}/{folder}", ".edit"):
+            name = os.path.basename(path).removesuffix(".edit")
+            edits.append(read_edit(crate, name, folder == "must-fail", text_of(path).split("\n")))
+    text = f"crates/{crate}/more-must-fail.txt"
+    if os.path.exists(os.path.join(TOP, text)):
+        for entry in re.split(r"(?m)^name: *", text_of(text))[1:]:
+            name, *lines = entry.split("\n")
+            edits.append(read_edit(crate, name.strip(), False, lines))
+    return edits
 
 
 def write_or_compare(path, page, command, is_check):

@@ -82,7 +82,7 @@ def words_above(lines, start, mark):
 
 def without_attributes(lines):
     left = [line for line in lines if line.strip()]
-    return [line for line in left if not line.strip().startswith(("#[", "ghost use "))]
+    return [line for line in left if not line.strip().startswith(("#[", "ghost use ", "// bare: "))]
 
 
 class File:

@@ -3,7 +3,7 @@
 
 The file VERSION is the one place where a version is changed. Makefile, tools/man.py, packaging/ and the tests read it. Files that
 cannot read it, such as sources and headers, contain a copy, and PLACES lists these copies. `make version` writes the copies, the
-manual page and docs/PROOFS.md.
+manual page and the pages that `make pages` writes.
 
 With --check nothing is written, and the script fails if a copy differs.
 """
@@ -19,7 +19,7 @@ PLACES = [
     ("crates/aec_cli/src/words.rt", 'const VERSION: &str = "POINTS";'),
     ("crates/aec_tests/src/words.rt", 'b"aec POINTS\\n"'),
     ("crates/aec_c/src/exports.rt", "aecp_version() -> u32\n    ensures { result ≡ NUMBER }\n{\n    NUMBER\n}"),
-    ("crates/aec_c/claims.txt", "The version is NUMBER, that of POINTS\n"),
+    ("docs/PROOFS.md", "The version is NUMBER, that of POINTS."),
     ("include/aecp.h", "The version of this header, POINTS:"),
     ("include/aecp.h", "#define AECP_VERSION NUMBER\n"),
     ("python/aecp/__init__.py", '__version__ = "POINTS"\n'),

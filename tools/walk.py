@@ -69,10 +69,11 @@ def bodies(path, functions):
 class CallGraph:
     """The functions of the crates, and which functions each one calls."""
 
-    def __init__(self):
+    def __init__(self, are_tests_judged=False):
         crates = all_crates()
-        judged = [crate for crate in crates.values() if not crate.name.endswith(("_tests", "_example"))]
-        self.functions = [one for crate in judged for one in crate.functions if not one.is_test]
+        left_out = () if are_tests_judged else ("_tests", "_example")
+        judged = [crate for crate in crates.values() if not crate.name.endswith(left_out)]
+        self.functions = [one for crate in judged for one in crate.functions if are_tests_judged or not one.is_test]
         self.impls = {pair for crate in crates.values() for pair in crate.impls if pair[0]}
         self.by_name = {}
         for one in self.functions:
