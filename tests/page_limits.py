@@ -30,7 +30,7 @@ MOST = {
     "docs/COMMAND.md": 2600,
     "docs/DECISIONS.md": 3500,
     "docs/FORMAT.md": 3300,
-    "docs/LIBRARY.md": 1000,
+    "docs/LIBRARY.md": 1050,
     "docs/PACKAGING.md": 300,
     "docs/RECIPES.md": 1400,
     "docs/SPEED.md": 1300,
