@@ -81,7 +81,8 @@ def try_pieces(aecp, seed, number, tally):
 
 
 def try_refused_pieces(aecp, tally):
-    """Checks that each call after a sample out of range names its index among all samples again."""
+    """Checks that each call after a sample out of range names its index among all samples again, and that
+    `count` contains no sample of a refused call."""
     coder = aecp.Encoder(aecp.Options(7))
     coder.feed(bytes(3000))
     for call in (lambda: coder.feed(b"\1\x80"), lambda: coder.feed(b"\1"), coder.finish):
@@ -90,6 +91,7 @@ def try_refused_pieces(aecp, tally):
             tally.holds(False, "a sample of 8 bits is fed")
         except aecp.SampleRefused as fault:
             tally.check("refused piece", fault.index, 3001)
+        tally.check("the count after a refused piece", coder.count, 3000)
     try:
         aecp.Encoder(aecp.Options(33))
         tally.holds(False, "33 bits")

@@ -2,7 +2,8 @@
 """Tests the Python module with lists, threads, copies, wrong types: library_python.py FOLDER [--seed N] [--cases N] [--only N]
 
 FOLDER contains libaecp.so. Tests in turn
-  - eight threads that append to one workspace, read it, and edit it: no sample is lost, and each thread reads what was written;
+  - eight threads that share a workspace, an Encoder or a Decoder: no sample is lost, and each call is one step for the other threads; and
+    buffers, which can't grow while a call uses them (library_threads.py);
   - copies, deep copies and pickles: each has its own samples, and if it is dropped the original stays;
   - samples that are no whole numbers, and options that are no numbers or bools: refused with TypeError. So are samples, streams and
     options of other kinds, with a message that names the argument (library_refusals.py);
@@ -26,71 +27,11 @@ import shutil
 import subprocess
 import sys
 import tempfile
-import threading
 
 from library_arrays import interpreter
 from library_refusals import try_refusals
+from library_threads import try_threads
 from program import TOP, Tally, add_case_options, numbers_of, raised
-
-THREADS, ROUNDS = 8, 150
-
-
-def in_threads(work):
-    """Runs work(number) in eight threads. Returns what they raised."""
-    faults = []
-
-    def run(number):
-        fault = raised(lambda: work(number))
-        if fault is not None:
-            faults.append(repr(fault))
-
-    threads = [threading.Thread(target=run, args=(number,)) for number in range(THREADS)]
-    for thread in threads:
-        thread.start()
-    for thread in threads:
-        thread.join()
-    return faults
-
-
-def try_threads(tally):
-    """Tests threads that append, that read, that edit and read, and that append while one closes the workspace."""
-    options = aecp.Options(16, interval=2)
-    with aecp.Workspace(options) as work:
-
-        def append(number):
-            for i in range(ROUNDS):
-                work.append(number * ROUNDS + i)
-
-        tally.check("threads that append", in_threads(append), [])
-        tally.check("all that threads appended", sorted(work), list(range(THREADS * ROUNDS)))
-        samples, coded = list(work), work.tobytes()
-
-        def read(number):
-            for i in range(ROUNDS):
-                place = (number * 37 + i * 11) % len(samples)
-                assert len(work) == len(samples) and work[place] == samples[place]
-                assert i % 10 or work.tobytes() == coded
-                assert i % 50 or work.copy() == samples
-
-        tally.check("threads that read", in_threads(read), [])
-
-        def edit(number):
-            for i in range(ROUNDS):
-                place = number * ROUNDS + i
-                work[place] = place + 1
-                assert work[place] == place + 1 and len(work) == THREADS * ROUNDS
-
-        tally.check("threads that write and read", in_threads(edit), [])
-        tally.check("all that threads wrote", work, list(range(1, THREADS * ROUNDS + 1)))
-
-        def close(number):
-            for _ in range(ROUNDS):
-                fault = raised(lambda: work.append(1)) if number else raised(work.close)
-                assert fault is None or isinstance(fault, aecp.Fault)
-
-        tally.check("threads while one closes", in_threads(close), [])
-        tally.check("a closed workspace", (len(work), repr(work)), (0, "<closed Workspace>"))
-
 
 def try_copies(tally):
     options = aecp.Options(12, signed=True)
@@ -351,7 +292,7 @@ def words():
 
 def main():
     asked, tally = words(), Tally()
-    try_threads(tally)
+    try_threads(aecp, tally)
     try_copies(tally)
     try_closed(tally)
     try_types(tally)

@@ -90,6 +90,38 @@ def try_arguments(aecp, tally):
     tally.holds(r"insert 100 7 8 9\nremove 0 5\n" in aecp.__doc__, "the docstring's script has line breaks")
 
 
+def try_wide_options(aecp, tally):
+    """Checks that a number of the options that doesn't fit 32 bits is refused, and not cut to 32 bits."""
+    coded = aecp.encode(bytes(64), aecp.Options(16))
+    calls = [lambda options: aecp.encode(bytes(64), options), lambda options: aecp.decode_bytes(coded, 32, options)]
+    calls += [aecp.Workspace, aecp.Encoder, lambda options: aecp.Decoder(coded, 32, options)]
+    right = {"bits": 16, "block_size": 16, "interval": 128}
+    for name, number in right.items():
+        for wide in (2**32 + number, 2**64 + number, number - 2**32):
+            for call in calls:
+                said = raised(lambda: call(aecp.Options(**{**right, name: wide})))
+                what = f"the options have {name} {wide}"
+                tally.check(what, (type(said), str(said)), (ValueError, f"{name} must be 0 to 2^32 - 1"))
+        most = raised(lambda: aecp.encode(b"", aecp.Options(**{**right, name: 2**32 - 1})))
+        tally.check(f"the options have the greatest {name}", type(most), aecp.OptionsRefused)
+
+
+def try_great_counts(aecp, tally):
+    """Checks that counts from 2^32 + 1 to 2^64 - 1 are too many samples, and that others must fit 64 bits."""
+    options = aecp.Options(16)
+    coded = aecp.encode(bytes(64), options)
+    calls = [lambda count: aecp.decode_bytes(coded, count, options), lambda count: aecp.Decoder(coded, count, options)]
+    calls += [lambda count: aecp.decode_range_bytes(coded, count, 0, 1, options), lambda count: aecp.edit(coded, count, "", options)]
+    calls += [lambda count: aecp.Workspace.of_coded(coded, count, options)]
+    for call in calls:
+        for count in (2**32 + 1, 2**63, 2**64 - 2, 2**64 - 1):
+            said = raised(lambda: call(count))
+            tally.check(f"a count of {count}", (type(said), getattr(said, "place", None)), (aecp.LimitPassed, 2**32))
+        for count in (2**64, 2**64 + 32, -1):
+            said = raised(lambda: call(count))
+            tally.check(f"a count of {count}", (type(said), str(said)), (ValueError, "count must be 0 to 2^64 - 1"))
+
+
 def try_single_numbers(aecp, tally, numbers):
     """Checks that a number in place of an iterable is refused and changes nothing, except in append, insert and overwrite."""
     work = aecp.Workspace(aecp.Options(16), range(9))
@@ -152,6 +184,8 @@ def try_refusals(aecp, numpy, tally):
     try_bytes(aecp, tally)
     try_buffers(aecp, tally)
     try_arguments(aecp, tally)
+    try_wide_options(aecp, tally)
+    try_great_counts(aecp, tally)
     try_single_numbers(aecp, tally, [5] if numpy is None else [5, numpy.int64(5), numpy.array(5)])
     if numpy is not None:
         try_numpy(aecp, numpy, tally)

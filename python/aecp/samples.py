@@ -18,8 +18,8 @@ class Held:
 
     def __init__(self, samples: Any) -> None:
         self.samples: Any = held_in(samples)
-        self.len = len(self.samples)
         self.view = memoryview(self.samples)  # as long as it exists, the memory can't be freed or resized
+        self.len = len(self.samples)
 
     @property
     def at(self) -> int:

@@ -53,7 +53,8 @@ class Encoder(Alone):
             file.write(coder.feed(piece))
         file.write(coder.finish())
 
-    `count` is the number of samples so far: keep it with the stream. Any number of threads may call.
+    `count` is the number of samples so far: keep it with the stream. Any number of threads may call. They must hold a lock of their own
+    while they call feed and write the returned piece. Without this lock, the order of the pieces is unknown.
     """
 
     def __init__(self, options: Options) -> None:
