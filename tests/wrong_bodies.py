@@ -1,10 +1,11 @@
 #!/usr/bin/env python3
-"""Tries the wrong bodies that the gate leaves out: wrong_bodies.py [CRATE|CRATE/EDIT..]
+"""Tries the wrong bodies that the gate leaves out: wrong_bodies.py [CRATE|CRATE/NAME..]
 
-These are the edits of crates/CRATE/more-must-fail/, with which the gate would take too long. They have the form of the must-fail edits
-in must-fail/, and the checker must refuse them too. Each crate is tried in its own copy below bin/, with the proofs that `make bin/aec`
-has kept; as many crates are tried at a time as there are processors. With names, only those crates or edits are tried. Without, the
-first edit of a crate is another each day: so a run that is stopped leaves out other edits than the one of the day before.
+These are the entries of crates/CRATE/more-must-fail.txt, with which the gate would take too long.
+An entry is a name, and then the text of a must-fail edit as in must-fail/. The checker must refuse
+each. Each crate is tried in its own copy below bin/, with the proofs that `make bin/aec` has kept; as
+many crates are tried at a time as there are processors. With names, only those crates or edits are
+tried.
 
 Prints for each edit the first thing that the checker refuses. An edit fails if it can't be applied, if the checker can't read the
 edited text, if the crate is still proved, or if it is refused only because a proof names what the edit took away. A crate fails if it
@@ -12,7 +13,6 @@ isn't proved without edits, before them or after them. The last line counts what
 failed.
 """
 
-import datetime
 import os
 import re
 import shutil
@@ -22,8 +22,10 @@ import tempfile
 from concurrent.futures import ThreadPoolExecutor, as_completed
 from typing import NamedTuple
 
-TOP = os.path.abspath(os.path.join(os.path.dirname(__file__), ".."))
-EDITS = "more-must-fail"
+sys.path.insert(0, os.path.join(os.path.dirname(__file__), "..", "tools"))
+
+from sources import TOP, listed_edits_of
+
 REFUSED = "logic=not-proved"
 SECONDS = 900
 # What the checker prints if it can't read a text.
@@ -40,7 +42,9 @@ class Unusable(Exception):
 class Edit(NamedTuple):
     crate: str
     name: str
-    path: str
+    # For each place that it changes the lines `file: PATH`, `old: TEXT` and `new: TEXT`. Without a
+    # line `file`, the place is in the file of the place before.
+    text: str
 
 
 def text_of(folder, path):
@@ -55,15 +59,7 @@ def put(folder, texts):
 
 
 def edits_of(crate):
-    folder = os.path.join(TOP, "crates", crate, EDITS)
-    names = sorted(os.listdir(folder)) if os.path.isdir(folder) else []
-    return [Edit(crate, name.removesuffix(".edit"), os.path.join(folder, name)) for name in names]
-
-
-def turned(edits, day):
-    """Returns the edits in their order, but from another one on each day."""
-    first = day * (len(edits) * 3 // 8 + 1) % len(edits)
-    return edits[first:] + edits[:first]
+    return [Edit(crate, name, text) for name, text in listed_edits_of(crate)]
 
 
 def asked_edits(names):
@@ -116,11 +112,11 @@ def copy_of(crate, direct, room):
 def changed_texts(edit, folder):
     """Returns the edited texts, by their path in the crate. Raises Unusable if the edit can't be applied."""
     texts, path, old = {}, None, None
-    for line in text_of(*os.path.split(edit.path)).split("\n"):
+    for line in edit.text.rstrip("\n").split("\n"):
         word, is_one, rest = line.partition(":")
         rest = rest.removeprefix(" ")
         if not is_one or word not in ("file", "old", "new"):
-            continue
+            raise Unusable(f"it has a line that is no file, old or new text: {line}")
         if word == "file":
             path = rest
         elif word == "old":
@@ -199,8 +195,7 @@ def try_crate(crate, edits, direct, room):
 
 def main():
     direct = uses()
-    today = datetime.date.today().toordinal()
-    asked = asked_edits(sys.argv[1:]) or {crate: turned(edits_of(crate), today) for crate in direct if edits_of(crate)}
+    asked = asked_edits(sys.argv[1:]) or {crate: edits_of(crate) for crate in direct if edits_of(crate)}
     crates = sorted(asked, key=lambda crate: -len(asked[crate]))
     ends = {}
     os.makedirs(os.path.join(TOP, "bin"), exist_ok=True)

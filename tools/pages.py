@@ -33,7 +33,8 @@ import re
 import sys
 from typing import NamedTuple
 
-from sources import TOP, all_crates, edits_of, ended, files_below, text_of, write_or_compare
+from sources import TOP, all_crates, edits_of, ended, files_below, gate_edits_of, text_of
+from sources import write_or_compare
 
 PAGE = "docs/PROOFS.md"
 FRAME = "docs/claims.txt"
@@ -91,7 +92,7 @@ class Names:
         runs = text_of("tests/run.sh") + text_of("Makefile")
         self.scripts = set(re.findall(r"tests/\w+\.py", runs)) - NO_TESTS
         self.edits = {name: edits_of(name) for name in self.crates}
-        self.gate = {name: set(edits_of(name, ["must-fail"])) for name in self.crates}
+        self.gate = {name: set(gate_edits_of(name)) for name in self.crates}
         # Paths of functions in claims with a must-fail edit, and of functions on lines `bare`.
         self.guarded, self.bare = set(), set()
         self.words = set(re.findall(r"\w+", self.all_text()))
@@ -285,8 +286,7 @@ def judge_claim(lines, crate, names):
 def counts_of(crate, parts):
     claims = sum(isinstance(part, Claim) and "bare" not in part.lines for part in parts)
     public = sum(one.is_public for one in crate.functions)
-    gate = len(files_below(f"crates/{crate.name}/must-fail", ".edit"))
-    every = len(edits_of(crate.name))
+    gate, every = len(gate_edits_of(crate.name)), len(edits_of(crate.name))
     edits = f"{every} must-fail edits, of which the gate tries {gate}"
     return f"{claims} claims, {public} public functions, {edits}."
 

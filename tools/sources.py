@@ -116,10 +116,28 @@ def all_crates():
     return {line[1]: crate_of(line[1]) for line in lines if line}
 
 
-def edits_of(crate, folders=("must-fail", "more-must-fail")):
-    """Returns the names of the must-fail edits of a crate."""
-    paths = [it for folder in folders for it in files_below(f"crates/{crate}/{folder}", ".edit")]
+def gate_edits_of(crate):
+    """Returns the names of the must-fail edits of a crate that the gate tries."""
+    paths = files_below(f"crates/{crate}/must-fail", ".edit")
     return [os.path.basename(path).removesuffix(".edit") for path in paths]
+
+
+def listed_edits_of(crate):
+    """Returns the name and the text of each entry in a crate's more-must-fail.txt.
+
+    Empty lines separate the entries. An entry is a line `name: NAME`, and then the text of a must-fail
+    edit as in must-fail/. What begins with `#` in place of an entry is a comment.
+    """
+    path = f"crates/{crate}/more-must-fail.txt"
+    text = text_of(path) if os.path.exists(os.path.join(TOP, path)) else ""
+    parts = [part for part in re.split(r"\n{2,}", text.strip("\n")) if part and not part.startswith("#")]
+    heads = [part.partition("\n") for part in parts]
+    return [(head.removeprefix("name: "), rest) for head, _, rest in heads]
+
+
+def edits_of(crate):
+    """Returns the names of all must-fail edits of a crate."""
+    return gate_edits_of(crate) + [name for name, _ in listed_edits_of(crate)]
 
 
 def write_or_compare(path, page, command, is_check):
