@@ -64,9 +64,11 @@ contracts:
 walk:
 	@python3 tools/walk.py
 
-# Tries the deliberately wrong function bodies that the gate leaves out. The checker must refuse each.
+# Tries the deliberately wrong function bodies that the gate leaves out. The checker must refuse each. With CHANGED=COMMIT it tries
+# only those of the crates that differ from this commit.
+CHANGED ?=
 wrong-bodies: bin/aec
-	python3 tests/wrong_bodies.py
+	python3 tests/wrong_bodies.py $(if $(CHANGED),--changed $(CHANGED))
 
 # Prints tables of time and memory beside libaec's client, and of what edits cost. Tests nothing.
 bench: bin/aec

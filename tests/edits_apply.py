@@ -1,9 +1,11 @@
 #!/usr/bin/env python3
-"""Checks that each edit of must-fail/ and more-must-fail/ can be applied to the code: edits_apply.py
+"""Checks that each must-fail edit can be applied to the code: edits_apply.py
 
-Checks too that the gate has an edit for each of the wrong bodies in NAMED. Prints each edit that can't be applied, and why, such as an
-old text that its file doesn't contain exactly once; and each wrong body without its edit or test. The last line counts what passed and
-failed. Ends with status 1 if something failed or there is no edit.
+The edits are the files of crates/CRATE/must-fail/ and the entries of crates/CRATE/more-must-fail.txt.
+Checks too that no two edits of a crate have the same name, and that the gate has an edit for each of
+the wrong bodies in NAMED. Prints each edit that can't be applied, and why, such as an old text that its
+file doesn't contain exactly once; and each wrong body without its edit or test. The last line counts
+what passed and failed. Ends with status 1 if something failed or there is no edit.
 """
 
 import glob
@@ -11,7 +13,7 @@ import os
 import re
 import sys
 
-from wrong_bodies import TOP, Edit, Unusable, changed_texts
+from wrong_bodies import TOP, Edit, Unusable, changed_texts, edits_of, text_of
 
 # The wrong bodies against which the contracts were written, and the edits of the gate (crate/edit) that are such bodies.
 NAMED = {
@@ -75,11 +77,25 @@ REFUSED_BY_TESTS = [
 ]
 
 
-def why_not(path):
-    """Returns why an edit can't be applied to its crate, or None."""
-    crate = os.path.dirname(os.path.dirname(path))
+def all_edits():
+    """Returns each must-fail edit of each crate, those of the gate first."""
+    found = []
+    for crate in sorted(os.listdir(os.path.join(TOP, "crates"))):
+        for path in sorted(glob.glob(os.path.join(TOP, "crates", crate, "must-fail", "*.edit"))):
+            folder, name = os.path.split(path)
+            found.append(Edit(crate, name.removesuffix(".edit"), text_of(folder, name)))
+        found += edits_of(crate)
+    return found
+
+
+def why_not(edit, edits):
+    """Returns why an edit can't be applied to its crate, or can't be told from another one; or None."""
+    if not re.fullmatch(r"[a-z]\w*", edit.name):
+        return "it has no line `name: NAME`, or the name is no word"
+    if sum((it.crate, it.name) == (edit.crate, edit.name) for it in edits) > 1:
+        return "two edits have this name"
     try:
-        changed_texts(Edit(os.path.basename(crate), os.path.basename(path), path), crate)
+        changed_texts(edit, os.path.join(TOP, "crates", edit.crate))
     except (Unusable, OSError) as why:
         return str(why)
     return None
@@ -104,13 +120,13 @@ def missing():
 
 
 def main():
-    paths = sorted(glob.glob(os.path.join(TOP, "crates", "*", "*must-fail", "*.edit")))
-    found = [f"{os.path.relpath(path, TOP)}: {why}\n" for path in paths if (why := why_not(path))]
+    edits = all_edits()
+    found = [f"{it.crate}/{it.name}: {why}\n" for it in edits if (why := why_not(it, edits))]
     lost = list(missing())
-    checks = len(paths) + sum(map(len, NAMED.values())) + len(REFUSED_BY_TESTS)
+    checks = len(edits) + sum(map(len, NAMED.values())) + len(REFUSED_BY_TESTS)
     failed = len(found) + len(lost)
     print("".join(found + lost) + f"{checks - failed} passed, {failed} failed")
-    return 1 if failed or not paths else 0
+    return 1 if failed or not edits else 0
 
 
 if __name__ == "__main__":

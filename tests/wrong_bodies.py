@@ -1,31 +1,44 @@
 #!/usr/bin/env python3
-"""Tries the wrong bodies that the gate leaves out: wrong_bodies.py [CRATE|CRATE/EDIT..]
+"""Tries the wrong bodies that the gate leaves out: wrong_bodies.py [CRATE|CRATE/NAME..]
 
-These are the edits of crates/CRATE/more-must-fail/, with which the gate would take too long. They have the form of the must-fail edits
-in must-fail/, and the checker must refuse them too. Each crate is tried in its own copy below bin/, with the proofs that `make bin/aec`
-has kept; as many crates are tried at a time as there are processors. With names, only those crates or edits are tried. Without, the
-first edit of a crate is another each day: so a run that is stopped leaves out other edits than the one of the day before.
+These are the entries of crates/CRATE/more-must-fail.txt, with which the gate would take too long.
+An entry is a name, and then the text of a must-fail edit as in must-fail/. The checker must refuse
+each. Each crate is tried in its own copy below bin/, with the proofs that `make bin/aec` has kept;
+as many crates are tried at a time as there are processors. With names, only those crates or edits
+are tried. With `--changed COMMIT` in their place, only the crates are tried whose src/, specs/,
+proofs/ or more-must-fail.txt differ from those of COMMIT; all crates, if git doesn't know COMMIT.
 
-Prints for each edit the first thing that the checker refuses. An edit fails if it can't be applied, if the checker can't read the
-edited text, if the crate is still proved, or if it is refused only because a proof names what the edit took away. A crate fails if it
-isn't proved without edits, before them or after them. The last line counts what passed and what failed. Ends with status 1 if something
-failed.
+Prints for each edit the first thing that the checker refuses. An edit fails if it can't be
+applied, if the checker can't read the edited text, if the crate is still proved, or if it is
+refused only because a proof names what the edit took away. A crate fails if it isn't proved
+without edits, before them or after them. The last line counts what passed and what failed. Ctrl-C
+and the signal TERM stop the run: then the last line also counts the edits that were not tried.
+Ends with status 1 if something failed; else with status 3 if it was stopped.
 """
 
-import datetime
 import os
 import re
 import shutil
+import signal
 import subprocess
 import sys
 import tempfile
+import threading
+import time
 from concurrent.futures import ThreadPoolExecutor, as_completed
 from typing import NamedTuple
 
-TOP = os.path.abspath(os.path.join(os.path.dirname(__file__), ".."))
-EDITS = "more-must-fail"
+sys.path.insert(0, os.path.join(os.path.dirname(__file__), "..", "tools"))
+
+from sources import TOP, listed_edits_of
+
 REFUSED = "logic=not-proved"
 SECONDS = 900
+UNFINISHED = 3
+# Set once the run is told to stop.
+STOP = threading.Event()
+# What decides whether a wrong body of a crate is refused.
+DECIDING = re.compile(r"crates/(\w+)/(src/|specs/|proofs/|more-must-fail\.txt$)")
 # What the checker prints if it can't read a text.
 UNREAD = re.compile(r"is not in scope|has no field|is no name|operand is missing|expected the end|cannot continue")
 
@@ -37,10 +50,16 @@ class Unusable(Exception):
     """Why an edit can't be tried."""
 
 
+class Stopped(Exception):
+    """The run was told to stop before a check ended."""
+
+
 class Edit(NamedTuple):
     crate: str
     name: str
-    path: str
+    # For each place that it changes the lines `file: PATH`, `old: TEXT` and `new: TEXT`. Without a
+    # line `file`, the place is in the file of the place before.
+    text: str
 
 
 def text_of(folder, path):
@@ -55,15 +74,7 @@ def put(folder, texts):
 
 
 def edits_of(crate):
-    folder = os.path.join(TOP, "crates", crate, EDITS)
-    names = sorted(os.listdir(folder)) if os.path.isdir(folder) else []
-    return [Edit(crate, name.removesuffix(".edit"), os.path.join(folder, name)) for name in names]
-
-
-def turned(edits, day):
-    """Returns the edits in their order, but from another one on each day."""
-    first = day * (len(edits) * 3 // 8 + 1) % len(edits)
-    return edits[first:] + edits[:first]
+    return [Edit(crate, name, text) for name, text in listed_edits_of(crate)]
 
 
 def asked_edits(names):
@@ -76,6 +87,42 @@ def asked_edits(names):
             sys.exit(f"no such edits: {name}")
         asked[crate] = asked.get(crate, []) + found
     return asked
+
+
+def git_lines(*words):
+    """Returns the lines that git prints in the checkout, whoever owns it. None if git fails."""
+    try:
+        words = ["git", "-c", "safe.directory=*", *words]
+        ran = subprocess.run(words, cwd=TOP, capture_output=True, text=True)
+    except OSError:
+        return None
+    return ran.stdout.splitlines() if ran.returncode == 0 else None
+
+
+def changed_since(commit, crates):
+    """Prints and returns those of the crates that differ from a commit in what decides whether a wrong
+    body is refused; all crates, if git doesn't know the commit."""
+    known = git_lines("rev-parse", "--verify", "--quiet", f"{commit}^{{commit}}")
+    changed = known and git_lines("diff", "--name-only", "--no-renames", known[0], "--", "crates")
+    new = git_lines("ls-files", "--others", "--exclude-standard", "--", "crates")
+    if changed is None or new is None:
+        print(f"git doesn't know the commit {commit}: all crates are tried", flush=True)
+        return list(crates)
+    named = {found[1] for path in changed + new if (found := DECIDING.match(path))}
+    kept = [crate for crate in crates if crate in named]
+    print(f"crates that differ from {commit}: {' '.join(kept) or 'none'}", flush=True)
+    return kept
+
+
+def asked_of(words, crates):
+    """Returns for each crate the edits that the words of the command line ask for."""
+    if words and words[0] != "--changed":
+        return asked_edits(words)
+    if len(words) == 2:
+        crates = changed_since(words[1], crates)
+    elif words:
+        sys.exit("wrong_bodies.py --changed takes one commit")
+    return {crate: edits_of(crate) for crate in crates if edits_of(crate)}
 
 
 def crate_of(line):
@@ -116,11 +163,11 @@ def copy_of(crate, direct, room):
 def changed_texts(edit, folder):
     """Returns the edited texts, by their path in the crate. Raises Unusable if the edit can't be applied."""
     texts, path, old = {}, None, None
-    for line in text_of(*os.path.split(edit.path)).split("\n"):
+    for line in edit.text.rstrip("\n").split("\n"):
         word, is_one, rest = line.partition(":")
         rest = rest.removeprefix(" ")
         if not is_one or word not in ("file", "old", "new"):
-            continue
+            raise Unusable(f"it has a line that is no file, old or new text: {line}")
         if word == "file":
             path = rest
         elif word == "old":
@@ -138,15 +185,41 @@ def changed_texts(edit, folder):
     return texts
 
 
+def stop(number, frame):
+    STOP.set()
+
+
+def output_of(words, folder):
+    """Returns the status of a command and what it printed; None and nothing if it took too long.
+    Raises Stopped if the run is told to stop before the command ends."""
+    # A command in a session of its own doesn't get the signals that stop this run. This function can
+    # end it with all that it has started.
+    how = {"stdout": subprocess.PIPE, "stderr": subprocess.STDOUT, "start_new_session": True}
+    last = time.monotonic() + SECONDS
+    with subprocess.Popen(words, cwd=folder, **how) as started:
+        while True:
+            try:
+                said = started.communicate(timeout=1)[0]
+                return started.returncode, said
+            except subprocess.TimeoutExpired:
+                if not STOP.is_set() and time.monotonic() < last:
+                    continue
+            os.killpg(started.pid, signal.SIGKILL)
+            if STOP.is_set():
+                raise Stopped
+            return None, b""
+
+
 def check(folder):
-    """Returns the status of a check, None if it took too long, and the checker's lines without those of `rt`, which are advice."""
-    words = ["rt", "check", "--jobs", "1"]
-    try:
-        ran = subprocess.run(words, cwd=folder, stdout=subprocess.PIPE, stderr=subprocess.STDOUT, timeout=SECONDS)
-    except subprocess.TimeoutExpired:
+    """Returns the status of a check, None if it took too long, and the checker's lines without those
+    of `rt`, which are advice. Raises Stopped if the run is told to stop before the check ends."""
+    if STOP.is_set():
+        raise Stopped
+    status, said = output_of(["rt", "check", "--jobs", "1"], folder)
+    if status is None:
         return None, [f"no answer in {SECONDS} seconds"]
-    lines = ran.stdout.decode(errors="replace").rstrip("\n").split("\n")
-    return ran.returncode, [line for line in lines if not line.startswith("rt: ")]
+    lines = said.decode(errors="replace").rstrip("\n").split("\n")
+    return status, [line for line in lines if not line.startswith("rt: ")]
 
 
 def is_unread(line, paths):
@@ -185,31 +258,52 @@ def tried(edit, folder):
 
 
 def try_crate(crate, edits, direct, room):
-    """Tries edits of a crate, and checks the crate without edits before and after. Returns by name whether each passed."""
-    folder = copy_of(crate, direct, room)
+    """Tries edits of a crate, and checks the crate without edits before and after. Returns by name
+    whether each passed. If the run is told to stop, these are the edits that were tried until then."""
     ends = {}
-    if check(folder)[0] == 0:
-        for edit in edits:
-            ends[f"{crate}/{edit.name}"], said = tried(edit, folder)
-            print(f"{crate}/{edit.name}: {'refused' if ends[f'{crate}/{edit.name}'] else 'NOT REFUSED'}: {said[:200]}", flush=True)
-    if not ends or check(folder)[0] != 0:
-        ends[f"{crate} as it stands, which isn't proved"] = False
+    if STOP.is_set():
+        return ends
+    folder = copy_of(crate, direct, room)
+    try:
+        if check(folder)[0] == 0:
+            for edit in edits:
+                name = f"{crate}/{edit.name}"
+                ends[name], said = tried(edit, folder)
+                end = "refused" if ends[name] else "NOT REFUSED"
+                # One write, so that the lines of two crates don't mix.
+                print(f"{name}: {end}: {said[:200]}\n", end="", flush=True)
+        if not ends or check(folder)[0] != 0:
+            ends[f"{crate} as it stands, which isn't proved"] = False
+    except Stopped:
+        pass
     return ends
+
+
+def summary(ends, asked):
+    """Returns the last lines of the run."""
+    failed = [name for name, is_well in ends.items() if not is_well]
+    counts = f"{len(ends) - len(failed)} passed, {len(failed)} failed"
+    if STOP.is_set():
+        left = sum(map(len, asked.values())) - sum("/" in name for name in ends)
+        counts += f"; stopped before the end, {left} not tried"
+    return "".join(f"FAILED: {name}\n" for name in failed) + counts
 
 
 def main():
     direct = uses()
-    today = datetime.date.today().toordinal()
-    asked = asked_edits(sys.argv[1:]) or {crate: turned(edits_of(crate), today) for crate in direct if edits_of(crate)}
+    asked = asked_of(sys.argv[1:], direct)
     crates = sorted(asked, key=lambda crate: -len(asked[crate]))
     ends = {}
+    for number in (signal.SIGINT, signal.SIGTERM):
+        signal.signal(number, stop)
     os.makedirs(os.path.join(TOP, "bin"), exist_ok=True)
     with tempfile.TemporaryDirectory(dir=os.path.join(TOP, "bin")) as room, ThreadPoolExecutor(os.cpu_count()) as pool:
         for done in as_completed([pool.submit(try_crate, crate, asked[crate], direct, room) for crate in crates]):
             ends.update(done.result())
-    failed = [name for name, is_well in ends.items() if not is_well]
-    print("".join(f"FAILED: {name}\n" for name in failed) + f"{len(ends) - len(failed)} passed, {len(failed)} failed")
-    return 1 if failed else 0
+    print(summary(ends, asked))
+    if not all(ends.values()):
+        return 1
+    return UNFINISHED if STOP.is_set() else 0
 
 
 if __name__ == "__main__":

@@ -142,19 +142,28 @@ def read_edit(crate, name, is_in_gate, lines):
     return Edit(crate, name, is_in_gate, changes)
 
 
+def listed_edits_of(crate):
+    """Returns the name and the text of each entry in a crate's more-must-fail.txt.
+
+    Empty lines separate the entries. An entry is a line `name: NAME`, and then the text of a must-fail
+    edit as in must-fail/. What begins with `#` in place of an entry is a comment.
+    """
+    path = f"crates/{crate}/more-must-fail.txt"
+    text = text_of(path) if os.path.exists(os.path.join(TOP, path)) else ""
+    parts = [part for part in re.split(r"\n{2,}", text.strip("\n")) if part and not part.startswith("#")]
+    heads = [part.partition("\n") for part in parts]
+    return [(head.removeprefix("name: "), rest) for head, _, rest in heads]
+
+
 def edits_of(crate):
-    """Returns the must-fail edits of a crate: those of must-fail/, which the gate tries, then those of more-must-fail/, or if
-    there is no such folder, those of more-must-fail.txt, whose entries begin with a line `name:`."""
+    """Returns the must-fail edits of a crate: those of must-fail/, which the gate tries, then those of
+    more-must-fail.txt."""
     edits = []
-    for folder in ("must-fail", "more-must-fail"):
-        for path in files_below(f"crates/{crate}/{folder}", ".edit"):
-            name = os.path.basename(path).removesuffix(".edit")
-            edits.append(read_edit(crate, name, folder == "must-fail", text_of(path).split("\n")))
-    text = f"crates/{crate}/more-must-fail.txt"
-    if os.path.exists(os.path.join(TOP, text)):
-        for entry in re.split(r"(?m)^name: *", text_of(text))[1:]:
-            name, *lines = entry.split("\n")
-            edits.append(read_edit(crate, name.strip(), False, lines))
+    for path in files_below(f"crates/{crate}/must-fail", ".edit"):
+        name = os.path.basename(path).removesuffix(".edit")
+        edits.append(read_edit(crate, name, True, text_of(path).split("\n")))
+    for name, text in listed_edits_of(crate):
+        edits.append(read_edit(crate, name, False, text.split("\n")))
     return edits
 
 
