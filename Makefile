@@ -37,7 +37,7 @@ sizes:
 test:
 	sh tests/run.sh
 
-# Writes the tables of modules in the README of each crate.
+# Writes the tables of modules, in the README of each crate and in docs/ARCHITECTURE.md.
 pages:
 	@python3 tools/modules.py
 

@@ -14,7 +14,7 @@ import shutil
 import sys
 import tempfile
 
-from bench import MIB, detector, detector_12, run, walk, waves
+from bench import detector, detector_12, run, walk, waves
 
 SIZE = 8
 # Each kind of samples: its name, a function that returns one MiB of them for a random.Random, bits, and whether they are signed.

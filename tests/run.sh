@@ -1,9 +1,10 @@
 #!/bin/sh
 # Runs every test, from the top of the repository, for `make test`: that each public function has a
-# contract and a must-fail edit, that generated pages are current, that files keep the limits of the
-# house, that each must-fail edit can be applied, that each lemma is cited, that the crates export
-# what docs/SURFACE.md lists, then the gate, then the scripts of tests/ on the programs that the gate
-# has built.
+# contract, a doc comment and a must-fail edit, that each definition in a public contract has a
+# sentence, that generated pages are current, that files keep the limits of the house, that each
+# must-fail edit can be applied, that each lemma is cited, that the crates export what
+# docs/SURFACE.md lists; then the gate; then the scripts of tests/ on the programs that the gate has
+# built.
 #
 # Fails if one part fails. At the end it prints the seconds of each part. The last line counts what
 # passed and failed: it is the gate's line if all parts have passed, else that of the first part that

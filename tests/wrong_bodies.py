@@ -3,7 +3,7 @@
 
 These are the entries of crates/CRATE/more-must-fail.txt, with which the gate would take too long.
 An entry is a name, and then the text of a must-fail edit as in must-fail/. The checker must refuse
-each. Each crate is tried in its own copy below bin/, with the proofs that `make bin/aec` has kept;
+each. Each crate is tried in its own copy below bin/, with the proofs that `make test` has kept;
 as many crates are tried at a time as there are processors. With names, only those crates or edits
 are tried. With `--changed COMMIT` in their place, only the crates are tried whose src/, specs/,
 proofs/ or more-must-fail.txt differ from those of COMMIT; all crates, if git doesn't know COMMIT.
@@ -171,17 +171,21 @@ def changed_texts(edit, folder):
         if word == "file":
             path = rest
         elif word == "old":
+            if old:
+                raise Unusable(f"this old text has no new one: {old}")
             old = rest
         elif not path or not old:
             raise Unusable("a new text stands before any file and old text")
+        elif rest == old:
+            raise Unusable(f"this new text is the old one: {old}")
         else:
             if path not in texts:
                 texts[path] = text_of(folder, path)
             if texts[path].count(old) != 1:
                 raise Unusable(f"its old text is in {path} {texts[path].count(old)} times, and not once")
             texts[path], old = texts[path].replace(old, rest), None
-    if not texts:
-        raise Unusable("it changes nothing")
+    if old or not texts:
+        raise Unusable("its last old text has no new one" if old else "it changes nothing")
     return texts
 
 

@@ -37,11 +37,10 @@ from collections import deque
 from typing import NamedTuple
 
 from sources import all_crates, edits_of, ended, files_below, text_of
-from walk import LIBRARIES, CallGraph, key
+from walk import CLAUSE, LIBRARIES, CallGraph, key
 
 PAGE = "docs/PROOFS.md"
 BARE = re.compile(r"\s*// bare: (\S.*)")
-CLAUSE = re.compile(r"\s*(?:ensures|requires)\b")
 OF_COLLECTIONS = "append clear extend insert len remove replace reserve truncate".split()
 CONST = re.compile(r"(?:pub(?:\(\w+\))? )?(?:const|static) (\w+)")
 
@@ -76,7 +75,7 @@ def head_of(lines, at):
             doc.insert(0, line.removeprefix("///").strip())
         elif named := BARE.match(line):
             bare = named[1]
-    return " ".join(doc), bare
+    return " ".join(doc).strip(), bare
 
 
 def sentence_of(doc):
@@ -86,7 +85,7 @@ def sentence_of(doc):
 def read(lines, one):
     """Returns the text of a function."""
     indent = re.match(" *", lines[one.at])[0]
-    clauses, at, is_body = [], one.at, False
+    clauses, at, is_body, depth = [], one.at, False, 0
     while at + 1 < len(lines):
         line = lines[at]
         is_outer = line.startswith(indent) and not line.startswith(indent + "  ")
@@ -95,7 +94,10 @@ def read(lines, one):
             clauses.append(line.strip())
         elif clauses and not is_body:
             clauses[-1] += " " + line.strip()
-        if line in (indent + "}", indent + "{}") or (not is_body and line.endswith(";")):
+        depth += line.count("{") - line.count("}")
+        is_declared = not is_body and depth == 0 and line.endswith(";")
+        is_one_line = at == one.at and depth == 0 and line.endswith("}")
+        if is_declared or is_one_line or line in (indent + "}", indent + "{}"):
             break
         at += 1
     doc, bare = head_of(lines, one.at)
@@ -259,8 +261,8 @@ def wrongs_of(contract):
     if not one.is_public:
         return
     place = f"{one.file}:{one.at + 1}: {one.path()}"
-    if not text.clauses:
-        yield f"{place} has no clause"
+    if not any(clause.startswith("ensures") for clause in text.clauses):
+        yield f"{place} has no clause `ensures`"
     if not text.doc:
         yield f"{place} has no doc comment"
     is_free = one.module == "laws" or bool(contract.edits)

@@ -44,7 +44,6 @@ class Crate(NamedTuple):
     ghosts: dict
     # Pairs of a trait and a type that has it. The trait is None for other impls, and for a trait itself.
     impls: set
-    modules: list
     # The names that its root exports.
     exports: set
 
@@ -88,8 +87,8 @@ def exports_of(crate):
     return set(re.findall(r"\w+", used)), set(re.findall(r"^pub mod (\w+);", text, re.M))
 
 
-def functions_in(path, crate, found):
-    """Adds the functions of a file to `found`, and its ghost items and impls to the crate."""
+def add_file(crate, path):
+    """Adds the functions, ghost items and impls of a file to its crate."""
     names, opened = exports_of(crate.name)
     module, owner, trait, is_trait, is_test, clauses = module_of(path), "", "", False, False, {}
     for number, line in enumerate(text_of(path).splitlines()):
@@ -104,7 +103,7 @@ def functions_in(path, crate, found):
             is_public = bool(is_open) and (is_trait or at[2] == "pub ")
             place = (crate.name, module, owner, at[4])
             kinds = (is_public, is_test, is_trait, trait)
-            found.append(Function(*place, *clauses.values(), *kinds, path, number))
+            crate.functions.append(Function(*place, *clauses.values(), *kinds, path, number))
             is_test = False
         elif at := CLAUSE.match(line):
             clauses[at[1]].add(at[2] or "")
@@ -115,10 +114,9 @@ def functions_in(path, crate, found):
 
 
 def crate_of(name):
-    crate = Crate(name, [], {}, set(), [], exports_of(name)[0])
+    crate = Crate(name, [], {}, set(), exports_of(name)[0])
     for path in files_below(f"crates/{name}/src", ".rt"):
-        functions_in(path, crate, crate.functions)
-        crate.modules.append(module_of(path))
+        add_file(crate, path)
     return crate
 
 
@@ -146,12 +144,13 @@ def listed_edits_of(crate):
     """Returns the name and the text of each entry in a crate's more-must-fail.txt.
 
     Empty lines separate the entries. An entry is a line `name: NAME`, and then the text of a must-fail
-    edit as in must-fail/. What begins with `#` in place of an entry is a comment.
+    edit as in must-fail/. Lines that begin with `#` in place of an entry are a comment.
     """
     path = f"crates/{crate}/more-must-fail.txt"
     text = text_of(path) if os.path.exists(os.path.join(TOP, path)) else ""
-    parts = [part for part in re.split(r"\n{2,}", text.strip("\n")) if part and not part.startswith("#")]
-    heads = [part.partition("\n") for part in parts]
+    parts = re.split(r"\n{2,}", text.strip("\n")) if text else []
+    entries = [part for part in parts if not all(line.startswith("#") for line in part.split("\n"))]
+    heads = [entry.partition("\n") for entry in entries]
     return [(head.removeprefix("name: "), rest) for head, _, rest in heads]
 
 
