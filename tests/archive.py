@@ -223,7 +223,6 @@ def try_page(tally, _):
     os.symlink(os.path.join(TOP, "examples"), os.path.join(folder, "examples"))
     with open(os.path.join(TOP, "docs", "ARCHIVE.md"), encoding="utf-8") as file:
         text = file.read()
-    tally.holds(len(text.split()) <= 1000, f"ARCHIVE.md has {len(text.split())} words, more than 1,000")
     environment = {**os.environ, "PATH": f"{bin_folder}:{os.environ['PATH']}"}
     blocks = [it for it in re.findall(r"```sh\n(.*?)```", text, re.S) if "make " not in it]
     tally.holds(len(blocks) > 0, "ARCHIVE.md has no commands")

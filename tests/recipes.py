@@ -124,8 +124,6 @@ def try_page(aec, tally):
     environment, skipped, failed_before = prepare_page(aec), [], set()
     with open(PAGE, encoding="utf-8") as file:
         text = file.read()
-    words = len(text.split())
-    tally.holds(words <= 1400, f"the page has {words} words, more than 1,400")
     for block in re.findall(r"```sh\n(.*?)```", text, re.S):
         missing = missing_for(block) or [it for it in failed_before if it in block]
         if missing:
