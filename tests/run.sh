@@ -1,25 +1,59 @@
 #!/bin/sh
-# Runs every test, from the top of the repository, for `make test`: that each public function has a
-# contract, a doc comment and a must-fail edit, that each definition in a public contract has a
-# sentence, that generated pages are current, that files keep the limits of the house, that each
-# must-fail edit can be applied, that each lemma is cited, that the crates export what
-# docs/SURFACE.md lists; then the gate; then the scripts of tests/ on the programs that the gate has
-# built.
+# Runs every test, from the top of the repository, for `make test`: the parts below, in their order.
 #
-# Fails if one part fails. At the end it prints the seconds of each part. The last line counts what
-# passed and failed: it is the gate's line if all parts have passed, else that of the first part that
-# failed, and the lines above say why it failed.
+# A part that fails doesn't stop the others. The last line counts what passed and failed: it is the
+# gate's line if all parts have passed, else that of the first part that failed, and the lines above
+# say why it failed.
 export PYTHONDONTWRITEBYTECODE=1
 kept=$(mktemp -d)
 trap 'rm -rf "$kept"' EXIT
+begun=$(date +%s)
+number=0
+
+# A line for each part: its name, and its command. Before the gate: that each public function has a
+# contract, a doc comment and a must-fail edit; that each definition in a public contract has a
+# sentence; that generated pages are current; that files keep the limits of the house; that each
+# must-fail edit can be applied; that each lemma is cited; that the crates export what docs/SURFACE.md
+# lists. After it: scripts that run the programs which the gate has built.
+parts='contracts python3 tools/contracts.py --check
+definitions python3 tests/definitions.py
+modules python3 tools/modules.py --check
+theorems python3 tools/theorem.py --check
+man python3 tools/man.py --check
+limits python3 tests/limits.py
+edits python3 tests/edits_apply.py
+cited python3 tests/cited.py
+surface python3 tests/surface.py
+gate gate
+coded-samples on_program tests/coded.py
+cut-streams on_program tests/cuts.py
+damaged-streams on_program tests/damaged.py
+refused-memory on_program tests/refused_memory.py
+refused-calls on_program tests/refused_calls.py aec_memory_tests
+failing-files on_program tests/failing_files.py
+small-memory on_program tests/small_memory.py
+libaec on_program tests/interop.py
+scripts on_program tests/scripts.py
+recipes on_program tests/recipes.py
+installation on_program tests/installed.py
+worked-pages on_program tests/worked_pages.py
+pictures python3 bench/pictures.py --check
+instructions on_program tests/instructions_bounded.py'
+
+# Prints the minutes since this script began.
+minutes() {
+    echo $((($(date +%s) - begun) / 60))
+}
 
 # Runs a part, given its name and the words of its command. Shows its output, and keeps the output, the status and the time.
 part() {
     name=$1
     shift
-    begun=$(date +%s)
-    { "$@" 2>&1; echo $? > "$kept/$name.status"; } | tee "$kept/$name.log"
-    echo "$name: $(($(date +%s) - begun)) s" >> "$kept/times"
+    number=$((number + 1))
+    echo "== $name: part $number of $(echo "$parts" | wc -l), after $(minutes) min"
+    since=$(date +%s)
+    { "$@" < /dev/null 2>&1; echo $? > "$kept/$name.status"; } | tee "$kept/$name.log"
+    echo "$name: $(($(date +%s) - since)) s" >> "$kept/times"
 }
 
 has_passed() {
@@ -60,65 +94,38 @@ explain() {
     grep -E 'MemTotal|MemAvailable' /proc/meminfo
 }
 
-part contracts python3 tools/contracts.py --check
-part definitions python3 tests/definitions.py
-part modules python3 tools/modules.py --check
-part theorems python3 tools/theorem.py --check
-part man python3 tools/man.py --check
-part limits python3 tests/limits.py
-part edits python3 tests/edits_apply.py
-part cited python3 tests/cited.py
-part surface python3 tests/surface.py
-at=$(python3 packaging/proved.py commit)
-jobs=$(jobs_of_gate)
-part gate env ${jobs:+RT_JOBS="$jobs"} rt ci
-# For `make dist`: the program that the gate has proved and built, and the gate's last line.
-if has_passed gate; then
+# Runs the gate.
+gate() {
+    jobs=$(jobs_of_gate)
+    env ${jobs:+RT_JOBS="$jobs"} rt ci
+}
+
+# Keeps for `make dist` the program that the gate has proved and built, and the gate's last line. The commit is the one that stood
+# here before the gate.
+keep_gate() {
     mkdir -p bin
     cp crates/aec/out/aec bin/aec
-    python3 packaging/proved.py record "$at" bin/aec
-    python3 packaging/proved.py gate "$at" "$kept/gate.log"
-fi
-echo "== coded samples"
-part coded on_program tests/coded.py
-echo "== coded data that is cut"
-part cuts on_program tests/cuts.py
-echo "== damaged streams"
-part damaged on_program tests/damaged.py
-echo "== refused memory"
-part memory on_program tests/refused_memory.py
-echo "== refused memory in calls of the libraries"
-part calls on_program tests/refused_calls.py aec_memory_tests
-echo "== files that fail"
-part files on_program tests/failing_files.py
-echo "== too little stack or address space"
-part small on_program tests/small_memory.py
-echo "== round trips with libaec's client"
-part trips on_program tests/interop.py
-echo "== edits by generated scripts"
-part scripts on_program tests/scripts.py
-echo "== recipes"
-part recipes on_program tests/recipes.py
-echo "== installation and completion"
-part installed on_program tests/installed.py
-echo "== worked rows and commands of the pages, and their pictures"
-part worked on_program tests/worked_pages.py
-part pictures python3 bench/pictures.py --check
-echo "== instructions a sample"
-part instructions on_program tests/instructions_bounded.py
+    python3 packaging/proved.py record "$commit" bin/aec
+    python3 packaging/proved.py gate "$commit" "$kept/gate.log"
+}
 
-last=gate
-# Every part in the order above. The first that failed is explained.
-for name in contracts definitions modules theorems man limits edits cited surface gate coded cuts damaged memory calls files small trips \
-    scripts recipes installed worked pictures instructions; do
+commit=$(python3 packaging/proved.py commit)
+echo "make test takes about 35 minutes on four processors that nothing else uses, 65 on two; this machine has $(getconf _NPROCESSORS_ONLN)."
+echo "Crates whose files are as they were in an earlier run on this machine aren't proved again."
+echo "$parts" > "$kept/parts"
+last=
+while read -r name command; do
+    part "$name" $command
     if ! has_passed "$name"; then
-        last=$name
-        break
+        last=${last:-$name}
+    elif [ "$name" = gate ]; then
+        keep_gate
     fi
-done
-if ! has_passed "$last"; then
+done < "$kept/parts"
+if [ -n "$last" ]; then
     explain "$last"
 fi
+last=${last:-gate}
 echo "== seconds of each part, on $(getconf _NPROCESSORS_ONLN) processors"
 cat "$kept/times"
 echo "== $last"

@@ -23,8 +23,6 @@ With --check it prints only what is wrong. It fails in these cases:
   above its `pub fn`. Laws need none.
 - A line `// bare:` stands above a law, above a function that isn't public, or above one that has
   a must-fail edit.
-- The gate tries fewer edits of a crate than half its functions `pub fn`, rounded down. The
-  exports of aec_c aren't counted.
 - docs/PROOFS.md names a function or a clause that doesn't exist: in the part of a crate, after
   `Contract:` in an item, in the form `PATH` or `PATH: CLAUSE, CLAUSE`.
 """
@@ -280,17 +278,6 @@ def wrongs_of_bare(library):
         yield f"{len(every)} lines `// bare:`, but only {read} above public functions"
 
 
-def wrongs_of_gate(library):
-    """Yields the crates of which the gate tries too few edits."""
-    for crate in LIBRARIES:
-        tried = sum(edit.is_in_gate for edit in edits_of(crate))
-        paths = [path for path in library.lines if path.startswith(f"crates/{crate}/src/")]
-        lines = [line for path in paths for line in library.lines[path]]
-        public = sum(bool(re.match(r"\s*pub (?:const )?fn ", line)) for line in lines)
-        if tried < public // 2:
-            yield f"{crate}: the gate tries {tried} edits, for {public} functions `pub fn`"
-
-
 def has_clauses(crate, path, clauses):
     """Returns whether a function of a crate, or a type by a ghost item, has these clauses."""
     ones = [one for one in crate.functions if ("::" + one.path()).endswith("::" + path)]
@@ -313,7 +300,7 @@ def checked(library):
     """Returns the number of public functions, and what is wrong."""
     contracts = list(library.contracts())
     wrongs = [wrong for contract in contracts for wrong in wrongs_of(contract)]
-    for judge in (wrongs_of_bare, wrongs_of_gate, wrongs_of_page):
+    for judge in (wrongs_of_bare, wrongs_of_page):
         wrongs += judge(library)
     return sum(contract.one.is_public for contract in contracts), wrongs
 

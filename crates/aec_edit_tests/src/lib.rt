@@ -5,8 +5,6 @@
 #[cfg(test)]
 mod asserts;
 #[cfg(test)]
-mod every_place;
-#[cfg(test)]
 mod many_intervals;
 #[cfg(test)]
 mod mixed_edits;

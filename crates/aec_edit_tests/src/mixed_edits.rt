@@ -221,7 +221,8 @@ fn some_len(seed: &mut u64, row: &Row) -> u64 {
     any
 }
 
-pub(crate) fn some_edit(
+/// Returns some edit of `count` samples.
+fn some_edit(
     alloc: Global,
     seed: &mut u64,
     row: &Row,

@@ -1,24 +1,18 @@
 //! Workspaces with the codec of octets, four in an interval: a stream is the bytes of its samples.
 
-use crate::asserts::{holds_at, same};
-use crate::mixed_edits::some_edit;
-use crate::plain_lists::{Row, expect_edit};
-use crate::steps::{
-    apply, calls, counts, expect_run, expect_steps, expect_stop, range, reads, reserve, start_of,
-    stream,
-};
+use crate::asserts::same;
+use crate::steps::{apply, calls, counts, expect_run, expect_steps, expect_stop, reserve};
 use aec_bits::laws::Octets;
 use aec_bits::{Codec, Sink, WriteSink};
-use aec_edit::{Outcome, Workspace, laws, write_edited};
-use aec_params::{Edit, Fault, Samples, Settings};
+use aec_edit::{Outcome, Workspace, write_edited};
+use aec_params::{Edit, Fault, Samples};
 use std::alloc::{AllocError, Global};
 use std::io;
 use std::io::Write;
-use std::process::Abort;
 use std::test::Fail;
 
 /// Returns an empty workspace whose codec's count begins at `calls`.
-pub(crate) fn workspace(alloc: Global, calls: u64, limit: u64) -> Workspace<Octets> {
+fn workspace(alloc: Global, calls: u64, limit: u64) -> Workspace<Octets> {
     Workspace::new(alloc, Octets::new(alloc, calls), limit.min(1 << 32))
 }
 
@@ -220,48 +214,6 @@ fn octets_answer_step_by_step(rt: HostRuntime) -> Result<(), Fail> {
     Ok(())
 }
 
-/// A list of at most forty octets.
-const ROW: Row = Row {
-    settings: Settings::USUAL,
-    low: 0,
-    high: 255,
-    most: 4,
-    start: 0,
-    limit: 40,
-};
-
-pub(crate) fn are_bytes_of(bytes: &[u8], list: &[i64]) -> bool {
-    bytes.len() == list.len() && bytes.iter().zip(list).all(|(b, x)| i64::from(*b) == *x)
-}
-
-// Adds 1 for the kind of edit whose byte is 1.
-fn count(tally: &mut [u64; 8], became: u64) {
-    for (sum, one) in tally.iter_mut().zip(became.to_be_bytes()) {
-        *sum = sum.saturating_add(u64::from(one));
-    }
-}
-
-#[test]
-fn mixed_edits_leave_the_octets_of_a_plain_list(rt: HostRuntime) -> Result<(), Fail> {
-    let alloc = rt.alloc();
-    let mut work = workspace(alloc, 0, ROW.limit);
-    let mut list = Vec::new(alloc);
-    let mut seed = 1;
-    let mut tally = [0; 8];
-    for _ in 0..2000 {
-        let edit = some_edit(alloc, &mut seed, &ROW, list.len() as u64)?;
-        let became = expect_edit(&rt, alloc, &ROW, &mut work, &mut list, &edit)?;
-        holds_at(&rt, are_bytes_of(&stream(alloc, &work)?, &list), &edit);
-        count(&mut tally, became);
-    }
-    // More than 100 edits of each kind: refused for a value, as too many, as out of range; applied.
-    holds_at(&rt, tally.iter().all(|edits| *edits > 100), &tally);
-    Ok(())
-}
-
-/// The number of intervals; each is overwritten once.
-const INTERVALS: u64 = 100_000;
-
 fn overwrite(alloc: Global, first: u64, value: i64) -> Result<Edit, AllocError> {
     Ok(Edit::Overwrite {
         first,
@@ -273,37 +225,6 @@ fn zeros(alloc: Global, len: u64) -> Result<Edit, AllocError> {
     Ok(Edit::Append {
         values: Samples::new(vec![in alloc; 0i64; len as usize]?),
     })
-}
-
-#[test]
-fn many_intervals_each_overwritten(rt: HostRuntime) -> Result<(), Fail> {
-    let alloc = rt.alloc();
-    let mut work = workspace(alloc, 0, 4 * INTERVALS);
-    same(
-        &rt,
-        apply(&mut work, &zeros(alloc, 4 * INTERVALS)?),
-        Ok(INTERVALS),
-    );
-    for k in 0..INTERVALS {
-        same(
-            &rt,
-            apply(&mut work, &overwrite(alloc, 4 * k + 1, 1)?),
-            Ok(1),
-        );
-    }
-    same(
-        &rt,
-        (calls(&work), reads(&work)),
-        (2 * INTERVALS, INTERVALS),
-    );
-    same(
-        &rt,
-        start_of(&work, INTERVALS - 1),
-        Some(32 * (INTERVALS - 1)),
-    );
-    let last = range(&mut work, alloc, 4 * (INTERVALS - 1), 4)?;
-    same(&rt, last.as_slice(), [0, 1, 0, 0].as_slice());
-    Ok(())
 }
 
 #[test]
@@ -374,15 +295,4 @@ fn room_is_taken_beforehand(rt: HostRuntime) -> Result<(), Fail> {
     same(&rt, (counts(&work), calls(&work)), ((0, 0, 0), 0));
     same(&rt, apply(&mut work, &zeros(alloc, 5)?), Ok(2));
     Ok(())
-}
-
-#[test]
-fn laws_are_functions() {
-    laws::overwrites_code_what_they_touch();
-    laws::refused_edits_change_nothing();
-    laws::edits_that_code_nothing_are_made();
-    laws::runs_count_their_calls();
-    laws::runs_join();
-    laws::runs_have_one_answer();
-    laws::runs_leave_samples();
 }

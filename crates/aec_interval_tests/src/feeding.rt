@@ -6,9 +6,9 @@ use crate::asserts::{holds, same};
 use crate::settings::{unprocessed, width, with_interval};
 use crate::shared::expect_bits;
 use crate::streams::MOST;
-use aec_bits::{BitBuf, WriteSink};
-use aec_interval::{StreamCoder, encode_all};
-use aec_params::{Fault, Params, Settings, read_samples};
+use aec_bits::BitBuf;
+use aec_interval::StreamCoder;
+use aec_params::{Fault, Params, Settings};
 use std::alloc::Global;
 use std::process::Abort;
 use std::test::Fail;
@@ -217,57 +217,4 @@ fn codes_the_same_in_pieces_of_any_size(rt: HostRuntime) -> Result<(), Fail> {
         22,
         &[0x00, 0x00, 0x84],
     )
-}
-
-/// Returns the code of samples that are fed in three pieces.
-fn coded_in_three(alloc: Global, params: Params, pieces: [&[u8]; 3]) -> Result<BitBuf, Fault> {
-    let mut coder = StreamCoder::new(alloc, params, MOST);
-    let mut out = BitBuf::new(alloc);
-    for piece in pieces {
-        coder.feed(piece, &mut out)?;
-    }
-    coder.finish(&mut out)?;
-    Ok(out)
-}
-
-/// Codes all samples at once. Returns the bytes of the code, and its length in bits.
-fn coded_at_once(alloc: Global, params: &Params, bytes: &[u8]) -> Result<(Vec<u8>, u64), Fault> {
-    let samples = read_samples(alloc, params, bytes)?;
-    let all = encode_all(alloc, params, &samples)?;
-    let mut coded = WriteSink::new(Vec::new(alloc));
-    all.write_to(&mut coded)?;
-    Ok((coded.into_inner(), all.len()))
-}
-
-/// Checks that the bytes, cut into three pieces anywhere, have the same code as all at once.
-fn expect_any_cut(rt: &impl Abort, alloc: Global, settings: Settings) -> Result<(), Fail> {
-    let params = Params::new(settings)?;
-    let mut bytes = [0u8; 40];
-    for (place, byte) in bytes.iter_mut().enumerate() {
-        *byte = (place * 7 % 16) as u8;
-    }
-    let (coded, len) = coded_at_once(alloc, &params, &bytes)?;
-    for second in 0..=40usize {
-        let (front, rest) = bytes.split_at(second);
-        for first in 0..=second {
-            let (one, two) = front.split_at(first);
-            let out = coded_in_three(alloc, params, [one, two, rest])?;
-            expect_bits(rt, &out, len, &coded);
-        }
-    }
-    Ok(())
-}
-
-#[test]
-fn codes_the_same_for_every_cut(rt: HostRuntime) -> Result<(), Fail> {
-    for bits in [8, 12, 24, 32] {
-        let settings = Settings {
-            bits,
-            interval: 1,
-            three_byte: true,
-            ..Settings::USUAL
-        };
-        expect_any_cut(&rt, rt.alloc(), settings)?;
-    }
-    Ok(())
 }

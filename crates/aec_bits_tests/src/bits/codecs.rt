@@ -5,7 +5,7 @@ ghost use Rattle.aec_bits.specs.Codec.{IsInterval};
 
 use super::bits::{bits, bytes};
 use crate::asserts::same;
-use aec_bits::laws::{self, Octets};
+use aec_bits::laws::Octets;
 use aec_bits::{BitBuf, Codec};
 use aec_params::Fault;
 use std::test::Fail;
@@ -64,16 +64,4 @@ fn spent_calls_change_nothing(rt: HostRuntime) -> Result<(), Fail> {
     same(&rt, bytes(rt.alloc(), &buf)?.as_slice(), [0x80].as_slice());
     same(&rt, codec.calls(), u64::MAX);
     Ok(())
-}
-
-#[test]
-fn laws_are_functions() {
-    laws::cuts_at_intervals();
-    laws::codes_intervals();
-    laws::stands_between();
-    laws::has_one_list();
-    laws::judges_places_first();
-    laws::judges_the_limit_first();
-    laws::names_the_first_value();
-    laws::allows_what_fits();
 }
