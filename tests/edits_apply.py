@@ -13,7 +13,10 @@ import os
 import re
 import sys
 
-from wrong_bodies import TOP, Edit, Unusable, changed_texts, edits_of, text_of
+sys.path.insert(0, os.path.join(os.path.dirname(__file__), "..", "tools"))
+
+from must_fail import Unusable, changed_texts, edits_of
+from sources import TOP
 
 # The wrong bodies against which the contracts were written, and the edits of the gate (crate/edit) that are such bodies.
 NAMED = {
@@ -78,14 +81,8 @@ REFUSED_BY_TESTS = [
 
 
 def all_edits():
-    """Returns each must-fail edit of each crate, those of the gate first."""
-    found = []
-    for crate in sorted(os.listdir(os.path.join(TOP, "crates"))):
-        for path in sorted(glob.glob(os.path.join(TOP, "crates", crate, "must-fail", "*.edit"))):
-            folder, name = os.path.split(path)
-            found.append(Edit(crate, name.removesuffix(".edit"), text_of(folder, name)))
-        found += edits_of(crate)
-    return found
+    """Returns each must-fail edit of each crate, also of one that isn't in crates.txt."""
+    return [edit for crate in sorted(os.listdir(os.path.join(TOP, "crates"))) for edit in edits_of(crate)]
 
 
 def why_not(edit, edits):
@@ -101,28 +98,24 @@ def why_not(edit, edits):
     return None
 
 
-def is_in_gate(name):
-    crate, _, edit = name.partition("/")
-    return os.path.exists(os.path.join(TOP, "crates", crate, "must-fail", f"{edit}.edit"))
-
-
 def is_test(name):
     crate, _, test = name.partition("/")
     sources = glob.glob(os.path.join(TOP, "crates", crate, "src", "**", "*.rt"), recursive=True)
     return any(re.search(rf"#\[test\]\s+fn {test}\(", open(path, encoding="utf-8").read()) for path in sources)
 
 
-def missing():
+def missing(edits):
     """Yields each wrong body that lost its edit or its test."""
-    for body, edits in NAMED.items():
-        yield from (f"{body}: the gate has no edit {edit}\n" for edit in edits if not is_in_gate(edit))
+    gate = {f"{it.crate}/{it.name}" for it in edits if it.is_in_gate}
+    for body, names in NAMED.items():
+        yield from (f"{body}: the gate has no edit {name}\n" for name in names if name not in gate)
     yield from (f"a call always fails with Memory: no test {test}\n" for test in REFUSED_BY_TESTS if not is_test(test))
 
 
 def main():
     edits = all_edits()
     found = [f"{it.crate}/{it.name}: {why}\n" for it in edits if (why := why_not(it, edits))]
-    lost = list(missing())
+    lost = list(missing(edits))
     checks = len(edits) + sum(map(len, NAMED.values())) + len(REFUSED_BY_TESTS)
     failed = len(found) + len(lost)
     print("".join(found + lost) + f"{checks - failed} passed, {failed} failed")

@@ -21,7 +21,7 @@ from typing import NamedTuple
 sys.path.insert(0, os.path.join(os.path.dirname(__file__), "..", "tools"))
 
 from public_items import Unreadable, items_of
-from sources import TOP, ended, text_of
+from sources import TOP, crate_lines, ended, text_of
 
 PAGE = "docs/SURFACE.md"
 FIXED, OURS = "What may not change without a new major version", "Ours beyond it"
@@ -41,7 +41,7 @@ class Row(NamedTuple):
 
 def libraries():
     """Returns the crates that a program can use, lowest first: not those of tests, nor the library for C."""
-    names = re.findall(r"(?m)^(\w+):", text_of("crates.txt"))
+    names = [name for name, line in crate_lines().items() if not line.kind]
     is_library = {name: os.path.exists(os.path.join(TOP, f"crates/{name}/src/lib.rt")) for name in names}
     return [name for name in names if is_library[name] and not name.endswith("_tests")]
 

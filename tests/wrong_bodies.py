@@ -26,11 +26,11 @@ import tempfile
 import threading
 import time
 from concurrent.futures import ThreadPoolExecutor, as_completed
-from typing import NamedTuple
 
 sys.path.insert(0, os.path.join(os.path.dirname(__file__), "..", "tools"))
 
-from sources import TOP, listed_edits_of
+from must_fail import Unusable, changed_texts, other_edits_of
+from sources import TOP, crate_lines, text_of
 
 REFUSED = "logic=not-proved"
 SECONDS = 900
@@ -46,25 +46,8 @@ UNREAD = re.compile(r"is not in scope|has no field|is no name|operand is missing
 TAKEN_AWAY = re.compile(r"(\./)?proofs/.*(has no field|is not in scope|has no `|was not admitted)")
 
 
-class Unusable(Exception):
-    """Why an edit can't be tried."""
-
-
 class Stopped(Exception):
     """The run was told to stop before a check ended."""
-
-
-class Edit(NamedTuple):
-    crate: str
-    name: str
-    # For each place that it changes the lines `file: PATH`, `old: TEXT` and `new: TEXT`. Without a
-    # line `file`, the place is in the file of the place before.
-    text: str
-
-
-def text_of(folder, path):
-    with open(os.path.join(folder, path), encoding="utf-8") as file:
-        return file.read()
 
 
 def put(folder, texts):
@@ -73,16 +56,12 @@ def put(folder, texts):
             file.write(text)
 
 
-def edits_of(crate):
-    return [Edit(crate, name, text) for name, text in listed_edits_of(crate)]
-
-
 def asked_edits(names):
     """Returns for each crate of the names its edits that are asked for. Ends the program if there are none for a name."""
     asked = {}
     for name in names:
         crate, _, edit = name.partition("/")
-        found = [it for it in edits_of(crate) if edit in ("", it.name)]
+        found = [it for it in other_edits_of(crate) if edit in ("", it.name)]
         if not found:
             sys.exit(f"no such edits: {name}")
         asked[crate] = asked.get(crate, []) + found
@@ -122,71 +101,28 @@ def asked_of(words, crates):
         crates = changed_since(words[1], crates)
     elif words:
         sys.exit("wrong_bodies.py --changed takes one commit")
-    return {crate: edits_of(crate) for crate in crates if edits_of(crate)}
+    found = {crate: other_edits_of(crate) for crate in crates}
+    return {crate: edits for crate, edits in found.items() if edits}
 
 
-def crate_of(line):
-    """Returns the crate that a line of crates.txt describes, or None."""
-    named = re.match(r"(\w+)( staticlib)?:", line)
-    return named and named[1]
+def below(crate, lines):
+    """Returns the crates of the repository that a crate uses, directly or through others."""
+    found = {name for name in lines[crate].uses if name in lines}
+    return found.union(*(below(name, lines) for name in found))
 
 
-def uses():
-    """Returns for each crate the libraries of the repository that it uses directly."""
-    lines = [line for line in text_of(TOP, "crates.txt").splitlines() if crate_of(line)]
-    named = {crate_of(line): line.partition(":")[2].split() for line in lines}
-    return {crate: [it for it in rest if it in named] for crate, rest in named.items()}
-
-
-def below(crate, direct):
-    found = set(direct[crate])
-    for it in direct[crate]:
-        found |= below(it, direct)
-    return found
-
-
-def copy_of(crate, direct, room):
+def copy_of(crate, lines, room):
     """Copies a crate into its own repository, with the crates that it uses. Their files are hard links: a check replaces files, and never
     writes into them. Returns the crate's folder."""
-    top, others = os.path.join(room, crate), below(crate, direct)
+    top, others = os.path.join(room, crate), below(crate, lines)
     os.makedirs(os.path.join(top, "crates"))
     shutil.copy(os.path.join(TOP, "HANDLES"), top)
-    lines = text_of(TOP, "crates.txt").splitlines(True)
-    put(top, {"crates.txt": "".join(line for line in lines if crate_of(line) in {crate, *others})})
+    put(top, {"crates.txt": "".join(f"{lines[name].text}\n" for name in lines if name in {crate, *others})})
     shared = {"copy_function": os.link, "ignore": shutil.ignore_patterns("incremental")}
     for name in (crate, *others):
         more = {} if name == crate else shared
         shutil.copytree(os.path.join(TOP, "crates", name), os.path.join(top, "crates", name), **more)
     return os.path.join(top, "crates", crate)
-
-
-def changed_texts(edit, folder):
-    """Returns the edited texts, by their path in the crate. Raises Unusable if the edit can't be applied."""
-    texts, path, old = {}, None, None
-    for line in edit.text.rstrip("\n").split("\n"):
-        word, is_one, rest = line.partition(":")
-        rest = rest.removeprefix(" ")
-        if not is_one or word not in ("file", "old", "new"):
-            raise Unusable(f"it has a line that is no file, old or new text: {line}")
-        if word == "file":
-            path = rest
-        elif word == "old":
-            if old:
-                raise Unusable(f"this old text has no new one: {old}")
-            old = rest
-        elif not path or not old:
-            raise Unusable("a new text stands before any file and old text")
-        elif rest == old:
-            raise Unusable(f"this new text is the old one: {old}")
-        else:
-            if path not in texts:
-                texts[path] = text_of(folder, path)
-            if texts[path].count(old) != 1:
-                raise Unusable(f"its old text is in {path} {texts[path].count(old)} times, and not once")
-            texts[path], old = texts[path].replace(old, rest), None
-    if old or not texts:
-        raise Unusable("its last old text has no new one" if old else "it changes nothing")
-    return texts
 
 
 def stop(number, frame):
@@ -254,20 +190,20 @@ def tried(edit, folder):
         texts = changed_texts(edit, folder)
     except (Unusable, OSError) as why:
         return False, str(why)
-    before = {path: text_of(folder, path) for path in texts}
+    before = {path: text_of(os.path.join(folder, path)) for path in texts}
     put(folder, texts)
     found = verdict(*check(folder), set(texts))
     put(folder, before)
     return found
 
 
-def try_crate(crate, edits, direct, room):
+def try_crate(crate, edits, lines, room):
     """Tries edits of a crate, and checks the crate without edits before and after. Returns by name
     whether each passed. If the run is told to stop, these are the edits that were tried until then."""
     ends = {}
     if STOP.is_set():
         return ends
-    folder = copy_of(crate, direct, room)
+    folder = copy_of(crate, lines, room)
     try:
         if check(folder)[0] == 0:
             for edit in edits:
@@ -294,15 +230,15 @@ def summary(ends, asked):
 
 
 def main():
-    direct = uses()
-    asked = asked_of(sys.argv[1:], direct)
+    lines = crate_lines()
+    asked = asked_of(sys.argv[1:], lines)
     crates = sorted(asked, key=lambda crate: -len(asked[crate]))
     ends = {}
     for number in (signal.SIGINT, signal.SIGTERM):
         signal.signal(number, stop)
     os.makedirs(os.path.join(TOP, "bin"), exist_ok=True)
     with tempfile.TemporaryDirectory(dir=os.path.join(TOP, "bin")) as room, ThreadPoolExecutor(os.cpu_count()) as pool:
-        for done in as_completed([pool.submit(try_crate, crate, asked[crate], direct, room) for crate in crates]):
+        for done in as_completed([pool.submit(try_crate, crate, asked[crate], lines, room) for crate in crates]):
             ends.update(done.result())
     print(summary(ends, asked))
     if not all(ends.values()):

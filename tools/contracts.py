@@ -34,7 +34,8 @@ import textwrap
 from collections import deque
 from typing import NamedTuple
 
-from sources import all_crates, edits_of, ended, files_below, text_of
+from must_fail import edits_of
+from sources import all_crates, ended, files_below, text_of
 from walk import CLAUSE, LIBRARIES, CallGraph, key
 
 PAGE = "docs/PROOFS.md"
@@ -157,8 +158,8 @@ class Library:
         """Returns the edits that change each function, or a constant that it names."""
         found = {}
         for edit in (edit for crate in LIBRARIES for edit in edits_of(crate)):
-            for file, old in edit.changes:
-                for one in self.changed(f"crates/{edit.crate}/{file}", old):
+            for change in edit.changes:
+                for one in self.changed(f"crates/{edit.crate}/{change.file}", change.old):
                     found.setdefault(key(one), set()).add((not edit.is_in_gate, edit.name))
         return found
 

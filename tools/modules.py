@@ -14,7 +14,7 @@ import os
 import re
 import sys
 
-from sources import TOP, all_crates, ended, exports_of, files_below, module_of, text_of, write_or_compare
+from sources import TOP, all_crates, crate_lines, ended, exports_of, files_below, module_of, text_of, write_or_compare
 
 NOTE = "<!-- Written by `make pages` from the comments of the modules. -->\n"
 OF_TESTS = "<!-- Written by `make pages` from the comments of the crates of tests. -->\n"
@@ -72,8 +72,7 @@ def table_of(crate, wrongs):
 
 def uses_of(crate):
     """Returns the line that says which libraries a crate uses, what docs/PROOFS.md says of it and how to check it."""
-    named = re.search(rf"(?m)^{crate}(?: staticlib)?: (.*)$", text_of("crates.txt"))[1].split()
-    uses = f"Uses {', '.join(f'`{name}`' for name in named)}."
+    uses = f"Uses {', '.join(f'`{name}`' for name in crate_lines()[crate].uses)}."
     is_told = re.search(rf"(?m)^### {crate}$", text_of("docs/PROOFS.md"))
     proved = f" What is proved: [PROOFS.md](../../docs/PROOFS.md#{crate})." if is_told else ""
     return f"{uses}{proved} How to check it: [CONTRIBUTING.md](../../CONTRIBUTING.md#commands).\n"

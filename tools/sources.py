@@ -1,5 +1,7 @@
-"""Reads the sources of the crates: functions, the names of their clauses, must-fail edits. Also writes or compares the page of a
-script, and prints how the script ended."""
+"""Reads the sources of the crates: functions, the names of their clauses, and crates.txt.
+
+Also writes or compares the page of a script, and prints how the script ended.
+"""
 
 import os
 import re
@@ -9,8 +11,8 @@ TOP = os.path.abspath(os.path.join(os.path.dirname(__file__), ".."))
 
 OWNER = re.compile(r"(?:pub )?(?:impl(?:<.*?>)? (?:([\w:]+)(?:<.*>)? for )?(\w+)|trait (\w+))")
 FUNCTION = re.compile(r"( *)(pub(?:\(crate\))? )?(?:const )?(extern \"C\" )?fn (\w+)")
-# A crate's line in crates.txt begins with its name.
-CRATE = re.compile(r"(\w+)( staticlib)?:")
+# A crate's line in crates.txt: its name, its kind, the libraries that it uses.
+CRATE = re.compile(r"(\w+)(?: (staticlib))?:(.*)")
 CLAUSE = re.compile(r"\s+(ensures|requires) (\w+)?")
 GHOST = re.compile(r"\s+ghost (\w+)")
 
@@ -37,6 +39,17 @@ class Function(NamedTuple):
         return "::".join(part for part in (self.crate, self.module, self.owner, self.name) if part)
 
 
+class CrateLine(NamedTuple):
+    """What crates.txt says of a crate."""
+
+    # `staticlib` for a library for C, else empty.
+    kind: str
+    # The libraries that it uses, of the repository and of the kit.
+    uses: list
+    # The whole line.
+    text: str
+
+
 class Crate(NamedTuple):
     name: str
     functions: list
@@ -46,16 +59,6 @@ class Crate(NamedTuple):
     impls: set
     # The names that its root exports.
     exports: set
-
-
-class Edit(NamedTuple):
-    """A must-fail edit."""
-
-    crate: str
-    name: str
-    is_in_gate: bool
-    # Pairs of a file, from the crate's folder, and a text that is changed in it.
-    changes: list
 
 
 def text_of(path):
@@ -120,50 +123,15 @@ def crate_of(name):
     return crate
 
 
+def crate_lines():
+    """Returns what crates.txt says of each crate, by name, lowest crate first."""
+    lines = map(CRATE.match, text_of("crates.txt").splitlines())
+    return {line[1]: CrateLine(line[2] or "", line[3].split(), line[0]) for line in lines if line}
+
+
 def all_crates():
     """Returns the crates of the repository by name, lowest first."""
-    lines = map(CRATE.match, text_of("crates.txt").splitlines())
-    return {line[1]: crate_of(line[1]) for line in lines if line}
-
-
-def read_edit(crate, name, is_in_gate, lines):
-    """Returns a must-fail edit: its lines `old:` and `new:` change the file that the last line `file:` before them names."""
-    changes, file, old = [], "", ""
-    for line in lines:
-        word, _, rest = line.partition(":")
-        if word == "file":
-            file = rest.strip()
-        elif word == "old":
-            old = rest.removeprefix(" ")
-        elif word == "new":
-            changes.append((file, old))
-    return Edit(crate, name, is_in_gate, changes)
-
-
-def listed_edits_of(crate):
-    """Returns the name and the text of each entry in a crate's more-must-fail.txt.
-
-    Empty lines separate the entries. An entry is a line `name: NAME`, and then the text of a must-fail
-    edit as in must-fail/. Lines that begin with `#` in place of an entry are a comment.
-    """
-    path = f"crates/{crate}/more-must-fail.txt"
-    text = text_of(path) if os.path.exists(os.path.join(TOP, path)) else ""
-    parts = re.split(r"\n{2,}", text.strip("\n")) if text else []
-    entries = [part for part in parts if not all(line.startswith("#") for line in part.split("\n"))]
-    heads = [entry.partition("\n") for entry in entries]
-    return [(head.removeprefix("name: "), rest) for head, _, rest in heads]
-
-
-def edits_of(crate):
-    """Returns the must-fail edits of a crate: those of must-fail/, which the gate tries, then those of
-    more-must-fail.txt."""
-    edits = []
-    for path in files_below(f"crates/{crate}/must-fail", ".edit"):
-        name = os.path.basename(path).removesuffix(".edit")
-        edits.append(read_edit(crate, name, True, text_of(path).split("\n")))
-    for name, text in listed_edits_of(crate):
-        edits.append(read_edit(crate, name, False, text.split("\n")))
-    return edits
+    return {name: crate_of(name) for name in crate_lines()}
 
 
 def write_or_compare(path, page, command, is_check):
