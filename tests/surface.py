@@ -5,6 +5,8 @@ Prints each item of the first list that its crate no longer exports, or whose si
 type or trait of the first list has gained; each public item that is in neither list; and each item of the second list that no longer
 exists. The last line counts the items of the lists that are as they should be, and the failures. Ends with status 1 if something failed.
 
+It also prints each crate whose rows of the first list don't have the digest that PROMISED lists.
+
 An item that several crates export needs to be listed for one of them. Traits that types implement are in the first list only.
 
 In a signature of the first list `_` stands for the name of any parameter. These make no difference: paths of types, the lifetime `'_`,
@@ -13,6 +15,7 @@ In a signature of the first list `_` stands for the name of any parameter. These
 With --ours it prints the rows of the second list as they should be, and compares nothing.
 """
 
+import hashlib
 import os
 import re
 import sys
@@ -25,6 +28,17 @@ from sources import TOP, crate_lines, ended, text_of
 
 PAGE = "docs/SURFACE.md"
 FIXED, OURS = "What may not change without a new major version", "Ours beyond it"
+# For each crate of the first list a digest of its rows. If a row is moved to the second list, or deleted with its
+# item, the page still agrees with the crates. A count of rows isn't enough: another row can replace the lost one.
+# Only a new major version changes a digest.
+PROMISED = {
+    "aec_params": "cf54d18d2da1a5cc",
+    "aec_bits": "017a6fd591fd4f65",
+    "aec_block": "035c604696979733",
+    "aec_interval": "c25a52a575038afd",
+    "aec_edit": "d1e6734270dba664",
+    "aec_cli": "b1f577a4c428c4ea",
+}
 # What a type or trait is made of. If the first list has one of these, the type or trait may have no others.
 MADE_OF = ("field", "variant", "function")
 # In the second list, what stands in place of a type or module.
@@ -70,6 +84,23 @@ def fixed_rows():
 def fixed_names(rows):
     """Returns the crate and the name of each row of the first list."""
     return {(row.crate, plain(row.name)) for row in rows}
+
+
+def digest_of(crate, rows):
+    """Returns a digest of a crate's rows of the first list, the same for any order of them."""
+    lines = sorted(f"{row.name} {row.signature}\n" for row in rows if row.crate == crate)
+    return hashlib.sha256("".join(lines).encode()).hexdigest()[:16]
+
+
+def broken_promises(rows):
+    """Yields a message for each crate whose rows of the first list aren't those of PROMISED."""
+    for crate in sorted({*PROMISED, *(row.crate for row in rows)}):
+        digest = digest_of(crate, rows)
+        if PROMISED.get(crate) != digest:
+            what = f"{crate}: a row of the first list of {PAGE} was removed, moved, changed or added."
+            now = "Undo this, since the list changes only with a new major version."
+            then = f"In a new major version write '{digest}' for {crate} in PROMISED of tests/surface.py"
+            yield f"{what} {now} {then}"
 
 
 def our_names():
@@ -184,7 +215,8 @@ def main():
     if not rows or not ours:
         return ended(0, [f"{PAGE} has no table below one of its headings '{FIXED}' and '{OURS}'"])
     named = by_name(items)
-    wrongs = [*named_twice(rows, ours), *lost_or_changed(rows, ours, named), *new_items(rows, ours, items)]
+    wrongs = [*broken_promises(rows), *named_twice(rows, ours)]
+    wrongs += [*lost_or_changed(rows, ours, named), *new_items(rows, ours, items)]
     passed = sum(why_not(row, named) is None for row in rows) + sum(name in named for name in ours)
     return ended(passed, wrongs)
 
