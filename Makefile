@@ -64,6 +64,16 @@ contracts:
 walk:
 	@python3 tools/walk.py
 
+# Proves everything anew. Prints what each crate and each must-fail edit of the gate costs.
+.PHONY: gate-times
+gate-times:
+	@python3 tools/gate_times.py
+
+# Prints how much there is to read and to prove: files, words, public functions, must-fail edits.
+.PHONY: figures
+figures:
+	@python3 tools/figures.py
+
 # Tries the deliberately wrong function bodies that the gate leaves out. The checker must refuse each. With CHANGED=COMMIT it tries
 # only those of the crates that differ from this commit.
 CHANGED ?=

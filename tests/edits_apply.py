@@ -74,7 +74,7 @@ REFUSED_BY_TESTS = [
     "aec_engine_tests/edits_stand_on_their_lines",
     "aec_engine_tests/scripts_are_carried_out",
     "aec_tests/each_option_has_its_setting",
-    "aec_tests/samples_are_coded_and_decoded",
+    "aec_job_tests/samples_are_coded_and_decoded",
     "aec_tests/ranges_and_counts_are_cut_out",
     "aec_tests/files_are_coded_and_decoded",
 ]

@@ -1,5 +1,5 @@
-//! Tests of the engines: what the clauses of `aec_engine` don't say, and worked values. The tests
-//! of the command use its devices too.
+//! Tests of the engines: what the clauses of `aec_engine` don't say, and worked values.
+//! `aec_job_tests` uses its devices too.
 #![tactic(auto)]
 
 #[cfg(test)]

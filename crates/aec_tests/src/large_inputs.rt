@@ -1,11 +1,8 @@
 //! Inputs far longer than a piece, a block or an interval. For them a body that always returns
 //! `Memory` would be proved too.
 
-use crate::asserts::{holds_at, same, same_at};
-use crate::shared::{DEFAULTS, run_engine, run_of};
-use aec_cli::Action;
-use aec_engine_tests::devices::{After, Basin, Pieces};
-use aec_params::{Limits, Params, Settings};
+use crate::asserts::{holds_at, same_at};
+use crate::shared::run_of;
 use std::alloc::{Alloc, Global};
 use std::fs;
 use std::process::Abort;
@@ -85,25 +82,5 @@ fn a_million_samples_are_coded_and_decoded(rt: HostRuntime) -> Result<(), Fail> 
     for name in ["much.raw", "much.aec", "much.back"] {
         fs::remove_file(&rt, name)?;
     }
-    Ok(())
-}
-
-#[test]
-fn a_million_samples_come_one_a_call(rt: HostRuntime) -> Result<(), Fail> {
-    let samples = high_samples(rt.alloc())?;
-    let params = Params::new(Settings {
-        preprocess: false,
-        ..DEFAULTS
-    })?;
-    let limits = Limits::new(1 << 32, 1 << 40).ok_or("limits")?;
-    let source = Pieces::of(&samples, 1, After::Ends);
-    let sink = Basin::of(rt.alloc(), 1 << 16, 1 << 21);
-    let left = run_engine(rt.alloc(), &params, &Action::Encode, limits, source, sink);
-    same(
-        &rt,
-        (left.answer, left.begins, left.failures),
-        (Ok(()), 1, [0, 0]),
-    );
-    same(&rt, left.written.len(), ROUND_TRIPS[0].2);
     Ok(())
 }

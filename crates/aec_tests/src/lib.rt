@@ -1,25 +1,17 @@
-//! Tests of the command: what no clause of `aec_engine` or `aec_cli` says of its jobs, and worked
-//! values.
+//! Tests of the command on words and files: what no clause of `aec_cli` says of its runs, and
+//! worked values.
 #![tactic(auto)]
 
-#[cfg(test)]
-mod answers;
 #[cfg(test)]
 mod asserts;
 #[cfg(test)]
 mod coded_files;
 #[cfg(test)]
-mod cut_streams;
-#[cfg(test)]
 mod edited_files;
-#[cfg(test)]
-mod engines;
 #[cfg(test)]
 mod files;
 #[cfg(test)]
 mod large_inputs;
-#[cfg(test)]
-mod limits;
 #[cfg(test)]
 mod ranges;
 #[cfg(test)]
@@ -32,7 +24,5 @@ mod shared;
 mod tables;
 #[cfg(test)]
 mod unsynced_files;
-#[cfg(test)]
-mod widths;
 #[cfg(test)]
 mod words;

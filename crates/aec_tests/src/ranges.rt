@@ -1,7 +1,6 @@
 //! Ranges and sample counts: the samples that are cut out, the refusals, and what isn't read with a
 //! count.
 
-use crate::answers::engines_answer_so;
 use crate::runs::runs_end_so;
 use std::test::Fail;
 
@@ -82,16 +81,4 @@ const REFUSED: &str = "\
 #[test]
 fn parts_that_are_not_there_are_refused(rt: HostRuntime) -> Result<(), Fail> {
     runs_end_so(&rt, rt.alloc(), REFUSED)
-}
-
-// Engines over devices: if a range is refused, `begin` isn't called.
-const UNBEGUN: &str = "\
---range 7:2 | 4096 4 | 20 09 24 92       | position outside the 8 samples
---range 7:2 | 4096 4 | 20 09             | coded data is cut short at bit 0
---range 7:2 | 4096 4 | 20 09 24 92 FF FF | input is longer than 4 bytes
---range 0:1 | 4096 4 | 20 09 24 92 !     | read failed";
-
-#[test]
-fn refused_ranges_begin_nothing(rt: HostRuntime) -> Result<(), Fail> {
-    engines_answer_so(&rt, rt.alloc(), UNBEGUN)
 }

@@ -224,3 +224,29 @@ fn a_refused_sample_is_the_last_that_is_taken(rt: HostRuntime) -> Result<(), Fai
     }
     Ok(())
 }
+
+// Samples from 128 to 254, one more than 131,072 blocks of 8 contain. Without preprocessing no
+// option makes a block of them shorter than no compression: splitting with the greatest k, 5, takes
+// at least 10 bits a sample. So each block takes 3 bits of identifier and 8 bits a sample.
+#[test]
+fn a_million_samples_come_one_a_call(rt: HostRuntime) -> Result<(), Fail> {
+    let mut samples = Vec::new(rt.alloc());
+    for index in 0..(1usize << 20) + 1 {
+        samples.push(128 + (index % 127) as u8)?;
+    }
+    let params = Params::new(Settings {
+        preprocess: false,
+        ..DEFAULTS
+    })?;
+    let limits = Limits::new(1 << 32, 1 << 40).ok_or("limits")?;
+    let source = Pieces::of(&samples, 1, After::Ends);
+    let sink = Basin::of(rt.alloc(), 1 << 16, 1 << 21);
+    let left = run_engine(rt.alloc(), &params, &Action::Encode, limits, source, sink);
+    same(
+        &rt,
+        (left.answer, left.begins, left.failures),
+        (Ok(()), 1, [0, 0]),
+    );
+    same(&rt, left.written.len(), 1_097_737);
+    Ok(())
+}

@@ -1,4 +1,4 @@
-//! The limits of the engines, and the order in which samples are judged.
+//! The limits of the engines, the order in which samples are judged, and refused ranges.
 
 use crate::answers::engines_answer_so;
 use std::test::Fail;
@@ -53,4 +53,16 @@ const JUDGED: &str = "\
 #[test]
 fn samples_are_judged_in_their_order(rt: HostRuntime) -> Result<(), Fail> {
     engines_answer_so(&rt, rt.alloc(), JUDGED)
+}
+
+// If a range is refused, `begin` isn't called.
+const UNBEGUN: &str = "\
+--range 7:2 | 4096 4 | 20 09 24 92       | position outside the 8 samples
+--range 7:2 | 4096 4 | 20 09             | coded data is cut short at bit 0
+--range 7:2 | 4096 4 | 20 09 24 92 FF FF | input is longer than 4 bytes
+--range 0:1 | 4096 4 | 20 09 24 92 !     | read failed";
+
+#[test]
+fn refused_ranges_begin_nothing(rt: HostRuntime) -> Result<(), Fail> {
+    engines_answer_so(&rt, rt.alloc(), UNBEGUN)
 }

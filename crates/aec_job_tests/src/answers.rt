@@ -3,9 +3,9 @@
 //! them, or `..` if it returns zeros for ever; and what is written, or the refusal.
 
 use crate::asserts::holds_at;
-use crate::shared::{Outcome, job_of, run_engine};
+use crate::shared::{Outcome, run_engine};
 use crate::tables::{cell, spelled};
-use aec_cli::Job;
+use aec_cli::{Job, command, settings};
 use aec_engine_tests::devices::{After, Basin, Pieces};
 use aec_params::Limits;
 use std::alloc::Global;
@@ -48,9 +48,17 @@ fn given(cell: &str) -> (&str, After) {
     }
 }
 
-fn job_with(alloc: Global, options: &str) -> Result<Job, Fail> {
-    let words = format!(in alloc; "{options} in out")?;
-    Ok(job_of(alloc, words.as_str())??)
+// Returns the job of these options.
+fn job_of(alloc: Global, options: &str) -> Result<Job, Fail> {
+    let mut words = Vec::new(alloc);
+    words.push("aec")?;
+    for word in options.split_whitespace() {
+        words.push(word)?;
+    }
+    words.push("in")?;
+    words.push("out")?;
+    let matches = command(alloc)?.try_get_matches_from(words.as_slice())?;
+    Ok(settings(alloc, &matches)?)
 }
 
 // Runs the engine of a row, and returns the outcome.
@@ -58,7 +66,7 @@ fn tried(alloc: Global, row: Row<'_>) -> Result<Outcome, Fail> {
     let limits = limits_of(row.limits)?;
     let (cell, after) = given(row.source);
     let bytes = spelled(alloc, cell)?;
-    let job = job_with(alloc, row.options)?;
+    let job = job_of(alloc, row.options)?;
     let source = Pieces::of(&bytes, 2, after);
     let sink = Basin::of(alloc, 64, 1 << 20);
     let left = run_engine(alloc, &job.params, &job.action, limits, source, sink);
