@@ -1,6 +1,8 @@
 -- The first k whose successor isn't shorter is the best.
-use Rattle.std.proofs.Common.{◌≡◌, ℕ, zero, suc, refl, ap, ◌∙◌, ◌+◌, ◌-◌, ◌*◌, ◌/◌, ◌^◌, ◌<◌, ◌≤◌, subst, arith, ⊎_elim, inl, inr, List, [], ◌∷◌, length}
+use Rattle.std.proofs.Common.{◌≡◌, ℕ, zero, suc, Bool, true, false, ◌&&◌, nat_lt, refl, ap, ◌∙◌, ◌+◌, ◌-◌, ◌*◌, ◌/◌, ◌^◌, ◌<◌, ◌≤◌, subst, arith, ⊎_elim, inl, inr, List, [], ◌∷◌, length}
 use Rattle.std.proofs.lemmas.Bool.{cases_lt}
+use mir.Val.{bool_byte}
+use Rattle.std.proofs.lemmas.Bool.Decides.{nat_tests}
 use lib.Count.{count_leading_zeros, leading_of_zero}
 use Rattle.std.proofs.Math.Pow.{pow_mono}
 use Rattle.std.proofs.lemmas.Nat.{shr-shr, pow_pos, pow-add, leading_le, leading_top, leading_length}
@@ -226,3 +228,23 @@ best-third k first second third values begins at_first at_second is shorter agai
   where
     little : (a b c d : ℕ) → a ≤ 3 * length values → 2 * b ≤ a → 2 * c ≤ b → c ≤ d + length values
     little a b c d h half quarter = omega arith
+
+-- the best of three k is that of as many steps as make the values shorter
+pub best-chosen : (k first second third best : ℕ) (values : List ℕ) → Begins k values → first ≡ sum_of_shifted k values
+    → second ≡ sum_of_shifted (k + 1) values → third ≡ sum_of_shifted (k + 2) values → first ≤ 3 * length values
+    → (one next : Bool) → one ≡ nat_lt (second + length values) first → next ≡ nat_lt (third + length values) second
+    → best ≡ k + bool_byte one + bool_byte (one && next) → (options : ℕ) → k + 2 < options → IsBestSplit options best values
+best-chosen k first second third best values begins at_first at_second at_third few false next shorter again steps options within =
+    let stop : first ≤ second + length values = grind (arith, nat_tests) in
+    subst (λ j. IsBestSplit options j values) (omega (arith, steps))
+    (best-first k first second values begins at_first at_second stop options within)
+best-chosen k first second third best values begins at_first at_second at_third few true false shorter again steps options within =
+    let more : second + length values < first = grind (arith, nat_tests) in
+    let stop : second ≤ third + length values = grind (arith, nat_tests) in
+    subst (λ j. IsBestSplit options j values) (omega (arith, steps))
+    (best-second k first second third values begins at_first at_second at_third more stop options within)
+best-chosen k first second third best values begins at_first at_second at_third few true true shorter again steps options within =
+    let more : second + length values < first = grind (arith, nat_tests) in
+    let twice : third + length values < second = grind (arith, nat_tests) in
+    subst (λ j. IsBestSplit options j values) (omega (arith, steps))
+    (best-third k first second third values begins at_first at_second at_third more twice few options within)

@@ -1,12 +1,12 @@
 //! The k with which a block's values are split.
 
-ghost use Rattle.std.specs.Prelude.{◌≡◌, ◌+◌, ◌*◌, ◌^◌, ◌<◌, ◌≤◌, ℕ, nat_lt, length};
+ghost use Rattle.std.specs.Prelude.{◌≡◌, ◌+◌, ◌*◌, ◌^◌, ◌<◌, ◌≤◌, ℕ, nat_lt, if◌then◌else◌, length};
 ghost use Rattle.std.specs.List.{AllByRecursion};
 ghost use Rattle.aec_block.specs.BlockShape.{most_values};
 ghost use Rattle.aec_block.specs.Lengths.{sum_of_shifted, IsSum, AreFewBelow, HaveEqualSums, IsFirstK, IsBestSplit, IsSplitLen};
 
 use crate::choice::sums::shifted_sum;
-use crate::choice::sums_of_three::{small_shifted_sum, three_sums};
+use crate::choice::sums_of_three::{ThreeSums, small_shifted_sum, three_sums};
 
 /// A k, and the number of bits of the values that are split with it.
 #[derive(Clone, Copy, Debug, PartialEq, Eq)]
@@ -117,9 +117,20 @@ fn sum_from(values: &[u32], bits: u32, total: u64, k: u32) -> u64
     shifted_sum(values, k)
 }
 
+/// Returns the first of the sums; the second if `one` holds; the third if `two` does. It compiles to
+/// two selects, without a branch.
+#[inline(always)]
+fn sum_of_chosen(sums: ThreeSums, one: bool, two: bool) -> u64
+    ensures { result ≡ (if two then sums.third else if one then sums.second else sums.first) }
+{
+    let less = if one { sums.second } else { sums.first };
+    if two { sums.third } else { less }
+}
+
 /// Returns the best k, which is `first` or one of the next two: with each k before `first` the
 /// values are longer than with the next, and they add up to at most `3 * 2^first` times their
-/// number. Their sums are those of `all`.
+/// number. Their sums are those of `all`. No branch depends on the sums: which k is best can't be
+/// predicted.
 #[inline(always)]
 fn best_of_three(all: &[u32], values: &[u32], first: u32) -> Splitting
     requires first { first < 30 }
@@ -132,13 +143,10 @@ fn best_of_three(all: &[u32], values: &[u32], first: u32) -> Splitting
 {
     let sums = three_sums(all, first);
     let count = values.len();
-    if !is_shorter_next(sums.first, sums.second, count as u64) {
-        return with_k(sums.first, count, first);
-    }
-    if !is_shorter_next(sums.second, sums.third, count as u64) {
-        return with_k(sums.second, count, first + 1);
-    }
-    with_k(sums.third, count, first + 2)
+    let one = is_shorter_next(sums.first, sums.second, count as u64);
+    let two = one & is_shorter_next(sums.second, sums.third, count as u64);
+    let sum = sum_of_chosen(sums, one, two);
+    with_k(sum, count, first + u32::from(one) + u32::from(two))
 }
 
 /// Returns the k below `options` with which values below `2^bits` have the fewest bits, and of
