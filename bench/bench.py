@@ -103,6 +103,25 @@ def sparse(chance):
     )
 
 
+def mask(chance):
+    """Returns samples of 0 and 1, in a byte each. One in ten is 1."""
+    return bytes(chance.random() < 0.1 for _ in range(MIB))
+
+
+def residues(chance):
+    """Returns 16-bit signed samples: seven in ten are 0, the others -1 or 1."""
+    return struct.pack(f"<{MIB // 2}h", *(chance.choice((-1, 1)) if chance.random() < 0.3 else 0 for _ in range(MIB // 2)))
+
+
+def walk_8(chance):
+    """Returns 8-bit samples: a walk by steps of up to 2, which turns back at 0 and at 255."""
+    samples, x = bytearray(), 128
+    for _ in range(MIB):
+        x = min(max(x + chance.randrange(-2, 3), 0), 255)
+        samples.append(x)
+    return bytes(samples)
+
+
 INPUTS = [
     ("8-bit ramp with noise", ["-n", "8"], ramp_with_noise),
     ("12-bit noise", ["-n", "12"], noise_12),
@@ -113,6 +132,10 @@ INPUTS = [
     ("16-bit waves", ["-n", "16", "-s"], waves),
     ("32-bit walk", ["-n", "32", "-s"], walk),
     ("16-bit sparse zeros", ["-n", "16"], sparse),
+    ("1-bit mask", ["-n", "1"], mask),
+    ("8-bit mask", ["-n", "8"], mask),
+    ("16-bit residues", ["-n", "16", "-s"], residues),
+    ("8-bit walk", ["-n", "8"], walk_8),
 ]
 
 

@@ -26,7 +26,7 @@ EVEN_BLOCKS = [8, 10, 12, 16, 24, 30, 32, 34, 48, 62, 64]
 EVEN_INPUTS = ["8-bit ramp with noise", "16-bit detector", "16-bit sparse zeros"]
 INTERVAL = 128
 # The bytes of a stored sample, by its bits.
-STORAGE = {8: 1, 12: 2, 16: 2, 32: 4}
+STORAGE = {1: 1, 8: 1, 12: 2, 16: 2, 32: 4}
 
 
 def counted(command):
