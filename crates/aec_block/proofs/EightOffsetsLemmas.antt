@@ -176,7 +176,7 @@ get_or-mapped_offsets top p i [] within = absurd (omega arith)
 get_or-mapped_offsets top p zero (x ∷ xs) within = refl
 get_or-mapped_offsets top p (suc i) (x ∷ xs) within = get_or-mapped_offsets top x i xs (omega arith)
 
-length-mapped_offsets : (top p : ℕ) (xs : List ℕ) → length (mapped_offsets top p xs) ≡ length xs
+pub length-mapped_offsets : (top p : ℕ) (xs : List ℕ) → length (mapped_offsets top p xs) ≡ length xs
 length-mapped_offsets top p [] = refl
 length-mapped_offsets top p (x ∷ xs) = omega (arith, length-mapped_offsets top x xs)
 

@@ -174,6 +174,18 @@ next_places p before ds is = ap (λ (xs : List ℕ). zip2 (act2 wrap_add (s_int 
     from p [] = refl
     from p (d ∷ ds) = ap (λ (xs : List ℕ). added p d ∷ xs) (from (added p d) ds)
 
+-- the parity of each place
+parity_lanes-map : (xs : List ℕ) → zip2 (act2 and_op (s_int w32) (s_int w32) (s_int w32)) xs (replicate (length xs) 1) ≡ map (λ x. x % 2) xs
+parity_lanes-map [] = refl
+parity_lanes-map (x ∷ xs) = ap₂ ◌∷◌ (and_mask x 1) (parity_lanes-map xs)
+
+pub parity_eight : (xs : List ℕ) → length xs ≡ 8
+    → zip2 (act2 and_op (s_int w32) (s_int w32) (s_int w32)) xs (replicate 8 1) ≡ map (λ x. x % 2) xs
+parity_eight xs long =
+    ap (λ (n : ℕ). zip2 (act2 and_op (s_int w32) (s_int w32) (s_int w32)) xs (replicate n 1)) (sym long) ∙ parity_lanes-map xs
+
+pub ruleset parity_lanes = (parity_eight)
+
 -- ---- rooms
 
 -- a value minus its half

@@ -3,6 +3,7 @@
 -- offsets from the least sample, of which `top` is the greatest. The contracts of `map`,
 -- `map_list`, `unmap` and `unmap_into` cite `mapped_value` and `mapped_after` instead.
 use Rattle.std.specs.Prelude.{ℕ, ◌+◌, ◌-◌, ◌*◌, ◌/◌, ◌%◌, ◌^◌, ◌≤◌, ◌==◌, min, ◌&&◌, nat_le, nat_lt, if◌then◌else◌, ℤ, ◌-ℤ◌, unsigned_abs, ⊤, List, [], ◌∷◌, ◌≡◌}
+use Rattle.std.specs.List.{AllByRecursion}
 use Rattle.aec_params.specs.declared.settings.Settings.{Settings}
 use Rattle.aec_params.specs.Params.{x_min}
 
@@ -35,6 +36,11 @@ pub record IsUnmapped (top p m x : ℕ) : Type 0 where
 abbrev pub mapped_offsets : ℕ → ℕ → List ℕ → List ℕ
 mapped_offsets top p [] = []
 mapped_offsets top p (x ∷ xs) = mapped_offset top p x ∷ mapped_offsets top x xs
+
+-- offsets for which values are coded, each at the one before it, which is p for the first
+pub record AreUnmapped (top p : ℕ) (values offsets : List ℕ) : Type 0 where
+  pub within : AllByRecursion (λ x. x ≤ top) offsets
+  pub mapped : mapped_offsets top p offsets ≡ values
 
 -- the offset for which m is coded at p, if both sides of p have room for it: above p for even m,
 -- below for odd

@@ -1,8 +1,9 @@
 //! Unmaps eight values at once if each difference is within the room t on both sides of its
 //! prediction. Then a value determines its difference, sums modulo 2^32 are the offsets, and the
-//! room at each offset confirms the condition.
+//! room at each offset confirms the condition. The same sums modulo 2 are the offsets if these and
+//! the values are all 0 or 1.
 
-ghost use Rattle.std.specs.Prelude.{◌≡◌, ◌+◌, ◌-◌, ◌*◌, ◌/◌, ◌^◌, ◌<◌, ◌≤◌, ◌+ℤ◌, true, pos, ℕ, length, take, map as list_map, get_or, vec_len, vec_capacity};
+ghost use Rattle.std.specs.Prelude.{◌≡◌, ◌+◌, ◌-◌, ◌*◌, ◌/◌, ◌%◌, ◌^◌, ◌<◌, ◌≤◌, ◌+ℤ◌, true, pos, ℕ, length, take, map as list_map, get_or, vec_len, vec_capacity};
 ghost use Rattle.std.specs.List.{AllByRecursion};
 ghost use Rattle.aec_params.specs.Params.{x_min};
 ghost use Rattle.aec_block.specs.Offsets.{top_offset, offset_room, near_difference, places_before, places_after};
@@ -49,6 +50,15 @@ pub(crate) fn next_places(before: &[u32; 8], differences: &[u32; 8]) -> [u32; 8]
     (u32x8::from_array(*before) + u32x8::from_array(*differences)).to_array()
 }
 
+/// Returns 1 for each of eight places that is odd, and 0 for each that is even.
+#[inline(always)]
+#[tactic(auto, using(crate::proofs::NearLaneLemmas::parity_lanes))]
+pub(crate) fn parities(places: &[u32; 8]) -> [u32; 8]
+    ensures { result ≡ list_map (λ x. x % 2) places.now }
+{
+    (u32x8::from_array(*places) & u32x8::splat(1)).to_array()
+}
+
 /// Returns the least room on both sides that each of eight near values needs.
 #[inline(always)]
 #[tactic(auto, using(crate::proofs::NearLaneLemmas::room_lanes))]
@@ -81,6 +91,26 @@ fn are_within(numbers: &[u32; 8], bounds: &[u32; 8]) -> bool
     u32x8::from_array(*numbers)
         .simd_le(u32x8::from_array(*bounds))
         .all()
+}
+
+/// Returns eight values as an array.
+#[inline(always)]
+fn array_of(values: &[u32]) -> [u32; 8]
+    requires { length values.now ≡ 8 }
+    ensures { result ≡ values.now }
+{
+    u32x8::from_slice(values).to_array()
+}
+
+/// Returns true only if an offset and each of eight values are 0 or 1; false means nothing.
+#[inline(always)]
+pub(crate) fn are_below_two(offset: u32, values: &[u32]) -> bool
+    requires { length values.now ≡ 8 }
+    ensures offset { result ≡ true → offset ≤ 1 }
+    ensures values { result ≡ true → (i : ℕ) → i < 8 → get_or values.now i 0 ≤ 1 }
+{
+    // Most samples lie higher: a test of `offset` first spares them the lanes.
+    offset <= 1 && are_within(&array_of(values), &[1; 8])
 }
 
 /// Returns true only if each of eight values is near at its place, if that place is an offset;

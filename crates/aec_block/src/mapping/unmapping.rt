@@ -1,11 +1,13 @@
 //! Unmaps values to samples, overwriting a list of samples.
 
-ghost use Rattle.std.specs.Prelude.{◌≡◌, ◌*◌, ◌/◌, ℤ, true, false, length, take, map as list_map};
+ghost use Rattle.std.specs.Prelude.{◌≡◌, ◌*◌, ◌/◌, ℤ, true, false, length, take};
 ghost use Rattle.aec_params.specs.Params.{IsHeld};
-ghost use Rattle.aec_block.specs.Offsets.{top_offset, near_difference, places_after, AreNear};
+ghost use Rattle.aec_block.specs.Offsets.{top_offset, AreUnmapped};
 ghost use Rattle.aec_block.specs.Unmapping.{HaveSamplePlaces, PutsSamples, CanUnmap, PutsUnmapped};
 
-use crate::mapping::small_differences::{are_near, near_differences, next_places, running_places};
+use crate::mapping::small_differences::{
+    are_below_two, are_near, near_differences, next_places, parities, running_places,
+};
 use crate::mapping::{greatest_offset, offset_of, unmap_offset};
 use aec_params::Params;
 
@@ -35,10 +37,10 @@ fn put_far(params: &Params, offset: u32, values: &[u32], samples: &mut [i64]) ->
     put_each(params, offset, values, samples)
 }
 
-/// Fills `samples` with the samples for which eight near values are coded, and whose offsets are
-/// passed. Returns the offset of the last.
+/// Fills `samples` with the samples for which eight values are coded, and whose offsets are passed.
+/// Returns the offset of the last.
 #[inline(always)]
-fn put_near(
+fn put_places(
     params: &Params,
     offset: u32,
     values: &[u32],
@@ -46,9 +48,8 @@ fn put_near(
     samples: &mut [i64],
 ) -> u32
     requires can { CanUnmap params.now offset values.now samples.old }
-    requires near { AreNear (top_offset params.now) offset values.now }
     requires eight { length values.now ≡ 8 }
-    requires places { places.now ≡ places_after offset (list_map near_difference values.now) }
+    requires places { AreUnmapped (top_offset params.now) offset values.now places.now }
     ensures { PutsUnmapped params.now offset result values.now samples.old samples.new }
 {
     let least = params.x_min();
@@ -60,19 +61,24 @@ fn put_near(
     place
 }
 
-/// Fills `samples` with the samples for which eight values are coded, at once if all are near, else
-/// one by one. Returns the offset of the last.
+/// Fills `samples` with the samples for which eight values are coded. Unmaps all at once if these
+/// and the offsets are 0 or 1, or if all values are near, else one by one. Returns the offset of
+/// the last.
 #[inline(always)]
 fn put_eight(params: &Params, offset: u32, values: &[u32], samples: &mut [i64]) -> u32
     requires can { CanUnmap params.now offset values.now samples.old }
     requires eight { length values.now ≡ 8 }
     ensures { PutsUnmapped params.now offset result values.now samples.old samples.new }
 {
+    let top = greatest_offset(params);
     let differences = near_differences(values);
     let before = running_places(offset, &differences);
-    if are_near(greatest_offset(params), values, &before) {
-        let places = next_places(&before, &differences);
-        return put_near(params, offset, values, &places, samples);
+    let places = next_places(&before, &differences);
+    if are_below_two(offset, values) {
+        return put_places(params, offset, values, &parities(&places), samples);
+    }
+    if are_near(top, values, &before) {
+        return put_places(params, offset, values, &places, samples);
     }
     put_far(params, offset, values, samples)
 }
