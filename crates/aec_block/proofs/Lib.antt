@@ -2,6 +2,7 @@ pub mod MappingLemmas
 pub mod ListMappingLemmas
 pub mod NearLemmas
 pub mod ParityLemmas
+pub mod LowLemmas
 pub mod NearLaneLemmas
 pub mod EightOffsetsLemmas
 pub mod UnmappingLemmas

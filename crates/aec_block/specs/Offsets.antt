@@ -56,6 +56,15 @@ abbrev pub AreNear : ℕ → ℕ → List ℕ → Type 0
 AreNear top p [] = ⊤
 AreNear top p (m ∷ ms) = (m ≤ 2 * offset_room top p) × AreNear top (near_offset p m) ms
 
+-- the offset for which m is coded at p, if at least m offsets lie above p; modulo 2^32
+abbrev pub low_offset : ℕ → ℕ → ℕ
+low_offset p m = if nat_le m (2 * p) then (p + near_difference m) % 2 ^ 32 else m
+
+-- such offsets for values, each at the one before it, which is p for the first
+abbrev pub low_offsets : ℕ → List ℕ → List ℕ
+low_offsets p [] = []
+low_offsets p (m ∷ ms) = low_offset p m ∷ low_offsets (low_offset p m) ms
+
 -- the places where consecutive differences start, the first at p, modulo 2^32
 abbrev pub places_before : ℕ → List ℕ → List ℕ
 places_before p [] = []

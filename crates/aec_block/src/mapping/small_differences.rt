@@ -102,6 +102,15 @@ fn array_of(values: &[u32]) -> [u32; 8]
     u32x8::from_slice(values).to_array()
 }
 
+/// Returns true only if none of eight values is above `bound`; false means nothing.
+#[inline(always)]
+fn are_at_most(values: &[u32], bound: u32) -> bool
+    requires { length values.now ≡ 8 }
+    ensures { result ≡ true → (i : ℕ) → i < 8 → get_or values.now i 0 ≤ bound }
+{
+    are_within(&array_of(values), &[bound; 8])
+}
+
 /// Returns true only if an offset and each of eight values are 0 or 1; false means nothing.
 #[inline(always)]
 pub(crate) fn are_below_two(offset: u32, values: &[u32]) -> bool
@@ -110,7 +119,18 @@ pub(crate) fn are_below_two(offset: u32, values: &[u32]) -> bool
     ensures values { result ≡ true → (i : ℕ) → i < 8 → get_or values.now i 0 ≤ 1 }
 {
     // Most samples lie higher: a test of `offset` first spares them the lanes.
-    offset <= 1 && are_within(&array_of(values), &[1; 8])
+    offset <= 1 && are_at_most(values, 1)
+}
+
+/// Returns true only if `offset` and eight times each of eight values add up to at most `top`;
+/// false means nothing.
+#[inline(always)]
+pub(crate) fn are_low(top: u32, offset: u32, values: &[u32]) -> bool
+    requires within { offset ≤ top }
+    requires len { length values.now ≡ 8 }
+    ensures { result ≡ true → (i : ℕ) → i < 8 → offset + 8 * get_or values.now i 0 ≤ top }
+{
+    are_at_most(values, (top - offset) / 8)
 }
 
 /// Returns true only if each of eight values is near at its place, if that place is an offset;

@@ -1,12 +1,12 @@
 //! Unmaps values to samples, overwriting a list of samples.
 
 ghost use Rattle.std.specs.Prelude.{◌≡◌, ◌*◌, ◌/◌, ℤ, true, false, length, take};
-ghost use Rattle.aec_params.specs.Params.{IsHeld};
-ghost use Rattle.aec_block.specs.Offsets.{top_offset, AreUnmapped};
+ghost use Rattle.aec_params.specs.Params.{IsAllowed, IsHeld, x_min};
+ghost use Rattle.aec_block.specs.Offsets.{top_offset, near_difference, low_offset, low_offsets, AreUnmapped};
 ghost use Rattle.aec_block.specs.Unmapping.{HaveSamplePlaces, PutsSamples, CanUnmap, PutsUnmapped};
 
 use crate::mapping::small_differences::{
-    are_below_two, are_near, near_differences, next_places, parities, running_places,
+    are_below_two, are_low, are_near, near_differences, next_places, parities, running_places,
 };
 use crate::mapping::{greatest_offset, offset_of, unmap_offset};
 use aec_params::Params;
@@ -28,12 +28,58 @@ fn put_each(params: &Params, offset: u32, values: &[u32], samples: &mut [i64]) -
     last
 }
 
-/// `put_each`, out of line: values that aren't near are few, and their code would be in the way.
-#[inline(never)]
-fn put_far(params: &Params, offset: u32, values: &[u32], samples: &mut [i64]) -> u32
-    requires { CanUnmap params.now offset values.now samples.old }
+/// Returns the offset for which `m` is coded at the prediction `p`, if at least `m` offsets lie
+/// above `p`. Then a value that isn't near is its own offset. `difference` is that of a near `m`.
+#[inline(always)]
+fn unmap_low(p: u32, m: u32, difference: u32) -> u32
+    requires { difference ≡ near_difference m }
+    ensures { result ≡ low_offset p m }
+{
+    if u64::from(m) > 2 * u64::from(p) {
+        m
+    } else {
+        p.wrapping_add(difference)
+    }
+}
+
+/// Fills `samples` with the samples for which eight values are coded, if for each of them at least
+/// as many offsets lie above its prediction. Returns the offset of the last. `least` is the least
+/// sample.
+#[inline(always)]
+fn put_low(params: &Params, least: i64, offset: u32, values: &[u32], samples: &mut [i64]) -> u32
+    requires can { CanUnmap params.now offset values.now samples.old }
+    requires eight { length values.now ≡ 8 }
+    requires least { least ≡ x_min params.now }
+    requires allowed { IsAllowed params.now }
+    requires low { AreUnmapped (top_offset params.now) offset values.now
+        (low_offsets offset values.now) }
     ensures { PutsUnmapped params.now offset result values.now samples.old samples.new }
 {
+    let differences = near_differences(values);
+    let mut last = offset;
+    for i in 0..8 {
+        last = unmap_low(last, values[i], differences[i]);
+        samples[i] = least + i64::from(last);
+    }
+    last
+}
+
+/// Fills `samples` with the samples for which eight values are coded, one by one. Returns the
+/// offset of the last. Out of line: values that aren't near are few, and their code would be in the
+/// way.
+#[inline(never)]
+fn put_far(params: &Params, offset: u32, values: &[u32], samples: &mut [i64]) -> u32
+    requires can { CanUnmap params.now offset values.now samples.old }
+    requires eight { length values.now ≡ 8 }
+    ensures { PutsUnmapped params.now offset result values.now samples.old samples.new }
+{
+    // What both ways read of `params` is read here, at the front. So the compiler passes these
+    // numbers instead of a reference, and the callers keep their copy in registers.
+    let top = greatest_offset(params);
+    let least = params.x_min();
+    if are_low(top, offset, values) {
+        return put_low(params, least, offset, values, samples);
+    }
     put_each(params, offset, values, samples)
 }
 
