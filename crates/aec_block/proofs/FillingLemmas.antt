@@ -14,21 +14,22 @@ use Rattle.aec_params.specs.CodedDataSets.{written_count}
 use Rattle.aec_params.specs.Places.{placed_values, block_of_values}
 use Rattle.aec_block.specs.BlockShape.{most_values, IsSound}
 use Rattle.aec_block.specs.ReadAt.{Taken, nothing, taken, map_taken, binary_at, values_at, members_at, split_at}
+use Rattle.aec_block.specs.ReadCds.{block_with}
 use Rattle.aec_block.specs.Gathering.{as_taken_by, when, all_below, small_values, kept_members, small_members, small_block, pair_block}
 
 -- ---- what a result stands for
 
-map_taken-as : {X Y Z : Type 0} (f : Y → Z) (g : X → Y) (h : X → Z) (t : Taken Y) (result : Result X Fault) (rest : List Bool)
+pub map_taken-as : {X Y Z : Type 0} (f : Y → Z) (g : X → Y) (h : X → Z) (t : Taken Y) (result : Result X Fault) (rest : List Bool)
     → ((x : X) → f (g x) ≡ h x) → t ≡ as_taken_by g result rest → map_taken f t ≡ as_taken_by h result rest
 map_taken-as f g h t (Ok x) rest same read = rw read (ap (λ z. taken z rest) (same x))
 map_taken-as f g h t (Err e) rest same read = rw read refl
 
-map_taken-twice : {X Y Z : Type 0} (f : X → Y) (g : Y → Z) (h : X → Z) (t : Taken X)
+pub map_taken-twice : {X Y Z : Type 0} (f : X → Y) (g : Y → Z) (h : X → Z) (t : Taken X)
     → ((x : X) → h x ≡ g (f x)) → map_taken h t ≡ map_taken g (map_taken f t)
 map_taken-twice f g h nothing same = refl
 map_taken-twice f g h (taken x rest) same = ap (λ z. taken z rest) (same x)
 
-option_map-when : {X Y : Type 0} (f : X → Y) (b : Bool) (x : X) → option_map f (when b x) ≡ when b (f x)
+pub option_map-when : {X Y : Type 0} (f : X → Y) (b : Bool) (x : X) → option_map f (when b x) ≡ when b (f x)
 option_map-when f true x = refl
 option_map-when f false x = refl
 
@@ -135,9 +136,6 @@ split_filled reference limit k count n start rest values block result same fille
     (map_taken (small_values limit) (split_at k count start)) result rest
     (λ fit. option_map-when (block_of_values reference) fit values ∙ ap (when fit) filled)
     (ap (λ m. map_taken (small_values limit) (split_at k m start)) (sym same) ∙ read)
-
-abbrev block_with : Option ℕ → List ℕ → Block
-block_with reference values = record { reference = reference; values = values }
 
 pair_block-members : (limit : ℕ) (reference : Option ℕ) → 0 < limit → (members : List ℕ)
     → pair_block limit reference members ≡ option_map (block_with reference) (small_members limit (is_some reference) members)

@@ -13,6 +13,7 @@ pub mod BlockLemmas
 pub mod ChoiceLemmas
 pub mod CodewordLemmas
 pub mod PairLemmas
+pub mod PairTableLemmas
 pub mod SplitLemmas
 pub mod KindLemmas
 pub mod SetLemmas
@@ -26,8 +27,8 @@ pub mod JoiningLemmas
 pub mod GatheringLemmas
 pub mod FillingLemmas
 pub mod ReadCdsLemmas
-pub mod PlainLemmas
-pub mod NoPlainLemmas
+pub mod SingleLemmas
+pub mod NoSingleLemmas
 pub mod ReadRunLemmas
 pub mod StandingLemmas
 pub mod SkippingLemmas

@@ -61,7 +61,7 @@ next_number (suc a) b =
     let sum : a + (b + 1) ≡ suc a + b = omega arith in
     rw sum (omega arith)
 
-triangle_number : (m : ℕ) → triangle ((pair_with_number m).first + (pair_with_number m).second) + (pair_with_number m).second ≡ m
+pub triangle_number : (m : ℕ) → triangle ((pair_with_number m).first + (pair_with_number m).second) + (pair_with_number m).second ≡ m
 triangle_number zero = refl
 triangle_number (suc m) = next_number (pair_with_number m).first (pair_with_number m).second ∙ ap (λ n. suc n) (triangle_number m)
 

@@ -67,7 +67,7 @@ when-some : {Y : Type 0} (b : Bool) (x y : Y) → when b x ≡ Some y → WhenSo
 when-some true x y e = record { test = refl; value = cc }
 when-some false x y e = absurd (cc)
 
-when-none : {Y : Type 0} (b : Bool) (x : Y) → when b x ≡ None → b ≡ false
+pub when-none : {Y : Type 0} (b : Bool) (x : Y) → when b x ≡ None → b ≡ false
 when-none true x e = absurd (cc)
 when-none false x e = refl
 

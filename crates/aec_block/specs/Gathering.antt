@@ -1,14 +1,14 @@
 -- What the private functions of reading return: what was taken, instead of a result, and values if
--- they are small enough. Of the public functions only `is_plain_next`, `read_run`, `read_plain` and
--- `read_plain_first` cite this file, of which they need only `bits_at`.
-use Rattle.std.specs.Prelude.{◌≡◌, ◌≤◌, ◌^◌, ℕ, Bool, nat_lt, true, false, if◌then◌else◌, Option, Some, None, Result, Ok, Err, List, ◌∷◌, length, drop}
+-- they are small enough. Of the public functions only `is_single_next`, `read_run`, `read_single`
+-- and `read_single_first` cite this file, of which they need only `bits_at`.
+use Rattle.std.specs.Prelude.{◌≡◌, ◌≤◌, ◌^◌, ℕ, Bool, nat_lt, true, false, if◌then◌else◌, Option, Some, None, Result, Ok, Err, List, [], ◌∷◌, length, drop}
 use Rattle.std.specs.List.{list_all}
 use Rattle.aec_bits.specs.BitReader.{Cursor}
 use Rattle.aec_params.specs.declared.settings.Settings.{Settings}
 use Rattle.aec_params.specs.Blocks.{Block}
 use Rattle.aec_params.specs.Places.{block_of_values, block_of_members}
 use Rattle.aec_params.specs.CodedDataSets.{value_pairs, judged_in}
-use Rattle.aec_block.specs.ReadAt.{Taken, nothing, taken, map_taken, fs_at, binary_at, values_at, split_at}
+use Rattle.aec_block.specs.ReadAt.{Taken, nothing, taken, map_taken, pair_with_number, before_members, fs_at, binary_at, values_at, split_at}
 
 -- the bits from a cursor's place on
 abbrev pub bits_at : Cursor → List Bool
@@ -39,6 +39,11 @@ all_below limit values = list_all (λ v. nat_lt v limit) values
 -- values, if they are below the limit
 abbrev pub small_values : ℕ → List ℕ → Option (List ℕ)
 small_values limit values = when (all_below limit values) values
+
+-- the members of the pairs with these numbers
+abbrev pub members_of_numbers : List ℕ → List ℕ
+members_of_numbers [] = []
+members_of_numbers (m ∷ numbers) = before_members (pair_with_number m) (members_of_numbers numbers)
 
 -- the members of pairs, with 0 instead of the first member if it is in the reference place
 abbrev pub kept_members : Bool → List ℕ → List ℕ

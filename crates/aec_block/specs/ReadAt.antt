@@ -1,6 +1,6 @@
 -- What the private functions of reading compute, on lists of bits; the laws of `laws.rt` say that
--- it is the reading of coded data sets. Of the other public functions only `is_plain_next` and
--- `read_plain` cite this file, by `begins_plain`.
+-- it is the reading of coded data sets. Of the other public functions only `is_single_next`,
+-- `read_single` and `read_single_first` cite this file, by `begins_single`.
 use Rattle.std.specs.Prelude.{ℕ, zero, suc, ◌+◌, ◌-◌, ◌*◌, ◌/◌, ◌^◌, ◌==◌, nat_le, Bool, true, false, if◌then◌else◌, Option, Some, None, List, [], ◌∷◌, length, take, drop}
 use Rattle.aec_params.specs.declared.settings.Settings.{Settings}
 use Rattle.aec_params.specs.Params.{id_len}

@@ -1,5 +1,6 @@
 -- What reading a coded data set returns: what the one that begins at the position decodes to.
 use Rattle.std.specs.Prelude.{◌≡◌, ℕ, ◌+◌, ◌<◌, Bool, true, false, Option, Some, None, List, length, ⊤}
+use Rattle.std.specs.Option.{is_some}
 use Rattle.aec_params.specs.declared.settings.Settings.{Settings}
 use Rattle.aec_params.specs.Params.{id_len}
 use Rattle.aec_params.specs.CodedDataSets.{Body, uncompressed_values, value_pairs, split_values, zero_blocks, CodedDataSet, cds_bits, has_small_values}
@@ -64,19 +65,12 @@ HasShortSplit ZeroBlocks = ⊤
 HasShortSplit SecondExtension = ⊤
 HasShortSplit NoCompression = ⊤
 
--- whether an identifier announces values that are written one by one
-abbrev pub is_plain : Kind → Bool
-is_plain ZeroBlocks = false
-is_plain SecondExtension = false
-is_plain (Split k) = true
-is_plain NoCompression = true
-
--- whether a body has values that are written one by one, by sample splitting or no compression
-abbrev pub is_plain_body : Body → Bool
-is_plain_body (uncompressed_values values) = true
-is_plain_body (value_pairs members) = false
-is_plain_body (split_values k values) = true
-is_plain_body (zero_blocks m) = false
+-- whether an identifier announces the values of one block
+abbrev pub is_single : Kind → Bool
+is_single ZeroBlocks = false
+is_single SecondExtension = true
+is_single (Split k) = true
+is_single NoCompression = true
 
 -- whether a body is a run of zero blocks
 abbrev pub is_run_body : Body → Bool
@@ -85,22 +79,21 @@ is_run_body (value_pairs members) = false
 is_run_body (split_values k values) = false
 is_run_body (zero_blocks m) = true
 
--- whether the identifier that was taken announces values that are written one by one; false if none
--- was taken
-abbrev pub is_plain_taken : Taken Kind → Bool
-is_plain_taken nothing = false
-is_plain_taken (taken kind rest) = is_plain kind
+-- whether the identifier that was taken announces the values of one block; false if none was taken
+abbrev pub is_single_taken : Taken Kind → Bool
+is_single_taken nothing = false
+is_single_taken (taken kind rest) = is_single kind
 
--- whether the first bits are the identifier of a plain body (as the code judges it; the clause
--- `seen` of `read_plain` says that it holds of each set that is read)
-abbrev pub begins_plain : Settings → List Bool → Bool
-begins_plain s bits = is_plain_taken (kind_at (id_len s) bits)
+-- whether the first bits are the identifier of a coded data set of one block (as the code judges
+-- it; the clause `seen` of `read_single` says that it holds of each set that is read)
+abbrev pub begins_single : Settings → List Bool → Bool
+begins_single s bits = is_single_taken (kind_at (id_len s) bits)
 
--- no plain coded data set, of a reference block if `is_reference`, else of another, whose values
--- are at most 2^n - 1, begins the bits
-abbrev pub HasNoPlain : Settings → Bool → List Bool → Type 0
-HasNoPlain s is_reference bits = (c : CodedDataSet) (rest : List Bool) → cds_at s is_reference bits ≡ taken c rest
-    → is_plain_body c.body ≡ true → has_small_values s c ≡ false
+-- no coded data set of one block, of a reference block if `is_reference`, else of another, whose
+-- values are at most 2^n - 1, begins the bits
+abbrev pub HasNoSingle : Settings → Bool → List Bool → Type 0
+HasNoSingle s is_reference bits = (c : CodedDataSet) (rest : List Bool) → cds_at s is_reference bits ≡ taken c rest
+    → is_run_body c.body ≡ false → has_small_values s c ≡ false
 
 -- no run of zero blocks begins the bits
 abbrev pub HasNoRun : Settings → Bool → List Bool → Type 0
@@ -117,16 +110,13 @@ pub record IsReadAs (s : Settings) (is_reference : Bool) (old new : Cursor) (c :
   pub behind : new ≡ record { list = old.list; pos = old.pos + length (cds_bits s c) }
   pub answer : cds ≡ cds_of c
 
--- a plain coded data set without a reference sample, whose values are these, none of them above
--- 2^n - 1, is read, and the cursor moves past it
-pub record IsReadPlain (s : Settings) (old new : Cursor) (values : List ℕ) : Type 0 where
-  pub set : CodedDataSet
-  pub plain : is_plain_body set.body ≡ true
-  pub read : IsReadAs s false old new set (Single (block_of_values None values))
+-- a block with this reference and these values
+abbrev pub block_with : Option ℕ → List ℕ → Block
+block_with reference values = record { reference = reference; values = values }
 
--- A plain coded data set with a reference sample of this pattern is read, and the cursor moves past
--- it. `values` are those of its block, with 0 in the reference place, none of them above 2^n - 1.
-pub record IsReadFirst (s : Settings) (old new : Cursor) (pattern : ℕ) (values : List ℕ) : Type 0 where
+-- A coded data set of one block with this reference, or without one, is read, and the cursor moves
+-- past it. `values` are those of its block, with 0 in the reference place, none of them above
+-- 2^n - 1.
+pub record IsReadSingle (s : Settings) (old new : Cursor) (reference : Option ℕ) (values : List ℕ) : Type 0 where
   pub set : CodedDataSet
-  pub plain : is_plain_body set.body ≡ true
-  pub read : IsReadAs s true old new set (Single (record { reference = Some pattern; values = values }))
+  pub read : IsReadAs s (is_some reference) old new set (Single (block_with reference values))

@@ -2,8 +2,9 @@
 
 pub(crate) mod blocks;
 mod codewords;
-pub(crate) mod plain;
+pub(crate) mod pairs;
 pub(crate) mod runs;
+pub(crate) mod single_sets;
 pub(crate) mod values;
 
 ghost use Rattle.std.specs.Prelude.{◌≡◌, ◌+◌, ◌≤◌, ◌<◌, ◌^◌, true, length, IfOk, IfErr, OnErr};
@@ -14,7 +15,7 @@ ghost use Rattle.aec_bits.specs.BitReader.{has_one};
 ghost use Rattle.aec_block.specs.declared.cds.Found.TheVariants.{Single};
 ghost use Rattle.aec_block.specs.ReadAt.{map_taken, binary_at, kind_at, reference_at, body_at, cds_at};
 ghost use Rattle.aec_block.specs.Gathering.{bits_at, as_taken, as_taken_by, when, Takes};
-ghost use Rattle.aec_block.specs.ReadCds.{run_len_of, checked, checked_body, as_cds, as_read, HasShortSplit, is_plain, IsReadAs};
+ghost use Rattle.aec_block.specs.ReadCds.{run_len_of, checked, checked_body, as_cds, as_read, HasShortSplit, is_single, IsReadAs};
 ghost use Rattle.aec_params.specs.Faults.{IsNotRead};
 
 use crate::block::Block;
@@ -44,7 +45,7 @@ pub(crate) fn read_kind(params: &Params, reader: &mut BitReader) -> Result<Kind,
     requires within { reader.old.pos ≤ length reader.old.list }
     ensures taken { Takes (kind_at (id_len params.now)) reader.old (as_taken result) reader.new }
     ensures short { IfOk result HasShortSplit }
-    ensures one { IfOk result (λ kind. is_plain kind ≡ true → has_one (bits_at reader.old) ≡ true) }
+    ensures one { IfOk result (λ kind. is_single kind ≡ true → has_one (bits_at reader.old) ≡ true) }
     ensures allowed { IsAllowed params.now }
 {
     let len = params.id_len();

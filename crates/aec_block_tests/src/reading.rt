@@ -196,6 +196,55 @@ fn judges_the_members_of_pairs(rt: HostRuntime) -> Result<(), Fail> {
 }
 
 #[test]
+fn reads_pairs_with_numbers_near_64(rt: HostRuntime) -> Result<(), Fail> {
+    let params = Params::new(Settings::USUAL)?;
+    for (number, first, second) in [(63, 2, 8), (64, 1, 9), (66, 11, 0)] {
+        let pairs = one_pair(rt.alloc(), None, number)?;
+        expect_block(
+            &rt,
+            rt.alloc(),
+            &params,
+            &pairs,
+            None,
+            &[first, second, 0, 0, 0, 0, 0, 0],
+            8 + number,
+        );
+    }
+    Ok(())
+}
+
+#[test]
+fn judges_short_pairs_of_three_bits(rt: HostRuntime) -> Result<(), Fail> {
+    let params = Params::new(Settings {
+        bits: 3,
+        ..Settings::USUAL
+    })?;
+    // The pair (0, 7).
+    let greatest = one_pair(rt.alloc(), None, 35)?;
+    expect_block(
+        &rt,
+        rt.alloc(),
+        &params,
+        &greatest,
+        None,
+        &[0, 7, 0, 0, 0, 0, 0, 0],
+        43,
+    );
+    // The pair (8, 0).
+    let large = one_pair(rt.alloc(), None, 36)?;
+    expect_fault(
+        &rt,
+        rt.alloc(),
+        &params,
+        &large,
+        0,
+        false,
+        Fault::ValueTooLarge { bit: 0 },
+    );
+    Ok(())
+}
+
+#[test]
 fn reads_the_lengths_of_runs(rt: HostRuntime) -> Result<(), Fail> {
     let params = Params::new(Settings::USUAL)?;
     let lengths = [

@@ -37,7 +37,7 @@ pub mod RefusalLemmas
 pub mod WantedSetLemmas
 pub mod ReadNextLemmas
 pub mod ReadIntervalLemmas
-pub mod PlainLemmas
+pub mod SingleBlockLemmas
 pub mod ReachedPlaceLemmas
 pub mod PieceReadingLemmas
 pub mod ShortLemmas

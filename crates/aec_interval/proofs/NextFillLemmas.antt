@@ -58,25 +58,25 @@ abbrev block_of : Option ℕ → List ℕ → Block
 block_of reference values = record { reference = reference; values = values }
 
 -- a block with no reference
-next_plain : (s : Settings) (at_start : Bool) (p : ℤ) (more : List ℤ) (values : List ℕ) → HasReference s (s.preprocess && at_start) None
+next_single : (s : Settings) (at_start : Bool) (p : ℤ) (more : List ℤ) (values : List ℕ) → HasReference s (s.preprocess && at_start) None
     → mapped_after s p more ≡ values
     → next_block_at s at_start p more ≡ block_of None values
-next_plain s false p more values none mapped = ap (block_of None) mapped
-next_plain s true p more values none mapped = by_preprocess s.preprocess refl none
+next_single s false p more values none mapped = ap (block_of None) mapped
+next_single s true p more values none mapped = by_preprocess s.preprocess refl none
   where
     by_preprocess : (preprocess : Bool) → s.preprocess ≡ preprocess → HasReference s (preprocess && true) None
         → next_block_at s true p more ≡ block_of None values
     by_preprocess true is none = absurd none
     by_preprocess false is none = ap₂ block_of (reference_of-plain s more is) (mapped_values-plain s p more is ∙ mapped)
 
-pub fills_plain : (s : Settings) (old new : List ℤ) (values : List ℕ) → IsAllowed s → IsNextBlock s old (record { reference = None; values = values })
+pub fills_single : (s : Settings) (old new : List ℤ) (values : List ℕ) → IsAllowed s → IsNextBlock s old (record { reference = None; values = values })
     → Unmaps s (last_sample old) values old new → FillsNext s old new ((record { reference = None; values = values }) ∷ [])
-fills_plain s old new values allowed next unmaps blocks filled =
+fills_single s old new values allowed next unmaps blocks filled =
     subst (λ samples. FillBlocks s samples (blocks ++ (record { reference = None; values = values }) ∷ [])) (sym unmaps.appended)
     (FillBlocks-push s old unmaps.more blocks (record { reference = None; values = values }) (block_size-positive s allowed)
     (interval-positive s allowed) filled unmaps.held
     (sym (length-mapped_after s (last_sample old) unmaps.more) ∙ (ap length unmaps.mapped ∙ next.count))
-    (next_plain s (length old % interval_len s == 0) (last_sample old) unmaps.more values next.reference unmaps.mapped))
+    (next_single s (length old % interval_len s == 0) (last_sample old) unmaps.more values next.reference unmaps.mapped))
 
 -- a block that begins with a reference sample
 next_reference : (s : Settings) (at_start : Bool) (r : ℕ) (x : ℤ) (more : List ℤ) (values : List ℕ) (p : ℤ) → HasReference s (s.preprocess && at_start) (Some r)
@@ -138,14 +138,14 @@ pub values-below : (s : Settings) (b : Block) (old : List ℤ) (values : List �
     → AllByRecursion (λ v. v < 2 ^ s.bits) values
 values-below s b old values next e = subst (λ values. AllByRecursion (λ v. v < 2 ^ s.bits) values) (sym e) next.below
 
-pub fills_block_plain : (s : Settings) (old new : List ℤ) (b : Block) (p : ℤ) (values : List ℕ) → IsAllowed s → IsNextBlock s old b → b.reference ≡ None
+pub fills_block_single : (s : Settings) (old new : List ℤ) (b : Block) (p : ℤ) (values : List ℕ) → IsAllowed s → IsNextBlock s old b → b.reference ≡ None
     → p ≡ last_sample old → values ≡ b.values → Unmaps s p values old new → FillsNext s old new (b ∷ [])
-fills_block_plain s old new b p values allowed next none previous is_values unmaps =
+fills_block_single s old new b p values allowed next none previous is_values unmaps =
     by_reference b.reference none next (subst (λ q. Unmaps s q b.values old new) previous (subst (λ vs. Unmaps s p vs old new) is_values unmaps))
   where
     by_reference : (reference : Option ℕ) → reference ≡ None → IsNextBlock s old (block_of reference b.values) → Unmaps s (last_sample old) b.values old new
         → FillsNext s old new (block_of reference b.values ∷ [])
-    by_reference None e next unmaps = fills_plain s old new b.values allowed next unmaps
+    by_reference None e next unmaps = fills_single s old new b.values allowed next unmaps
     by_reference (Some q) e next unmaps = absurd (cc)
 
 pub fills_block_reference : (s : Settings) (old new : List ℤ) (b : Block) (q : ℕ) (x : ℤ) (values : List ℕ) → IsAllowed s → IsNextBlock s old b

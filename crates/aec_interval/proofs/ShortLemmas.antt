@@ -1,4 +1,4 @@
--- Whole intervals of plain blocks, of which none needs a test of its place.
+-- Whole intervals of single blocks, of which none needs a test of its place.
 use Rattle.std.proofs.Common.{◌≡◌, ℕ, ◌+◌, ◌-◌, ◌*◌, ◌/◌, ◌%◌, ◌<◌, ◌≤◌, ◌^◌, ◌==◌, ◌&&◌, Bool, true, false, if◌then◌else◌, Option, Some, None, Ok, ℤ, pos, List, [], ◌∷◌, ◌++◌, length, take, drop, ⊎_elim, refl, sym, ap, ◌∙◌, subst, arith}
 use Rattle.std.proofs.Math.Nat.{mul-le-mul_right, add-mul-mod_self_right, add-mul, div-mul-le_self, le-mul_of_pos_right}
 use Rattle.std.proofs.lemmas.Bool.{cases_lt}
@@ -16,21 +16,21 @@ use Rattle.aec_bits.specs.BitReader.{Cursor, has_one}
 use Rattle.aec_block.specs.declared.cds.RunLen.TheVariants.{Blocks}
 use Rattle.aec_block.specs.declared.cds.Cds.TheVariants.{Single}
 use Rattle.aec_block.specs.Gathering.{bits_at}
-use Rattle.aec_block.specs.ReadCds.{IsReadAs, IsReadPlain, IsReadFirst}
+use Rattle.aec_block.specs.ReadCds.{IsReadAs, IsReadSingle}
 use Rattle.aec_block.specs.Unmapping.{Unmaps}
 use Rattle.aec_interval.specs.NextBlock.{IsNextBlock, FillsNext}
 use Rattle.aec_interval.specs.NextSet.{kept_count, block_behind}
 use Rattle.aec_interval.specs.Reached.{IsReached}
 use Rattle.aec_interval.specs.Pieces.{Place, place_at, counted_from, ReadsIntervals}
 use Rattle.aec_interval.specs.Steps.{IsUntestedEnd}
-use Rattle.aec_interval.specs.PlainBlocks.{IsUntestedAt, ReadsPlain}
+use Rattle.aec_interval.specs.SingleBlocks.{IsUntestedAt, ReadsSingle}
 use Rattle.aec_interval.specs.ShortIntervals.{AreWithin, begun_at, ReadsFirst, ReadsWhole}
-use Rattle.aec_interval.proofs.NextFillLemmas.{fills_block_plain, fills_block_reference}
+use Rattle.aec_interval.proofs.NextFillLemmas.{fills_block_single, fills_block_reference}
 use Rattle.aec_interval.proofs.ReadNextLemmas.{reached-start, next-cds, reached-next}
 use Rattle.aec_interval.proofs.PlaceLemmas.{LeadsTo-append, stream_blocks-append}
 use Rattle.aec_interval.proofs.ReachedLemmas.{length-stream_blocks, kept_blocks-append, kept_blocks-wanted}
 use Rattle.aec_interval.proofs.PieceReadingLemmas.{FillBlocks-append}
-use Rattle.aec_interval.proofs.PlainLemmas.{untested-within, few_samples, wanted_here, untested-placed, untested-begins}
+use Rattle.aec_interval.proofs.SingleBlockLemmas.{untested-within, few_samples, wanted_here, untested-placed, untested-begins}
 
 -- ---- the first block of an interval
 
@@ -75,7 +75,7 @@ held-unmapped : (s : Settings) (x : ℤ) (values : List ℕ) (more : List ℤ) �
 held-unmapped s x values more unmaps = subst (AllByRecursion (IsHeld s)) (sym unmaps.appended) unmaps.held
 
 pub reads_first : (s : Settings) (old new : Cursor) (pattern : ℕ) (values : List ℕ) (x : ℤ) (more : List ℤ) → IsAllowed s → s.preprocess ≡ true
-    → IsReadFirst s old new pattern values → has_one (bits_at old) ≡ true → IsHeld s x → sample_pattern s x ≡ pattern → Unmaps s x values [] more
+    → IsReadSingle s old new (Some pattern) values → has_one (bits_at old) ≡ true → IsHeld s x → sample_pattern s x ≡ pattern → Unmaps s x values [] more
     → new.list ≡ old.list → ReadsFirst s old new more
 reads_first s old new pattern values x more allowed on read one held pattern_is unmaps same =
     reads_block s old new true block more allowed on refl (read.set, read.read) one
@@ -86,10 +86,10 @@ reads_first s old new pattern values x more allowed on read one held pattern_is 
     block = record { reference = Some pattern; values = values }
 
 pub reads_unpredicted : (s : Settings) (old new : Cursor) (values : List ℕ) (x : ℤ) (more : List ℤ) → IsAllowed s → s.preprocess ≡ false
-    → IsReadPlain s old new values → has_one (bits_at old) ≡ true → x ≡ pos 0 → Unmaps s x values [] more → new.list ≡ old.list → ReadsFirst s old new more
+    → IsReadSingle s old new None values → has_one (bits_at old) ≡ true → x ≡ pos 0 → Unmaps s x values [] more → new.list ≡ old.list → ReadsFirst s old new more
 reads_unpredicted s old new values x more allowed off read one zero unmaps same =
     reads_block s old new false (block_of_values None values) more allowed off refl (read.set, read.read) one
-    (λ next. fills_block_plain s [] more (block_of_values None values) x values allowed next refl zero refl unmaps) same
+    (λ next. fills_block_single s [] more (block_of_values None values) x values allowed next refl zero refl unmaps) same
     (held-unmapped s x values more unmaps)
 
 -- the number of filled places is the number of values
@@ -106,16 +106,16 @@ whole_end s count limit i n allowed is within =
 
 -- the first block of an interval, and the others
 pub reads_interval : (s : Settings) (rest : ℕ) (old mid new : Cursor) (first samples : List ℤ) → IsAllowed s → 1 + rest ≡ s.interval
-    → ReadsFirst s old mid first → ReadsPlain s rest mid first new samples → ReadsWhole s 1 old new samples
-reads_interval s rest old mid new first samples allowed all begun plain = record {
-  list = plain.list ∙ begun.list;
+    → ReadsFirst s old mid first → ReadsSingle s rest mid first new samples → ReadsWhole s 1 old new samples
+reads_interval s rest old mid new first samples allowed all begun rest_read = record {
+  list = rest_read.list ∙ begun.list;
   leads = λ count limit i aligned within.
       let one : i + 1 * s.interval ≡ i + s.interval = omega arith in
       let ends : IsUntestedEnd s count limit i (i + s.interval) = subst (IsUntestedEnd s count limit i) one (whole_end s count limit i _ allowed one within) in
-      let there = plain.leads (begun_at count limit i old.pos) (i + s.interval) (i + 1) (omega (arith, all)) (begun.leads count limit i aligned ends) in
+      let there = rest_read.leads (begun_at count limit i old.pos) (i + s.interval) (i + 1) (omega (arith, all)) (begun.leads count limit i aligned ends) in
       let end : i + 1 + rest ≡ i + 1 * s.interval = omega (arith, all) in
       subst (λ j. IsReached s count limit old.list i old.pos j new.pos samples) end
-      (subst (λ list. IsReached s count limit list i old.pos (i + 1 + rest) new.pos samples) (plain.list ∙ begun.list) there.reached);
+      (subst (λ list. IsReached s count limit list i old.pos (i + 1 + rest) new.pos samples) (rest_read.list ∙ begun.list) there.reached);
 }
 
 -- ---- intervals one after the other

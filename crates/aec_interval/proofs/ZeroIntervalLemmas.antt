@@ -20,7 +20,7 @@ use Rattle.aec_interval.specs.NextSet.{run_count, block_behind, kept_count, IsNe
 use Rattle.aec_interval.specs.Reached.{AreFilled, IsReached}
 use Rattle.aec_interval.specs.Steps.{IsUntestedEnd}
 use Rattle.aec_interval.specs.ShortIntervals.{ReadsWhole}
-use Rattle.aec_interval.proofs.PlainLemmas.{wanted_here}
+use Rattle.aec_interval.proofs.SingleBlockLemmas.{wanted_here}
 use Rattle.aec_interval.proofs.ReachedLemmas.{AreFilled-reached}
 use Rattle.aec_interval.proofs.ReadNextLemmas.{reached-start, next-cds, reached-next}
 use Rattle.aec_interval.proofs.ShortLemmas.{whole_end}

@@ -24,7 +24,7 @@ use Rattle.aec_block.specs.Unmapping.{Unmaps}
 use Rattle.aec_block.proofs.MappingLemmas.{mapped_value-pattern}
 use Rattle.aec_block.proofs.ListMappingLemmas.{last_or-append}
 use Rattle.aec_interval.proofs.MappedLemmas.{mapped_after-replicate}
-use Rattle.aec_interval.proofs.NextFillLemmas.{held-zero, held-last_sample, mapped_value-self, fills_plain, fills_reference, reference-below}
+use Rattle.aec_interval.proofs.NextFillLemmas.{held-zero, held-last_sample, mapped_value-self, fills_single, fills_reference, reference-below}
 
 -- the samples of i blocks end an interval exactly if i is a multiple of r
 starts_alike : (j r i : ℕ) → 0 < j → 0 < r → (i * j % (j * r) == 0) ≡ (i % r == 0)
@@ -206,7 +206,7 @@ repeats-zeros s i old None x allowed filled due is = by_preprocess s.preprocess 
 fills-one : (s : Settings) (old : List ℤ) (reference : Option ℕ) (x : ℤ) → IsAllowed s → IsNextBlock s old (zero_block s reference) → Repeats s reference old x
     → FillsNext s old (old ++ replicate s.block_size x) (zero_block s reference ∷ [])
 fills-one s old None x allowed next repeats =
-    fills_plain s old (old ++ replicate s.block_size x) (replicate s.block_size 0) allowed next
+    fills_single s old (old ++ replicate s.block_size x) (replicate s.block_size 0) allowed next
     (unmaps-zeros s (last_sample old) x s.block_size old repeats.held (repeats.begins (last_sample old) refl refl) repeats.later)
 fills-one s old (Some r) x allowed next repeats =
     fills_reference s old (old ++ replicate s.block_size x) r (replicate s.block_size 0) x allowed next repeats.held (repeats.pattern r refl)

@@ -9,7 +9,7 @@ use Rattle.aec_bits.specs.BitReader.{Cursor}
 use Rattle.aec_interval.specs.declared.reading.Wanted.{Wanted}
 use Rattle.aec_interval.specs.Reached.{IsReached}
 use Rattle.aec_interval.specs.Steps.{IsUntestedEnd}
-use Rattle.aec_interval.specs.PlainBlocks.{IsUntestedAt}
+use Rattle.aec_interval.specs.SingleBlocks.{IsUntestedAt}
 
 -- the samples of all blocks before block `last` are asked for, if a count is given, and else keep
 -- the limit; count and limit are at most 2^32, and no interval is padded

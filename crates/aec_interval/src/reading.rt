@@ -1,6 +1,6 @@
 //! Samples read from coded bits, one coded data set after another, from where an interval begins.
 
-mod plain;
+mod single_blocks;
 pub(crate) mod samples;
 pub(crate) mod short;
 pub(crate) mod skipping;
@@ -22,7 +22,7 @@ ghost use Rattle.aec_interval.specs.Pieces.{counted_from};
 ghost use Rattle.aec_interval.specs.Steps.{IsWantedNext, ComesNext, IsGoneOver};
 ghost use Rattle.aec_interval.specs.Reached.{AreFilled, IsReached, IsReadFrom, RefusesReading, RefusesUpTo};
 
-use crate::reading::plain::read_plain_blocks;
+use crate::reading::single_blocks::read_single_blocks;
 use crate::reading::samples::push_block;
 use crate::reading::zero_runs::push_zero_run;
 use crate::segment::SEGMENT_BLOCKS;
@@ -107,7 +107,7 @@ fn within_limit(params: &Params, wanted: Wanted, blocks: u64) -> bool
 }
 
 /// If the parameters pad and block `block` begins an interval, moves to the next byte boundary. The
-/// loop in `plain` needs no such call: with padding it ends before the interval's last block.
+/// loop in `single_blocks` needs no such call: with padding it ends before the interval's last block.
 pub(crate) fn skip_padding(params: &Params, reader: &mut BitReader, block: u64)
     ensures list { reader.new.list ≡ reader.old.list }
     ensures pos { reader.new.pos ≡ begin_of params.now reader.old.list block reader.old.pos }
@@ -299,7 +299,7 @@ pub(crate) fn read_interval(
     loop {
         let place = block - wanted.first;
         let behind = read_next(params, wanted, reader, block, place, values, samples)?;
-        block = read_plain_blocks(params, wanted, reader, behind, end, samples)?;
+        block = read_single_blocks(params, wanted, reader, behind, end, samples)?;
         if !goes_on(params, wanted, reader, block, end) {
             return Ok(block);
         }

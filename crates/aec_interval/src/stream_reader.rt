@@ -6,7 +6,7 @@ use crate::reading::skipping::{count_asked, skip_interval};
 use crate::reading::whole::judge_count;
 use crate::reading::{Wanted, cut_to_count, read_interval, wants_more};
 use aec_bits::{BitBuf, BitReader};
-use aec_block::{Block, is_plain_next};
+use aec_block::{Block, is_single_next};
 use aec_params::{Fault, Params};
 use std::alloc::Global;
 use std::marker::Model;
@@ -157,7 +157,7 @@ impl<'a> StreamReader<'a> {
     fn is_short_next(&mut self) -> bool
         ensures { self.new ≡ self.old }
     {
-        is_plain_next(&self.params, &mut self.reader)
+        is_single_next(&self.params, &mut self.reader)
             || is_zero_interval_next(&self.params, &mut self.reader)
     }
 

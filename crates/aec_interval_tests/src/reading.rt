@@ -70,6 +70,23 @@ fn reads_other_spellings(rt: HostRuntime) -> Result<(), Fail> {
 }
 
 #[test]
+fn reads_pairs_after_pairs(rt: HostRuntime) -> Result<(), Fail> {
+    // Two blocks of the pairs (0, 1), (1, 0), (0, 0), (1, 1), with the numbers 2, 1, 0, 4: twice
+    // 0001 001 01 1 00001. They are an interval, then the front of a longer one.
+    let samples = [0, 1, 1, 0, 0, 0, 1, 1, 0, 1, 1, 0, 0, 0, 1, 1];
+    let bytes = [0x12, 0xC2, 0x25, 0x84];
+    expect_read(&rt, rt.alloc(), unprocessed(2), &bytes, None, &samples)?;
+    expect_read(&rt, rt.alloc(), unprocessed(64), &bytes, None, &samples)?;
+    // The reference sample 5, and the mapped values 1 0 2 0 1 0 0: the pairs (0, 1), (0, 2), (0, 1),
+    // (0, 0), 0001 00000101 001 000001 001 1. Then 2 0 0 0 1 0 0 0: 0001 0001 1 01 1.
+    let samples = [5, 4, 4, 5, 5, 4, 4, 4, 5, 5, 5, 5, 4, 4, 4, 4];
+    let bytes = [0x10, 0x52, 0x09, 0x88, 0xD8];
+    let s = Settings::USUAL;
+    expect_read(&rt, rt.alloc(), s, &bytes, None, &samples)?;
+    expect_read(&rt, rt.alloc(), with_interval(64), &bytes, None, &samples)
+}
+
+#[test]
 fn skips_padding(rt: HostRuntime) -> Result<(), Fail> {
     let s = padded();
     expect_zeros(&rt, rt.alloc(), s, &[0x00, 0x04, 0x00, 0x08], None, 24)?;

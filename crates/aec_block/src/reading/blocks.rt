@@ -10,7 +10,8 @@ ghost use Rattle.aec_block.specs.Gathering.{as_taken_by, when, small_block, pair
 
 use crate::block::{Block, reference_places};
 use crate::reading::codewords::read_block_numbers;
-use crate::reading::values::{read_block_split, read_pairs};
+use crate::reading::pairs::read_pairs;
+use crate::reading::values::read_block_split;
 use aec_bits::BitReader;
 use aec_params::{Fault, Params};
 

@@ -1,16 +1,16 @@
 //! Reads values into a list. A value above the greatest that the width has is noted, and reading
 //! goes on after it.
 
-ghost use Rattle.std.specs.Prelude.{◌≡◌, ◌≤◌, ◌<◌, ◌+◌, ◌-◌, ◌*◌, ◌/◌, ◌^◌, nat_lt, if◌then◌else◌, length, slice_set};
+ghost use Rattle.std.specs.Prelude.{◌≡◌, ◌≤◌, ◌<◌, ◌+◌, ◌-◌, ◌*◌, ◌/◌, ◌^◌, length};
 ghost use Rattle.std.specs.List.{flat_map};
 ghost use Rattle.aec_params.specs.Codewords.{fs};
 ghost use Rattle.aec_bits.specs.BitReader.{AreBelow};
 ghost use Rattle.aec_block.specs.BlockShape.{most_values};
-ghost use Rattle.aec_block.specs.ReadAt.{map_taken, members_at, joined_values};
-ghost use Rattle.aec_block.specs.Gathering.{as_taken_by, when, all_below, kept_members, small_members, Takes, PutsHighs, PutsSplit};
+ghost use Rattle.aec_block.specs.ReadAt.{joined_values};
+ghost use Rattle.aec_block.specs.Gathering.{all_below, PutsHighs, PutsSplit};
 
 use crate::block::MOST_VALUES;
-use crate::reading::codewords::{pair_of, read_numbers, read_sequence};
+use crate::reading::codewords::{read_numbers, read_sequence};
 use aec_bits::BitReader;
 use aec_params::{Fault, Params};
 
@@ -36,7 +36,7 @@ pub(crate) fn high_limit(limit: u64, k: u32) -> u64
 
 /// Returns whether all values are below `limit`.
 #[inline(never)]
-fn are_below(values: &[u32], limit: u64) -> bool
+pub(crate) fn are_below(values: &[u32], limit: u64) -> bool
     requires { 0 < limit }
     ensures { result ≡ all_below limit values.now }
 {
@@ -45,59 +45,6 @@ fn are_below(values: &[u32], limit: u64) -> bool
         most = most.max(*value);
     }
     u64::from(most) < limit
-}
-
-/// Writes a value to a place if the value is below `limit`. Returns whether it is.
-fn put_value(values: &mut [u32], place: usize, value: u64, limit: u64) -> bool
-    requires place { place < length values.old }
-    requires limit { limit ≤ 2 ^ 32 }
-    ensures fits { result ≡ nat_lt value limit }
-    ensures values { values.new
-        ≡ (if nat_lt value limit then slice_set values.old place value else values.old) }
-{
-    if value >= limit {
-        return false;
-    }
-    values[place] = value as u32;
-    true
-}
-
-/// Returns what is kept of the first member of a pair: 0 in the reference place, where that member
-/// is ignored.
-fn kept_member(in_reference_place: bool, member: u64) -> u64
-    ensures { result ≡ (if in_reference_place then 0 else member) }
-{
-    if in_reference_place { 0 } else { member }
-}
-
-/// Fills `values` with the members of the next pairs. Returns whether all are at most the greatest
-/// that the width has; if not, some values are unchanged. A value in the reference place is 0,
-/// whatever number is read there.
-pub(crate) fn read_pairs(
-    params: &Params,
-    reader: &mut BitReader,
-    is_ref: bool,
-    values: &mut [u32],
-) -> Result<bool, Fault>
-    requires within { reader.old.pos ≤ length reader.old.list }
-    requires pairs { length values.old ≡ 2 * (length values.old / 2) }
-    requires some { 0 < length values.old }
-    requires placed { values.old ≡ kept_members is_ref values.old }
-    ensures taken { Takes (λ bits. map_taken (small_members (2 ^ params.now.bits) is_ref)
-        (members_at (length values.old / 2) bits)) reader.old
-        (as_taken_by (λ fit. when fit values.new) result) reader.new }
-    ensures placed { values.new ≡ kept_members is_ref values.new }
-    ensures len { length values.new ≡ length values.old }
-{
-    let limit = value_limit(params);
-    let mut fit = true;
-    for i in 0..values.len() / 2 {
-        let (first, second) = pair_of(read_sequence(reader)?);
-        let kept = kept_member(is_ref & (i == 0), first);
-        fit &= put_value(values, 2 * i, kept, limit);
-        fit &= put_value(values, 2 * i + 1, second, limit);
-    }
-    Ok(fit)
 }
 
 /// Fills `highs` with the next numbers, one by one. Returns whether all are below `limit`; if not,

@@ -1,5 +1,5 @@
-//! Reads several short intervals at a time, each of plain blocks only or one run of zero blocks, if
-//! no block needs a test of its place. `read_short` sets the greatest number, `fill_intervals`
+//! Reads several short intervals at a time, each of single blocks only or one run of zero blocks,
+//! if no block needs a test of its place. `read_short` sets the greatest number, `fill_intervals`
 //! reads while one follows, `fill_interval` reads one, `fill_first_block` its first block.
 
 ghost use Rattle.std.specs.Prelude.{◌≡◌, ◌≤◌, ◌<◌, ◌+◌, ◌-◌, ◌*◌, ◌%◌, ◌^◌, ℕ, true, false, max, length, take, replicate, vec_len, vec_capacity, IfSome};
@@ -8,15 +8,15 @@ ghost use Rattle.std.specs.List.{AllByRecursion};
 ghost use Rattle.aec_params.specs.Params.{IsHeld, interval_len};
 ghost use Rattle.aec_block.specs.BlockShape.{most_values};
 ghost use Rattle.aec_interval.specs.Reached.{IsReached};
-ghost use Rattle.aec_interval.specs.PlainBlocks.{ReadsPlain};
+ghost use Rattle.aec_interval.specs.SingleBlocks.{ReadsSingle};
 ghost use Rattle.aec_interval.specs.ShortIntervals.{AreWithin, ReadsWhole, FillsFirst, FillsInterval, FillsIntervals};
 
 use crate::block_sizes::FIRST_UNPREDICTED;
-use crate::reading::plain::fill_plain_blocks;
+use crate::reading::single_blocks::fill_single_blocks;
 use crate::reading::zero_runs::repeated_sample;
 use crate::reading::{Wanted, block_count};
 use aec_bits::BitReader;
-use aec_block::{is_plain_next, read_plain, read_plain_first, read_run, unmap_into};
+use aec_block::{is_single_next, read_run, read_single, read_single_first, unmap_into};
 use aec_params::Params;
 
 /// The greatest number of samples that are read at a time.
@@ -32,19 +32,19 @@ const MIN_PLACES: usize = 64;
 /// The kind of an interval that is one run of zero blocks.
 const ZEROS: usize = 10;
 
-/// The kind of an interval of plain blocks whose samples are predicted. It is also the number of
-/// the copy of `read_plain` for the blocks after the first.
+/// The kind of an interval of single blocks whose samples are predicted. It is also the number of
+/// the copy of `read_single` for the blocks after the first.
 const PREDICTED: usize = 11;
 
-/// The kind of an interval of plain blocks whose samples aren't predicted. It is also the number of
-/// the copy of `read_plain` for the blocks after the first.
+/// The kind of an interval of single blocks whose samples aren't predicted. It is also the number
+/// of the copy of `read_single` for the blocks after the first.
 const UNPREDICTED: usize = 12;
 
-/// Reads the next block as the first of its interval, with a reference sample, if it is plain, and
-/// writes its samples to the front of `samples`. Else returns false. `M` is the number of values
-/// after a reference sample: one less than the block size for which this is compiled.
+/// Reads the next block as the first of its interval, with a reference sample, if it is a single
+/// one, and writes its samples to the front of `samples`. Else returns false. `N` is the block size
+/// for which this is compiled, `M` the number of values after a reference sample: one less.
 #[inline(always)]
-fn fill_reference_block<const M: usize>(
+fn fill_reference_block<const N: usize, const M: usize>(
     params: &Params,
     reader: &mut BitReader,
     values: &mut [u32],
@@ -57,7 +57,7 @@ fn fill_reference_block<const M: usize>(
         samples.new }
 {
     params.known_allowed();
-    match read_plain_first::<M>(params, reader, values) {
+    match read_single_first::<N, M>(params, reader, values) {
         None => false,
         Some(pattern) => {
             let first = params.value(pattern);
@@ -83,7 +83,7 @@ fn fill_unpredicted_block<const N: usize>(
         samples.new }
 {
     params.known_allowed();
-    if !read_plain::<N, FIRST_UNPREDICTED>(params, reader, values) {
+    if !read_single::<N, FIRST_UNPREDICTED>(params, reader, values) {
         return false;
     }
     let len = values.len();
@@ -105,14 +105,14 @@ fn fill_first_block<const N: usize, const M: usize, const KIND: usize>(
         samples.new }
 {
     if params.preprocess() {
-        KIND == PREDICTED && fill_reference_block::<M>(params, reader, values, samples)
+        KIND == PREDICTED && fill_reference_block::<N, M>(params, reader, values, samples)
     } else {
         KIND == UNPREDICTED && fill_unpredicted_block::<N>(params, reader, values, samples)
     }
 }
 
-/// Reads the other blocks of an interval whose first block was read, if they are plain, and writes
-/// their samples after those of the first. Else returns false.
+/// Reads the other blocks of an interval whose first block was read, if they are single blocks, and
+/// writes their samples after those of the first. Else returns false.
 #[inline(always)]
 fn fill_rest<const N: usize, const COPY: usize>(
     params: &Params,
@@ -124,20 +124,20 @@ fn fill_rest<const N: usize, const COPY: usize>(
     requires count { length values.old ≡ params.now.block_size }
     requires held { AllByRecursion (IsHeld params.now) (take N samples.old) }
     requires len { length samples.old ≡ interval_len params.now }
-    ensures ok { result ≡ true → ReadsPlain params.now (params.now.interval - 1) reader.old
+    ensures ok { result ≡ true → ReadsSingle params.now (params.now.interval - 1) reader.old
         (take N samples.old) reader.new samples.new }
     ensures list { reader.new.list ≡ reader.old.list }
     ensures count { length values.new ≡ length values.old }
     ensures len { length samples.new ≡ length samples.old }
 {
     let rest = params.interval() as usize - 1;
-    fill_plain_blocks::<N, COPY>(params, reader, rest, values, samples, N) == rest
+    fill_single_blocks::<N, COPY>(params, reader, rest, values, samples, N) == rest
 }
 
-/// Reads the next interval, if all its blocks are plain, and writes its samples to `samples`. Else
-/// returns false, and the reader hasn't moved.
+/// Reads the next interval, if all its blocks are single ones, and writes its samples to `samples`.
+/// Else returns false, and the reader hasn't moved.
 #[inline(always)]
-fn fill_plain_interval<const N: usize, const M: usize, const KIND: usize>(
+fn fill_single_interval<const N: usize, const M: usize, const KIND: usize>(
     params: &Params,
     reader: &mut BitReader,
     values: &mut [u32],
@@ -226,7 +226,7 @@ fn fill_interval<const N: usize, const M: usize, const KIND: usize>(
     if KIND == ZEROS {
         return fill_zero_interval(params, reader, samples);
     }
-    fill_plain_interval::<N, M, KIND>(params, reader, values, samples)
+    fill_single_interval::<N, M, KIND>(params, reader, values, samples)
 }
 
 /// Reads the next intervals while `fill_interval` reads them, at most `most`, and writes their
@@ -281,7 +281,7 @@ fn fill_usual_intervals<const KIND: usize>(
     }
 }
 
-/// `fill_usual_intervals` for plain blocks if such a block comes next, else for zero blocks.
+/// `fill_usual_intervals` for single blocks if such a block comes next, else for zero blocks.
 fn fill_next_intervals(
     params: &Params,
     reader: &mut BitReader,
@@ -292,7 +292,7 @@ fn fill_next_intervals(
     requires room { most * interval_len params.now ≤ length samples.old }
     ensures { FillsIntervals params.now most reader.old samples.old result reader.new samples.new }
 {
-    if !is_plain_next(params, reader) {
+    if !is_single_next(params, reader) {
         return fill_usual_intervals::<ZEROS>(params, reader, most, samples);
     }
     if params.preprocess() {

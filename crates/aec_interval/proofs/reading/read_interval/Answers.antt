@@ -1,7 +1,7 @@
 use Rattle.std.proofs.Common.{rules, ap, refl, sym, ◌∙◌, arith, length, vec_len, vec_capacity}
 use Rattle.aec_interval.specs.Reached.{RefusesUpTo}
 use Rattle.aec_interval.proofs.ReadNextLemmas.{reached-start}
-use Rattle.aec_interval.proofs.ReadIntervalLemmas.{place, inside-begun, no_room-refuses, no_room-plain, by_its_end, by_block_end, comes-further, len-further, gone-over, len-within}
+use Rattle.aec_interval.proofs.ReadIntervalLemmas.{place, inside-begun, no_room-refuses, no_room-single, by_its_end, by_block_end, comes-further, len-further, gone-over, len-within}
 use Rattle.aec_interval.proofs.RefusalLemmas.{of_refusal}
 use Rattle.aec_interval.proofs.reading.read_interval.Goals as goal
 
@@ -30,48 +30,48 @@ pub returns-in_err-block-clause-refuses : goal.returns-in_err-block-clause-refus
 returns-in_err-block-clause-refuses c =
     by_block_end _ _ _ _ _ _ _ _ c.loop-behind.invariant.inside
     (λ bits end fault. RefusesUpTo c.args.params.now c.args.wanted.count c.args.wanted.limit bits c.args.wanted.first c.args.wanted.start end fault)
-    _ _ _ (c.read_plain_blocks.ensures.list ∙ (c.read_next.ensures.list ∙ c.loop-behind.invariant.list)) c.from_residual-in_err-block.ensures.1
+    _ _ _ (c.read_single_blocks.ensures.list ∙ (c.read_next.ensures.list ∙ c.loop-behind.invariant.list)) c.from_residual-in_err-block.ensures.1
     c.in_err-block.ensures.refuses
 
 pub returns-in_err-block-clause-full : goal.returns-in_err-block-clause-full
 returns-in_err-block-clause-full c =
     of_refusal _ _ _ c.from_residual-in_err-block.ensures.1
-    (λ memory. no_room-plain _ _ _ _ _ _ _ _ c.loop-behind.invariant.inside c.in_ok-behind.behind (vec_len c.loop-behind.samples)
+    (λ memory. no_room-single _ _ _ _ _ _ _ _ c.loop-behind.invariant.inside c.in_ok-behind.behind (vec_len c.loop-behind.samples)
     (vec_len c.read_next.new.samples) (vec_capacity c.read_next.new.samples) (vec_capacity c.args.samples.now) c.in_ok-behind.ensures.next
     c.loop-behind.invariant.len c.in_ok-behind.ensures.len (omega (arith, c.loop-behind.invariant.capacity, c.read_next.ensures.capacity))
     c.in_err-block.ensures.full)
 
 pub returns-then-not-goes_on-clause-over : goal.returns-then-not-goes_on-clause-over
 returns-then-not-goes_on-clause-over c =
-    let plain = c.in_ok-block.ensures in
+    let single = c.in_ok-block.ensures in
     gone-over _ _ _ _ _ _ _ _ c.loop-behind.invariant.inside _
-    (comes-further _ _ _ _ _ _ _ _ c.loop-behind.invariant.inside _ _ c.in_ok-behind.ensures.next plain.forward plain.within
-    (plain.few c.in_ok-behind.ensures.next.few)) _ _
+    (comes-further _ _ _ _ _ _ _ _ c.loop-behind.invariant.inside _ _ c.in_ok-behind.ensures.next single.forward single.within
+    (single.few c.in_ok-behind.ensures.next.few)) _ _
     (sym c.goes_on.ensures ∙ c.if-not-goes_on.true)
 
 pub returns-then-not-goes_on-clause-len : goal.returns-then-not-goes_on-clause-len
 returns-then-not-goes_on-clause-len c =
-    let plain = c.in_ok-block.ensures in
+    let single = c.in_ok-block.ensures in
     let inside = c.loop-behind.invariant.inside in
     let next = c.in_ok-behind.ensures.next in
-    (len-within _ _ _ _ _ _ _ _ inside _ (comes-further _ _ _ _ _ _ _ _ inside _ _ next plain.forward plain.within (plain.few next.few))
+    (len-within _ _ _ _ _ _ _ _ inside _ (comes-further _ _ _ _ _ _ _ _ inside _ _ next single.forward single.within (single.few next.few))
     (vec_len c.loop-behind.samples) _ c.loop-behind.invariant.len
-    (len-further _ _ _ _ _ _ _ _ inside _ _ next plain.forward plain.within _ _ _ c.in_ok-behind.ensures.len plain.len)).1
+    (len-further _ _ _ _ _ _ _ _ inside _ _ next single.forward single.within _ _ _ c.in_ok-behind.ensures.len single.len)).1
 
 pub read_next-requires-clause-place : goal.read_next-requires-clause-place
 read_next-requires-clause-place c = sym (place _ _ _ _ _ _ _ _ c.loop-behind.invariant.inside)
 
 pub loop-behind-preserved : goal.loop-behind-preserved
 loop-behind-preserved c =
-    let plain = c.in_ok-block.ensures in
+    let single = c.in_ok-block.ensures in
     let inside = c.loop-behind.invariant.inside in
     let next = c.in_ok-behind.ensures.next in
     record {
       reached = search rules;
       list = search rules;
       inside = search rules;
-      len = (len-within _ _ _ _ _ _ _ _ inside _ (comes-further _ _ _ _ _ _ _ _ inside _ _ next plain.forward plain.within (plain.few next.few))
+      len = (len-within _ _ _ _ _ _ _ _ inside _ (comes-further _ _ _ _ _ _ _ _ inside _ _ next single.forward single.within (single.few next.few))
           (vec_len c.loop-behind.samples) _ c.loop-behind.invariant.len
-          (len-further _ _ _ _ _ _ _ _ inside _ _ next plain.forward plain.within _ _ _ c.in_ok-behind.ensures.len plain.len)).0;
+          (len-further _ _ _ _ _ _ _ _ inside _ _ next single.forward single.within _ _ _ c.in_ok-behind.ensures.len single.len)).0;
       capacity = omega arith;
     }

@@ -4,7 +4,7 @@ use Rattle.aec_block.specs.declared.cds.Cds.TheVariants.{Zeros}
 use Rattle.aec_block.specs.ReadAt.{taken, map_taken, cds_at}
 use Rattle.aec_block.specs.Gathering.{bits_at}
 use Rattle.aec_block.specs.ReadCds.{checked}
-use Rattle.aec_block.proofs.PlainLemmas.{of_some}
+use Rattle.aec_block.proofs.SingleLemmas.{of_some}
 use Rattle.aec_block.proofs.ReadRunLemmas.{run-has_one, no_run-stands}
 use Rattle.aec_block.proofs.StandingLemmas.{read_as}
 use Rattle.aec_block.proofs.reading.runs.read_run.Goals as goal

@@ -2,7 +2,7 @@ use Rattle.std.proofs.Common.{rules, w64, FitsSigned, ap, sym, subst, ◌∙◌,
 use Rattle.std.proofs.lemmas.Int.{to_z-of_z}
 use Rattle.aec_params.specs.Params.{IsHeld, sample_pattern}
 use Rattle.aec_interval.specs.NextBlock.{last_sample}
-use Rattle.aec_interval.proofs.NextFillLemmas.{held-last_sample, values-below, fills_block_plain, fills_block_reference}
+use Rattle.aec_interval.proofs.NextFillLemmas.{held-last_sample, values-below, fills_block_single, fills_block_reference}
 use Rattle.aec_interval.proofs.reading.samples.push_block.Goals as goal
 
 pub push_unmapped-requires-clause-prediction : goal.push_unmapped-requires-clause-prediction
@@ -19,7 +19,7 @@ push_unmapped-requires-clause-mapped c =
 pub returns-in-None-clause-items : goal.returns-in-None-clause-items
 returns-in-None-clause-items c =
     let fits : FitsSigned w64 c.previous_of-previous.result = search (rules, c.previous_of-previous.type_inv) in
-    fills_block_plain c.args.params.now c.args.samples.now.items c.push_unmapped.new.samples.items c.args.block.now
+    fills_block_single c.args.params.now c.args.samples.now.items c.push_unmapped.new.samples.items c.args.block.now
     (to_z w64 (of_z w64 c.previous_of-previous.result)) c.values.result.now c.requires.allowed c.requires.next (sym c.in-None.ensures.value)
     (to_z-of_z w64 c.previous_of-previous.result fits ∙ (c.previous_of-previous.ensures ∙ ap last_sample c.deref.ensures.value)) c.values.ensures.value
     c.push_unmapped.ensures.items

@@ -11,13 +11,13 @@ unmap_into-requires-clause-prediction g c = held-zero c.args.params.now c.known_
 pub returns : goal.returns
 returns g c =
     let s = c.args.params.now in
-    let len = filled_places c.unmap_into.new.samples c.args.samples.now (length c.read_plain.new.values) s.block_size c.unmap_into.ensures.len
-    (c.read_plain.ensures.len ∙ c.requires.count) c.requires.room in
+    let len = filled_places c.unmap_into.new.samples c.args.samples.now (length c.read_single.new.values) s.block_size c.unmap_into.ensures.len
+    (c.read_single.ensures.len ∙ c.requires.count) c.requires.room in
     record {
-      ok = λ read. subst (ReadsFirst s c.args.reader.now c.read_plain.new.reader) (sym (take_at c.unmap_into.new.samples _ s.block_size len))
-          (reads_unpredicted s c.args.reader.now c.read_plain.new.reader c.read_plain.new.values _ c.unmap_into.new.samples
-          c.known_allowed.ensures c.requires.off (c.if-not-read_plain.ensures.read refl) (c.if-not-read_plain.ensures.one refl) refl
-          c.unmap_into.ensures.items c.read_plain.ensures.list);
+      ok = λ read. subst (ReadsFirst s c.args.reader.now c.read_single.new.reader) (sym (take_at c.unmap_into.new.samples _ s.block_size len))
+          (reads_unpredicted s c.args.reader.now c.read_single.new.reader c.read_single.new.values _ c.unmap_into.new.samples
+          c.known_allowed.ensures c.requires.off (c.if-not-read_single.ensures.read refl) (c.if-not-read_single.ensures.one refl) refl
+          c.unmap_into.ensures.items c.read_single.ensures.list);
       list = search rules;
       count = search rules;
       len = search rules;

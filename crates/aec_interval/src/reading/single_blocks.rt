@@ -1,0 +1,205 @@
+//! Reads single blocks (each with a coded data set of its own) without a reference sample, one after
+//! the other, if none needs a test of its place. `read_single_blocks` sets how many blocks, makes
+//! their places and keeps the filled ones; `fill_single_blocks` reads while the next is a single
+//! block.
+
+ghost use Rattle.std.specs.Prelude.{◌≡◌, ◌≤◌, ◌<◌, ◌+◌, ◌-◌, ◌*◌, ◌%◌, ◌^◌, true, false, max, length, take, vec_len, vec_capacity, IfSome, IfOk, IfErr, OnErr};
+ghost use Rattle.std.specs.List.{AllByRecursion};
+ghost use Rattle.aec_params.specs.Params.{IsAllowed, IsHeld};
+ghost use Rattle.aec_block.specs.BlockShape.{most_values};
+ghost use Rattle.aec_interval.specs.Reached.{IsReached, RefusesUpTo};
+ghost use Rattle.aec_interval.specs.Steps.{IsUntestedEnd};
+ghost use Rattle.aec_interval.specs.SingleBlocks.{FillsBlocks};
+
+use crate::block_sizes::{IN_LONG_INTERVALS, by_block_size};
+use crate::reading::Wanted;
+use crate::segment::previous_of;
+use aec_bits::BitReader;
+use aec_block::{MOST_VALUES, is_single_next, read_single, unmap_into};
+use aec_params::{Fault, Params};
+
+/// Room is made for this many blocks at first, since often no more single blocks follow.
+const BLOCKS_AT_FIRST: usize = 2;
+
+/// Then room is made for the blocks of about this many more samples. Places are cleared before they
+/// are filled, so unused places waste time.
+const MORE_SAMPLES: usize = 120;
+
+/// Zeros that clear the places of the next samples. `BLOCKS_AT_FIRST` blocks and `MORE_SAMPLES`
+/// samples have fewer places.
+static ZEROS: [i64; 256] = [0; 256];
+
+/// Returns a block before which no block of the interval that ends at block `end` needs a test of
+/// its place: each keeps the limit and is needed, and no padding follows it.
+fn untested_end(params: &Params, wanted: Wanted, end: u64) -> u64
+    requires limit { wanted.limit ≤ 2 ^ 32 }
+    requires counted { IfSome wanted.count (λ count. count ≤ 2 ^ 32) }
+    requires end { end ≡ wanted.first + params.now.interval }
+    ensures { IsUntestedEnd params.now wanted.count wanted.limit wanted.first result }
+{
+    let size = u64::from(params.block_size());
+    let samples = wanted.count.unwrap_or(wanted.limit);
+    let unpadded = end - u64::from(params.pad());
+    // In most intervals all blocks are within. This test needs no division.
+    if unpadded.saturating_mul(size) <= samples {
+        return unpadded;
+    }
+    unpadded.min(samples / size)
+}
+
+/// Reads the next single blocks, at most `most`, each into `values`, and writes their samples after
+/// the first `from` samples. Returns how many blocks it read. Each `COPY` has one caller for each
+/// `N`.
+#[inline(always)]
+pub(crate) fn fill_single_blocks<const N: usize, const COPY: usize>(
+    params: &Params,
+    reader: &mut BitReader,
+    most: usize,
+    values: &mut [u32],
+    samples: &mut [i64],
+    from: usize,
+) -> usize
+    requires held { AllByRecursion (IsHeld params.now) (take from samples.old) }
+    requires count { length values.old ≡ params.now.block_size }
+    requires room { from + most * params.now.block_size ≤ length samples.old }
+    ensures fills { FillsBlocks params.now most from reader.old samples.old result reader.new
+        samples.new }
+    ensures count { length values.new ≡ length values.old }
+{
+    params.known_allowed();
+    let mut count = 0;
+    let mut at = from;
+    while count < most {
+        if !read_single::<N, COPY>(params, reader, values) {
+            return count;
+        }
+        let previous = previous_of(&samples[..at]);
+        let end = at + values.len();
+        unmap_into(params, previous, values, &mut samples[at..end]);
+        count += 1;
+        at = end;
+    }
+    count
+}
+
+/// `fill_single_blocks` for blocks of `N` samples, out of line.
+#[inline(never)]
+fn fill_known_blocks<const N: usize>(
+    params: &Params,
+    reader: &mut BitReader,
+    most: usize,
+    samples: &mut [i64],
+    from: usize,
+) -> usize
+    requires held { AllByRecursion (IsHeld params.now) (take from samples.old) }
+    requires size { N ≡ params.now.block_size }
+    requires small { N ≤ most_values }
+    requires room { from + most * params.now.block_size ≤ length samples.old }
+    ensures { FillsBlocks params.now most from reader.old samples.old result reader.new
+        samples.new }
+{
+    // A copy that no other call can see stays in registers.
+    let own = *params;
+    let mut values = [0u32; N];
+    fill_single_blocks::<N, IN_LONG_INTERVALS>(&own, reader, most, &mut values, samples, from)
+}
+
+/// `fill_single_blocks` for blocks of any size, out of line.
+#[inline(never)]
+fn fill_any_blocks(
+    params: &Params,
+    reader: &mut BitReader,
+    most: usize,
+    samples: &mut [i64],
+    from: usize,
+) -> usize
+    requires held { AllByRecursion (IsHeld params.now) (take from samples.old) }
+    requires room { from + most * params.now.block_size ≤ length samples.old }
+    ensures { FillsBlocks params.now most from reader.old samples.old result reader.new
+        samples.new }
+{
+    // A copy that no other call can see stays in registers.
+    let own = *params;
+    let mut scratch = [0u32; MOST_VALUES];
+    let values = &mut scratch[..own.block_size() as usize];
+    fill_single_blocks::<0, IN_LONG_INTERVALS>(&own, reader, most, values, samples, from)
+}
+
+/// `fill_single_blocks`, with code of its own for each usual block size.
+fn fill_usual_blocks(
+    params: &Params,
+    reader: &mut BitReader,
+    most: usize,
+    samples: &mut [i64],
+    from: usize,
+) -> usize
+    requires held { AllByRecursion (IsHeld params.now) (take from samples.old) }
+    requires room { from + most * params.now.block_size ≤ length samples.old }
+    ensures { FillsBlocks params.now most from reader.old samples.old result reader.new
+        samples.new }
+{
+    by_block_size!(
+        params.block_size(),
+        [8 10 12 14 16 18 20 22 24 26 28 30 32 64],
+        fill_known_blocks(params, reader, most, samples, from),
+        fill_any_blocks(params, reader, most, samples, from)
+    )
+}
+
+/// Reads the next single blocks, before block `end`, where the interval ends, and appends their
+/// samples. Returns the number of the next block. Fails with `Memory` only if there was no room for
+/// the samples that the interval has left.
+#[inline(never)]
+pub(crate) fn read_single_blocks(
+    params: &Params,
+    wanted: Wanted,
+    reader: &mut BitReader,
+    block: u64,
+    end: u64,
+    samples: &mut Vec<i64>,
+) -> Result<u64, Fault>
+    requires reached { IsReached params.now wanted.count wanted.limit reader.old.list wanted.first
+        wanted.start block reader.old.pos samples.old.items }
+    requires limit { wanted.limit ≤ 2 ^ 32 }
+    requires counted { IfSome wanted.count (λ count. count ≤ 2 ^ 32) }
+    requires end { end ≡ wanted.first + params.now.interval }
+    requires aligned { wanted.first % params.now.interval ≡ 0 }
+    requires after { wanted.first < block }
+    ensures reached { IfOk result (λ next. IsReached params.now wanted.count wanted.limit
+        reader.new.list wanted.first wanted.start next reader.new.pos samples.new.items) }
+    ensures forward { IfOk result (λ next. block ≤ next) }
+    ensures within { IfOk result (λ next. next ≤ max block end) }
+    ensures few { IfOk result (λ next. block < 2 ^ 34 → next < 2 ^ 34) }
+    ensures refuses { IfErr result (λ fault. RefusesUpTo params.now wanted.count wanted.limit
+        reader.new.list wanted.first wanted.start end fault) }
+    ensures list { reader.new.list ≡ reader.old.list }
+    ensures len { IfOk result (λ next. vec_len samples.new
+        ≤ vec_len samples.old + (next - block) * params.now.block_size) }
+    ensures capacity { vec_capacity samples.old ≤ vec_capacity samples.new }
+    ensures full { OnErr result
+        (vec_capacity samples.old
+        < vec_len samples.old + (end - block) * params.now.block_size) }
+{
+    let size = params.block_size() as usize;
+    let last = untested_end(params, wanted, end);
+    let mut at_once = BLOCKS_AT_FIRST;
+    let mut next = block;
+    while next < last {
+        if !is_single_next(params, reader) {
+            return Ok(next);
+        }
+        let asked = at_once.min((last - next) as usize);
+        let from = samples.len();
+        let places = &ZEROS[..asked * size];
+        samples.extend_from_slice(places)?;
+        let all = samples.as_mut_slice();
+        let read = fill_usual_blocks(params, reader, asked, all, from);
+        samples.truncate(from + read * size);
+        next += read as u64;
+        if read < asked {
+            return Ok(next);
+        }
+        at_once = BLOCKS_AT_FIRST + MORE_SAMPLES / size;
+    }
+    Ok(next)
+}
