@@ -34,11 +34,11 @@ MOST = {
     "docs/FORMAT.md": 3800,
     "docs/LIBRARY.md": 1200,
     "docs/PACKAGING.md": 400,
-    "docs/PROOFS.md": 12500,
+    "docs/PROOFS.md": 6000,
     "docs/RECIPES.md": 1600,
     "docs/SPEED.md": 1500,
 }
-ALL = 40500
+ALL = 34500
 FOLDERS = ("*.md", "docs/*.md", "examples/*.md", "crates/*/README.md", "bench/steps.md")
 ALONE = ("python/README.md", "rust/*/README.md")
 RUN = 8

@@ -19,7 +19,6 @@ PLACES = [
     ("crates/aec_cli/src/words.rt", 'const VERSION: &str = "POINTS";'),
     ("crates/aec_tests/src/words.rt", 'b"aec POINTS\\n"'),
     ("crates/aec_c/src/exports.rt", "aecp_version() -> u32\n    ensures { result ≡ NUMBER }\n{\n    NUMBER\n}"),
-    ("docs/PROOFS.md", "The version is NUMBER, that of POINTS."),
     ("include/aecp.h", "The version of this header, POINTS:"),
     ("include/aecp.h", "#define AECP_VERSION NUMBER\n"),
     ("python/aecp/__init__.py", '__version__ = "POINTS"\n'),
