@@ -12,7 +12,8 @@ use Rattle.aec_block.specs.Gathering.{bits_at, all_below, when, members_of_numbe
 use Rattle.aec_block.proofs.CodewordLemmas.{fs_at-fs}
 use Rattle.aec_block.proofs.PairLemmas.{triangle, triangle_number}
 
--- the members of `count` pairs, each pair's in a list of its own, from the pair with the number `first` on
+-- the members of `count` pairs from the pair with the number `first` on, each pair's in a list of
+-- its own
 abbrev pub rows_from : ℕ → ℕ → List (List ℕ)
 rows_from first zero = []
 rows_from first (suc count) = before_members (pair_with_number first) [] ∷ rows_from (suc first) count
@@ -64,19 +65,15 @@ kept_small false values small = small
 kept_small true [] small = (omega arith, small)
 kept_small true (v ∷ values) small = (omega arith, small.1)
 
-pub kept-twice : (placed : Bool) (values : List ℕ) → kept_members placed values ≡ kept_members placed (kept_members placed values)
-kept-twice true values = refl
-kept-twice false values = refl
-
 pub small-below : (limit : ℕ) (values : List ℕ) → 10 < limit → AreBelow 11 values → all_below limit values ≡ true
 small-below limit [] past small = refl
 small-below limit (v ∷ values) past small =
     rw (lt-ltb v limit (omega (arith, small.0)), small-below limit values past small.1) refl
 
--- ---- the members put in place
+-- ---- the members written to their places
 
--- after the members of one more pair were put in place
-pub pairs_put : (numbers before : List ℕ) (i m : ℕ) → 2 * i + 1 < length before → i < length numbers → m ≡ slice_index_or numbers i 0
+-- after the members of one more pair were written
+pairs_put : (numbers before : List ℕ) (i m : ℕ) → 2 * i + 1 < length before → i < length numbers → m ≡ slice_index_or numbers i 0
     → take (2 * i) before ≡ members_of_numbers (take i numbers)
     → take (2 * (i + 1)) (set (set before (2 * i) (pair_with_number m).first) (2 * i + 1) (pair_with_number m).second)
     ≡ members_of_numbers (take (i + 1) numbers)
@@ -115,11 +112,6 @@ pub pairs_read : (limit : ℕ) (placed : Bool) (old new : Cursor) (numbers membe
 pairs_read limit placed old new numbers members values n fit bits same count put kept test =
     rw (same, ← count, test, kept, put) (ap (λ l. map_taken (small_members limit placed) (members_at (length numbers) l)) bits
     ∙ ap (map_taken (small_members limit placed)) (members_taken numbers (drop new.pos old.list)))
-
-pub length-kept : (placed : Bool) (values : List ℕ) → 0 < length values → length (kept_members placed values) ≡ length values
-length-kept false values some = refl
-length-kept true [] some = absurd (omega arith)
-length-kept true (v ∷ values) some = refl
 
 pub length-members : (numbers : List ℕ) → length (members_of_numbers numbers) ≡ 2 * length numbers
 length-members [] = refl

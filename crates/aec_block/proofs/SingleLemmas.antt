@@ -1,5 +1,5 @@
 -- A coded data set of one block, read part by part.
-use Rattle.std.proofs.Common.{◌≡◌, ℕ, ◌/◌, ◌<◌, ◌^◌, Bool, true, Option, Some, None, Result, Ok, Err, IfSome, List, [], ◌∷◌, ◌++◌, ◌-◌, length, take, drop, append-nil, refl, sym, ap, ◌∙◌, subst, arith}
+use Rattle.std.proofs.Common.{◌≡◌, ℕ, ◌/◌, ◌<◌, ◌≤◌, ◌^◌, Bool, true, Option, Some, None, Result, Ok, Err, IfSome, List, [], ◌∷◌, ◌++◌, ◌-◌, length, take, drop, append-nil, refl, sym, ap, ◌∙◌, subst, arith}
 use Rattle.std.specs.Option.{is_some}
 use Rattle.std.specs.Prelude.{option_map}
 use Rattle.std.specs.List.{AllByRecursion}
@@ -8,7 +8,7 @@ use Rattle.std.proofs.lemmas.List.{drop_all, length-drop, length-take-le}
 use borrow.Rule.Slice.PartMut.{put_mid}
 use Rattle.aec_params.specs.declared.settings.Settings.{Settings}
 use Rattle.aec_params.specs.declared.fault.Fault.{Fault}
-use Rattle.aec_params.specs.Params.{id_len}
+use Rattle.aec_params.specs.Params.{IsAllowed, id_len}
 use Rattle.aec_params.specs.Blocks.{Block}
 use Rattle.aec_params.specs.Places.{block_of_values, block_of_members}
 use Rattle.aec_params.specs.CodedDataSets.{Body, uncompressed_values, value_pairs, split_values, zero_blocks, written_count, judged_in, has_small_values}
@@ -18,11 +18,12 @@ use Rattle.aec_block.specs.declared.cds.Cds.TheVariants.{Single, Zeros}
 use Rattle.aec_block.specs.declared.reading.Kind.{Kind}
 use Rattle.aec_block.specs.declared.reading.Kind.TheVariants.{SecondExtension, Split, NoCompression}
 use Rattle.aec_block.specs.ReadAt.{Taken, nothing, taken, then_at, map_taken, binary_at, values_at, split_at, members_at, kind_at, body_at, cds_at, set_of, reference_at, set_after_reference, set_after_kind}
-use Rattle.aec_block.specs.Gathering.{when, all_below, small_values, small_members, as_taken_by}
+use Rattle.aec_block.specs.Gathering.{bits_at, when, all_below, small_values, small_members, as_taken_by}
 use Rattle.aec_block.specs.ReadCds.{cds_of, checked, checked_body, block_with, IsReadSingle}
 use Rattle.aec_block.proofs.FillingLemmas.{map_taken-as, map_taken-twice, option_map-when, uncompressed_filled, split_filled, pairs_filled}
 use Rattle.aec_block.proofs.JoiningLemmas.{below-from_test}
 use Rattle.aec_block.proofs.ReadCdsLemmas.{plain_body}
+use Rattle.aec_block.proofs.StandingLemmas.{read_as}
 
 map_taken-map_taken : {X Y Z : Type 0} (g : X → Y) (f : Y → Z) (t : Taken X) → map_taken f (map_taken g t) ≡ map_taken (λ x. f (g x)) t
 map_taken-map_taken g f nothing = refl
@@ -89,6 +90,14 @@ pairs_body s reference kind n after rest values result is_kind count read =
     ∙ as_single (λ members. all_below (2 ^ s.bits) (judged_in reference (value_pairs members))) (block_of_members reference) t block result rest
     (pairs_filled reference (is_some reference) (2 ^ s.bits) (s.block_size / 2) (n / 2) after rest values block result
     (pow_pos s.bits) refl (ap (λ m. m / 2) count) refl read))
+
+pub single_read : (s : Settings) (reference : Option ℕ) (old new : Cursor) (values : List ℕ) → IsAllowed s → old.pos ≤ length old.list
+    → new.pos ≤ length new.list → new.list ≡ old.list
+    → map_taken (checked s) (cds_at s (is_some reference) (bits_at old)) ≡ taken (Some (Single (block_with reference values))) (bits_at new)
+    → IsReadSingle s old new reference values
+single_read s reference old new values allowed inside_old inside_new same there =
+    let read = read_as s (is_some reference) old new (Single (block_with reference values)) allowed inside_old inside_new same there in
+    record { set = read.0; read = read.1 }
 
 -- ---- the values
 

@@ -45,7 +45,8 @@ pub(crate) fn read_kind(params: &Params, reader: &mut BitReader) -> Result<Kind,
     requires within { reader.old.pos ≤ length reader.old.list }
     ensures taken { Takes (kind_at (id_len params.now)) reader.old (as_taken result) reader.new }
     ensures short { IfOk result HasShortSplit }
-    ensures one { IfOk result (λ kind. is_single kind ≡ true → has_one (bits_at reader.old) ≡ true) }
+    ensures one { IfOk result
+        (λ kind. is_single kind ≡ true → has_one (bits_at reader.old) ≡ true) }
     ensures allowed { IsAllowed params.now }
 {
     let len = params.id_len();

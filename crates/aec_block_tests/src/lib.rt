@@ -6,6 +6,8 @@ mod asserts;
 #[cfg(test)]
 mod choices;
 #[cfg(test)]
+mod pairs;
+#[cfg(test)]
 mod reading;
 #[cfg(test)]
 mod runs;

@@ -91,8 +91,8 @@ module _ (s : Settings) (count : Option ℕ) (limit : ℕ) (bits : List Bool) (f
         both_parts (behind - i) (next - behind) (next - i) s.block_size (omega (arith, to.forward, after)) in
         omega (arith, both, few, more)
 
-  -- a capacity too small for the single blocks up to the end of an interval is too small for a whole
-  -- interval
+  -- a capacity too small for the single blocks up to the end of an interval is too small for a
+  -- whole interval
   pub no_room-single : (behind here len capacity before : ℕ) → ComesNext s i behind → here ≤ (i - first) * s.block_size
       → len ≤ here + (behind - i) * s.block_size → before ≤ capacity → capacity < len + (end - behind) * s.block_size → before < interval_len s
   no_room-single behind here len capacity before to few more grown full =

@@ -86,7 +86,8 @@ reads_first s old new pattern values x more allowed on read one held pattern_is 
     block = record { reference = Some pattern; values = values }
 
 pub reads_unpredicted : (s : Settings) (old new : Cursor) (values : List ℕ) (x : ℤ) (more : List ℤ) → IsAllowed s → s.preprocess ≡ false
-    → IsReadSingle s old new None values → has_one (bits_at old) ≡ true → x ≡ pos 0 → Unmaps s x values [] more → new.list ≡ old.list → ReadsFirst s old new more
+    → IsReadSingle s old new None values → has_one (bits_at old) ≡ true → x ≡ pos 0 → Unmaps s x values [] more → new.list ≡ old.list
+    → ReadsFirst s old new more
 reads_unpredicted s old new values x more allowed off read one zero unmaps same =
     reads_block s old new false (block_of_values None values) more allowed off refl (read.set, read.read) one
     (λ next. fills_block_single s [] more (block_of_values None values) x values allowed next refl zero refl unmaps) same

@@ -1,7 +1,7 @@
 -- For proofs alone: no public contract cites this file.
 -- What the steps of a reading need and how far they come, whether they make samples or skip them:
--- for the private functions of `reading`, `reading::single_blocks` and `reading::skipping`. The contract of
--- `decode_all` cites `IsReading` and `IsFault` instead.
+-- for the private functions of `reading`, `reading::single_blocks` and `reading::skipping`. The
+-- contract of `decode_all` cites `IsReading` and `IsFault` instead.
 use Rattle.std.specs.Prelude.{◌≡◌, ◌<◌, ◌≤◌, ◌+◌, ◌%◌, ◌^◌, ℕ, Bool, true, Option, IfSome, List}
 use Rattle.std.specs.Int.{div_ceil}
 use Rattle.aec_params.specs.declared.settings.Settings.{Settings}

@@ -107,7 +107,8 @@ fn within_limit(params: &Params, wanted: Wanted, blocks: u64) -> bool
 }
 
 /// If the parameters pad and block `block` begins an interval, moves to the next byte boundary. The
-/// loop in `single_blocks` needs no such call: with padding it ends before the interval's last block.
+/// loop in `single_blocks` needs no such call: with padding it ends before the interval's last
+/// block.
 pub(crate) fn skip_padding(params: &Params, reader: &mut BitReader, block: u64)
     ensures list { reader.new.list ≡ reader.old.list }
     ensures pos { reader.new.pos ≡ begin_of params.now reader.old.list block reader.old.pos }

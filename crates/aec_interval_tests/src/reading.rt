@@ -77,8 +77,8 @@ fn reads_pairs_after_pairs(rt: HostRuntime) -> Result<(), Fail> {
     let bytes = [0x12, 0xC2, 0x25, 0x84];
     expect_read(&rt, rt.alloc(), unprocessed(2), &bytes, None, &samples)?;
     expect_read(&rt, rt.alloc(), unprocessed(64), &bytes, None, &samples)?;
-    // The reference sample 5, and the mapped values 1 0 2 0 1 0 0: the pairs (0, 1), (0, 2), (0, 1),
-    // (0, 0), 0001 00000101 001 000001 001 1. Then 2 0 0 0 1 0 0 0: 0001 0001 1 01 1.
+    // The reference sample 5, and the mapped values 1 0 2 0 1 0 0: the pairs (0, 1), (0, 2),
+    // (0, 1), (0, 0), 0001 00000101 001 000001 001 1. Then 2 0 0 0 1 0 0 0: 0001 0001 1 01 1.
     let samples = [5, 4, 4, 5, 5, 4, 4, 4, 5, 5, 5, 5, 4, 4, 4, 4];
     let bytes = [0x10, 0x52, 0x09, 0x88, 0xD8];
     let s = Settings::USUAL;

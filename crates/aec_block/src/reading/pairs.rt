@@ -233,7 +233,9 @@ fn read_known_pairs<const N: usize, const M: usize>(
 
 /// Fills `values` with the members of the next pairs. Returns whether all are at most the greatest
 /// that the width has; if not, some values are unchanged. A value in the reference place is 0,
-/// whatever number is read there.
+/// whatever number is read there. Marked cold, so that the loops that call it stay as fast for
+/// other blocks.
+#[cold]
 #[inline(never)]
 pub(crate) fn read_pairs(
     params: &Params,
@@ -261,7 +263,8 @@ pub(crate) fn read_pairs(
     }
 }
 
-/// `read_pairs`. For `N` values, the usual number, `params` and `values` aren't passed on.
+/// `read_pairs`, for `N` values, the usual number, with copies of `params` and `values`: what is
+/// passed to a function out of line doesn't stay in registers.
 #[inline(always)]
 pub(crate) fn read_usual_pairs<const N: usize>(
     params: &Params,
@@ -282,10 +285,9 @@ pub(crate) fn read_usual_pairs<const N: usize>(
     if values.len() != N {
         return read_pairs(params, reader, is_ref, values);
     }
-    // What is passed to a function out of line doesn't stay in registers.
-    let params = *params;
+    let copied = *params;
     let mut own = [0u32; N];
-    let fit = read_pairs(&params, reader, is_ref, &mut own)?;
+    let fit = read_pairs(&copied, reader, is_ref, &mut own)?;
     values.copy_from_slice(&own);
     Ok(fit)
 }

@@ -128,7 +128,7 @@ const OF_ANY_COUNT: usize = 0;
 /// The copy for each usual number of values, out of line.
 const OF_USUAL_COUNT: usize = 1;
 
-/// The copy in `read_plain_first`. The callers of `read_plain` choose other numbers than these.
+/// The copy in `read_single_first`. The callers of `read_single` choose other numbers than these.
 pub(crate) const IN_FIRST_BLOCKS: usize = 2;
 
 /// Fills `values`, `M` at most, with the next values, split at bit `k`. Returns whether all are at

@@ -1,7 +1,7 @@
-//! Reads single blocks (each with a coded data set of its own) without a reference sample, one after
-//! the other, if none needs a test of its place. `read_single_blocks` sets how many blocks, makes
-//! their places and keeps the filled ones; `fill_single_blocks` reads while the next is a single
-//! block.
+//! Reads single blocks (each with a coded data set of its own) without a reference sample, one
+//! after the other, if none needs a test of its place. `read_single_blocks` sets how many blocks,
+//! makes their places and keeps the filled ones; `fill_single_blocks` reads while the next is a
+//! single block.
 
 ghost use Rattle.std.specs.Prelude.{◌≡◌, ◌≤◌, ◌<◌, ◌+◌, ◌-◌, ◌*◌, ◌%◌, ◌^◌, true, false, max, length, take, vec_len, vec_capacity, IfSome, IfOk, IfErr, OnErr};
 ghost use Rattle.std.specs.List.{AllByRecursion};

@@ -1,8 +1,7 @@
 use Rattle.std.proofs.Common.{false, None, rules, ◌∙◌}
 use Rattle.aec_block.specs.Gathering.{bits_at}
 use Rattle.aec_block.proofs.NoSingleLemmas.{IsJudged, none_stands, not_begun, other_numbers, other_split, other_pairs, none_judged, judged_to}
-use Rattle.aec_block.proofs.SingleLemmas.{single-below}
-use Rattle.aec_block.proofs.StandingLemmas.{read_as}
+use Rattle.aec_block.proofs.SingleLemmas.{single_read, single-below}
 use Rattle.aec_block.proofs.reading.single_sets.read_single.Goals as goal
 use Rattle.aec_block.proofs.reading.single_sets.read_single.Goals.{in-Ok-NoCompression, in-Ok-Split, in-Ok-SecondExtension, in_default, in_default-2}
 
@@ -10,17 +9,16 @@ pub returns-then-not-read-clause-refuses : goal.returns-then-not-read-clause-ref
 returns-then-not-read-clause-refuses g c =
     let s = c.args.params.now in
     let bits = bits_at c.args.reader.now in
-    let behind = bits_at c.read_kind.new.reader in
     λ same. none_stands s false c.args.reader.now c.read_kind.ensures.allowed
     (elim c.match-read_kind.branch [
-      | in-Ok-NoCompression w ↦ (other_numbers s w.in-Ok-NoCompression.field-0 w.bits.result _ bits behind (bits_at w.read_usual_numbers.new.reader)
+      | in-Ok-NoCompression w ↦ (other_numbers s w.in-Ok-NoCompression.field-0 w.bits.result _ bits _ (bits_at w.read_usual_numbers.new.reader)
           w.read_usual_numbers.new.numbers w.read_usual_numbers.result c.match-read_kind.read (w.read-is ∙ w.is_ok-read.ensures.value)
           w.in-Ok-NoCompression.ensures.taken.taken w.in-Ok-NoCompression.field-0-is w.bits.ensures.value c.requires
           w.read_usual_numbers.ensures.taken).none c.if-not-read.true
-      | in-Ok-Split w ↦ (other_split s w.in-Ok-Split.field-0 w.in-Ok-Split.k _ bits behind (bits_at w.read_usual_split.new.reader)
+      | in-Ok-Split w ↦ (other_split s w.in-Ok-Split.field-0 w.in-Ok-Split.k _ bits _ (bits_at w.read_usual_split.new.reader)
           w.read_usual_split.new.values w.read_usual_split.result c.match-read_kind.read (w.read-is ∙ w.unwrap_or-read.ensures)
           w.in-Ok-Split.ensures.taken.taken w.in-Ok-Split.field-0-is c.requires w.read_usual_split.ensures.taken).none c.if-not-read.true
-      | in-Ok-SecondExtension w ↦ (other_pairs s w.in-Ok-SecondExtension.field-0 _ bits behind (bits_at w.read_usual_pairs.new.reader)
+      | in-Ok-SecondExtension w ↦ (other_pairs s w.in-Ok-SecondExtension.field-0 _ bits _ (bits_at w.read_usual_pairs.new.reader)
           w.read_usual_pairs.new.values w.read_usual_pairs.result c.match-read_kind.read
           (w.read-is ∙ w.unwrap_or-read-in-Ok-SecondExtension.ensures) w.in-Ok-SecondExtension.ensures.taken.taken
           w.in-Ok-SecondExtension.field-0-is c.requires w.read_usual_pairs.ensures.taken.taken).none c.if-not-read.true
@@ -33,24 +31,21 @@ returns-clause-read g c =
     let s = c.args.params.now in
     let old = c.args.reader.now in
     let new = c.match-read_kind.reader in
-    let values = c.match-read_kind.values in
-    let read = c.match-read_kind.read in
-    let judged : IsJudged s None (bits_at old) (bits_at new) values read = elim c.match-read_kind.branch [
-      | in-Ok-NoCompression w ↦ judged_to s None _ _ new _ values read w.reader-is w.values-is (other_numbers s w.in-Ok-NoCompression.field-0 w.bits.result _
-          (bits_at old) _ _ _ w.read_usual_numbers.result read (w.read-is ∙ w.is_ok-read.ensures.value) w.in-Ok-NoCompression.ensures.taken.taken
+    let judged : IsJudged s None (bits_at old) (bits_at new) c.match-read_kind.values c.match-read_kind.read = elim c.match-read_kind.branch [
+      | in-Ok-NoCompression w ↦ judged_to s None _ _ new _ _ _ w.reader-is w.values-is (other_numbers s w.in-Ok-NoCompression.field-0 w.bits.result _
+          (bits_at old) _ _ _ w.read_usual_numbers.result _ (w.read-is ∙ w.is_ok-read.ensures.value) w.in-Ok-NoCompression.ensures.taken.taken
           w.in-Ok-NoCompression.field-0-is w.bits.ensures.value c.requires w.read_usual_numbers.ensures.taken)
-      | in-Ok-Split w ↦ judged_to s None _ _ new _ values read w.reader-is w.values-is (other_split s w.in-Ok-Split.field-0 w.in-Ok-Split.k _
-          (bits_at old) _ _ _ w.read_usual_split.result read (w.read-is ∙ w.unwrap_or-read.ensures) w.in-Ok-Split.ensures.taken.taken
+      | in-Ok-Split w ↦ judged_to s None _ _ new _ _ _ w.reader-is w.values-is (other_split s w.in-Ok-Split.field-0 w.in-Ok-Split.k _
+          (bits_at old) _ _ _ w.read_usual_split.result _ (w.read-is ∙ w.unwrap_or-read.ensures) w.in-Ok-Split.ensures.taken.taken
           w.in-Ok-Split.field-0-is c.requires w.read_usual_split.ensures.taken)
-      | in-Ok-SecondExtension w ↦ judged_to s None _ _ new _ values read w.reader-is w.values-is (other_pairs s w.in-Ok-SecondExtension.field-0 _
-          (bits_at old) _ _ _ w.read_usual_pairs.result read (w.read-is ∙ w.unwrap_or-read-in-Ok-SecondExtension.ensures)
+      | in-Ok-SecondExtension w ↦ judged_to s None _ _ new _ _ _ w.reader-is w.values-is (other_pairs s w.in-Ok-SecondExtension.field-0 _
+          (bits_at old) _ _ _ w.read_usual_pairs.result _ (w.read-is ∙ w.unwrap_or-read-in-Ok-SecondExtension.ensures)
           w.in-Ok-SecondExtension.ensures.taken.taken w.in-Ok-SecondExtension.field-0-is c.requires w.read_usual_pairs.ensures.taken.taken)
-      | in_default w ↦ none_judged s None _ _ values read w.read-is (search rules)
-      | in_default-2 w ↦ none_judged s None _ _ values read w.read-is (search rules)
+      | in_default w ↦ none_judged s None _ _ _ _ w.read-is (search rules)
+      | in_default-2 w ↦ none_judged s None _ _ _ _ w.read-is (search rules)
     ] in
-    let there = read_as s _ old new _ c.read_kind.ensures.allowed c.pos-start.ensures.within (search rules) (search rules)
-    (judged.there c.if-not-read.false) in
-    λ same. record { set = there.0; read = there.1 }
+    λ same. single_read s None old new _ c.read_kind.ensures.allowed c.pos-start.ensures.within (search rules) (search rules)
+    (judged.there c.if-not-read.false)
 
 pub returns-clause-below : goal.returns-clause-below
 returns-clause-below g c =

@@ -5,8 +5,7 @@ use Rattle.aec_block.specs.ReadAt.{taken, map_taken, cds_at}
 use Rattle.aec_block.specs.Gathering.{bits_at}
 use Rattle.aec_block.specs.ReadCds.{checked, block_with}
 use Rattle.aec_block.proofs.NoSingleLemmas.{none_stands}
-use Rattle.aec_block.proofs.SingleLemmas.{of_some, single-below}
-use Rattle.aec_block.proofs.StandingLemmas.{read_as}
+use Rattle.aec_block.proofs.SingleLemmas.{of_some, single_read, single-below}
 use Rattle.aec_block.proofs.reading.single_sets.read_single_first.Goals as goal
 
 pub returns-in-Ok-Some-clause-read : goal.returns-in-Ok-Some-clause-read
@@ -17,9 +16,8 @@ returns-in-Ok-Some-clause-read g c =
     let there =
     of_some (λ pattern. map_taken (checked s) (cds_at s true (bits_at c.args.reader.now))
     ≡ taken (Some (Single (block_with (Some pattern) values))) (bits_at c.fill_first.new.reader)) _ _ c.in-Ok-Some.field-0-is filled.taken in
-    let read = read_as s true c.args.reader.now c.fill_first.new.reader (Single (block_with (Some c.in-Ok-Some.pattern) values)) filled.allowed
-    c.pos-start.ensures.within filled.within filled.list there in
-    record { set = read.0; read = read.1 }
+    single_read s (Some c.in-Ok-Some.pattern) c.args.reader.now c.fill_first.new.reader values filled.allowed c.pos-start.ensures.within filled.within
+    filled.list there
 
 pub returns-in-Ok-Some-clause-below : goal.returns-in-Ok-Some-clause-below
 returns-in-Ok-Some-clause-below g c =
