@@ -117,8 +117,8 @@ fn sum_from(values: &[u32], bits: u32, total: u64, k: u32) -> u64
     shifted_sum(values, k)
 }
 
-/// Returns the first of the sums; the second if `one` holds; the third if `two` does. It compiles to
-/// two selects, without a branch.
+/// Returns the first of the sums; the second if `one` holds; the third if `two` does. It compiles
+/// to two selects, without a branch.
 #[inline(always)]
 fn sum_of_chosen(sums: ThreeSums, one: bool, two: bool) -> u64
     ensures { result ≡ (if two then sums.third else if one then sums.second else sums.first) }
