@@ -9,7 +9,7 @@ ghost use Rattle.std.specs.Prelude.{◌≡◌, ℕ, ◌+◌, ◌<◌, ◌≤◌,
 ghost use Rattle.std.specs.List.{AllByRecursion};
 ghost use Rattle.aec_params.specs.Params.{IsAllowed, IsHeld, x_min};
 ghost use Rattle.aec_params.specs.Mapping.{mapped_value};
-ghost use Rattle.aec_block.specs.Offsets.{sample_offset, top_offset, mapped_offset, IsUnmapped};
+ghost use Rattle.aec_block.specs.Offsets.{sample_offset, top_offset, mapped_offset, near_difference, IsUnmapped};
 ghost use Rattle.aec_block.specs.Unmapping.{IsOnlySample};
 
 use aec_params::Params;
@@ -28,20 +28,29 @@ pub(crate) fn map_offset(top: u32, p: u32, x: u32) -> u32
     distance + distance.min(room) - u32::from((x < p) & (distance <= room))
 }
 
-/// Returns the offset for which `m` is coded at the prediction `p`. Computes the offsets on both
-/// sides of the room's end before it takes one, so that no branch depends on the sign or parity.
+/// Returns the offset for which `m` is coded at the prediction `p`.
 pub(crate) fn unmap_offset(top: u32, p: u32, m: u32) -> u32
     requires prediction { p ≤ top }
     requires mapped { m ≤ top }
     ensures { IsUnmapped top p m result }
 {
-    let room = p.min(top - p);
     let half = m / 2;
-    let near = if m % 2 == 0 {
-        p.wrapping_add(half)
-    } else {
-        p.wrapping_sub(half + 1)
-    };
+    let difference = if m % 2 == 0 { half } else { !half };
+    unmap_by_difference(top, p, m, difference)
+}
+
+/// Returns the offset for which `m` is coded at the prediction `p`. `difference` is the one for
+/// which a near `m` is coded, modulo 2^32. Computes the offsets on both sides of the room's end
+/// before it takes one, so that no branch depends on the sign or parity.
+#[inline(always)]
+pub(crate) fn unmap_by_difference(top: u32, p: u32, m: u32, difference: u32) -> u32
+    requires prediction { p ≤ top }
+    requires mapped { m ≤ top }
+    requires difference { difference ≡ near_difference m }
+    ensures { IsUnmapped top p m result }
+{
+    let room = p.min(top - p);
+    let near = p.wrapping_add(difference);
     let far = if p <= top - p { m } else { top - m };
     if m <= 2 * room { near } else { far }
 }

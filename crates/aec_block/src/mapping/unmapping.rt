@@ -8,7 +8,7 @@ ghost use Rattle.aec_block.specs.Unmapping.{HaveSamplePlaces, PutsSamples, CanUn
 use crate::mapping::small_differences::{
     are_below_two, are_low, are_near, near_differences, next_places, parities, running_places,
 };
-use crate::mapping::{greatest_offset, offset_of, unmap_offset};
+use crate::mapping::{greatest_offset, offset_of, unmap_by_difference, unmap_offset};
 use aec_params::Params;
 
 /// Fills `samples` with the samples for which values are coded, the first predicted from the sample
@@ -29,7 +29,8 @@ fn put_each(params: &Params, offset: u32, values: &[u32], samples: &mut [i64]) -
 }
 
 /// Returns the offset for which `m` is coded at the prediction `p`, if at least `m` offsets lie
-/// above `p`. Then a value that isn't near is its own offset. `difference` is that of a near `m`.
+/// above `p`. Then a value that isn't near is its own offset. `difference` is the one for which a
+/// near `m` is coded, modulo 2^32.
 #[inline(always)]
 fn unmap_low(p: u32, m: u32, difference: u32) -> u32
     requires { difference ≡ near_difference m }
@@ -65,22 +66,41 @@ fn put_low(params: &Params, least: i64, offset: u32, values: &[u32], samples: &m
 }
 
 /// Fills `samples` with the samples for which eight values are coded, one by one. Returns the
-/// offset of the last. Out of line: values that aren't near are few, and their code would be in the
-/// way.
+/// offset of the last.
+#[inline(always)]
+fn put_any(params: &Params, offset: u32, values: &[u32], samples: &mut [i64]) -> u32
+    requires can { CanUnmap params.now offset values.now samples.old }
+    requires eight { length values.now ≡ 8 }
+    ensures { PutsUnmapped params.now offset result values.now samples.old samples.new }
+{
+    let top = greatest_offset(params);
+    let least = params.x_min();
+    let differences = near_differences(values);
+    let mut last = offset;
+    for i in 0..8 {
+        last = unmap_by_difference(top, last, values[i], differences[i]);
+        samples[i] = least + i64::from(last);
+    }
+    last
+}
+
+/// Fills `samples` with the samples for which eight values are coded, whatever they are. Returns
+/// the offset of the last. Out of line: values that aren't near are few, and their code would be in
+/// the way.
 #[inline(never)]
 fn put_far(params: &Params, offset: u32, values: &[u32], samples: &mut [i64]) -> u32
     requires can { CanUnmap params.now offset values.now samples.old }
     requires eight { length values.now ≡ 8 }
     ensures { PutsUnmapped params.now offset result values.now samples.old samples.new }
 {
-    // What both ways read of `params` is read here, at the front. So the compiler passes these
-    // numbers instead of a reference, and the callers keep their copy in registers.
+    // `params` is read here, before the branch. So the compiler passes these numbers instead of a
+    // reference, and the callers keep their copy of `params` in registers.
     let top = greatest_offset(params);
     let least = params.x_min();
     if are_low(top, offset, values) {
         return put_low(params, least, offset, values, samples);
     }
-    put_each(params, offset, values, samples)
+    put_any(params, offset, values, samples)
 }
 
 /// Fills `samples` with the samples for which eight values are coded, and whose offsets are passed.
