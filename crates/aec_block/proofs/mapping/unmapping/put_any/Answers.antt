@@ -28,7 +28,8 @@ loop-i-preserved c =
     (omega (arith, c.unmap_by_difference-last.type_inv)) in
     record {
       unmaps = unmaps_to-offset _ _ _ _ _ c.greatest_offset-top.result c.loop-i.last c.unmap_by_difference-last.result _ _ _
-          c.greatest_offset-top.ensures.allowed c.requires.can.on c.greatest_offset-top.ensures.value (omega (arith, c.greatest_offset-top.ensures.value, c.loop-i.invariant.within))
+          c.greatest_offset-top.ensures.allowed c.requires.can.on c.greatest_offset-top.ensures.value
+          (omega (arith, c.greatest_offset-top.ensures.value, c.loop-i.invariant.within))
           c.unmap_by_difference-last.ensures.held (omega (arith, c.loop-i-test.true, c.requires.eight)) c.unmap_by_difference-last.ensures.undone
           (to_z-of_z w64 _ sum_fits ∙ ap₂ ◌+ℤ◌ least_is above_is) (one_more c.loop-i.samples c.loop-i.i _ room) c.loop-i.invariant.unmaps;
       within = omega (arith, c.greatest_offset-top.ensures.value, c.unmap_by_difference-last.ensures.held);
