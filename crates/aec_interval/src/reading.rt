@@ -1,8 +1,8 @@
 //! Samples read from coded bits, one coded data set after another, from where an interval begins.
 
-mod single_blocks;
 pub(crate) mod samples;
 pub(crate) mod short;
+mod single_blocks;
 pub(crate) mod skipping;
 pub(crate) mod whole;
 mod zero_runs;
@@ -22,8 +22,8 @@ ghost use Rattle.aec_interval.specs.Pieces.{counted_from};
 ghost use Rattle.aec_interval.specs.Steps.{IsWantedNext, ComesNext, IsGoneOver};
 ghost use Rattle.aec_interval.specs.Reached.{AreFilled, IsReached, IsReadFrom, RefusesReading, RefusesUpTo};
 
-use crate::reading::single_blocks::read_single_blocks;
 use crate::reading::samples::push_block;
+use crate::reading::single_blocks::read_single_blocks;
 use crate::reading::zero_runs::push_zero_run;
 use crate::segment::SEGMENT_BLOCKS;
 use aec_bits::{BitBuf, BitReader};
