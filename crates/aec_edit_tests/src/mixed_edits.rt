@@ -222,12 +222,7 @@ fn some_len(seed: &mut u64, row: &Row) -> u64 {
 }
 
 /// Returns some edit of `count` samples.
-fn some_edit(
-    alloc: Global,
-    seed: &mut u64,
-    row: &Row,
-    count: u64,
-) -> Result<Edit, AllocError> {
+fn some_edit(alloc: Global, seed: &mut u64, row: &Row, count: u64) -> Result<Edit, AllocError> {
     let kind = below(seed, 20);
     let place = some_place(seed, row, count);
     if kind < 2 {

@@ -1,7 +1,7 @@
 //! Streams edited by scripts: what is written, which line a refusal names, and what is read and
 //! written if a device fails.
 
-use crate::asserts::{holds, holds_at, same, same_at};
+use crate::asserts::{holds_at, same, same_at};
 use crate::devices::{After, Basin, Pieces};
 use aec_bits::{Sink, Source};
 use aec_engine::{EditFault, edit};

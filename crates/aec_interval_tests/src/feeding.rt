@@ -1,7 +1,5 @@
 //! Samples that are fed to a `StreamCoder` in pieces.
 
-ghost use Rattle.std.specs.Prelude.{◌<◌, ◌≤◌, length};
-
 use crate::asserts::{holds, same};
 use crate::settings::{unprocessed, width, with_interval};
 use crate::shared::expect_bits;
