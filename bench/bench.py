@@ -8,6 +8,7 @@ tests nothing:
   memory (the maximum resident set, from /usr/bin/time), ours divided by theirs, and the growth of both times and of our memory
   from 1 to 16 MiB of samples.
 - For each input both ways, their seconds divided by ours. Then the geometric means of these ratios.
+- The seconds of both for 64 MiB of some inputs.
 - Our seconds with even block sizes. Theirs codes only 8, 16, 32 and 64.
 - The memory of both for 16 and 64 MiB of samples, and for decoding a short stream of very many samples.
 
@@ -32,6 +33,10 @@ SETTINGS = [(8, 128), (16, 128), (64, 128), (8, 4096), (16, 4096), (64, 4096), (
 EVEN_BLOCKS = [8, 10, 12, 16, 30, 32]
 # The pairs that are compared: a block size, and the next lower power of two.
 BESIDE = [(10, 8), (12, 8), (30, 16)]
+# Of these inputs and settings 64 MiB are measured too: decoding keeps at most 16 MiB, and reads the rest twice.
+LARGE = 64
+LARGE_INPUTS = ["8-bit ramp with noise", "12-bit detector", "16-bit detector"]
+LARGE_SETTINGS = [(8, 2), (8, 128), (16, 128), (64, 128)]
 # The J and r over which means are taken.
 GROUPS = [
     ("all", lambda block, interval: True),
@@ -230,6 +235,26 @@ def means(coding, decoding):
         print(f"| {name} | {told[0]} | {told[1]} |")
 
 
+def large_table(ours, theirs, pieces, folder, runs):
+    """Prints the seconds of both programs for large inputs, and theirs divided by ours."""
+    print(f"\n## {LARGE} MiB of samples\n")
+    print("| Input | J | r | coding: ours, s | theirs, s | times | decoding: ours, s | theirs, s | times |")
+    print("|---" * 9 + "|")
+    raw, coded = os.path.join(folder, "raw"), os.path.join(folder, "coded")
+    options_of = {name: options for name, options, _ in INPUTS}
+    for name in LARGE_INPUTS:
+        with open(raw, "wb") as file:
+            file.writelines([pieces[name]] * LARGE)
+        for block, interval in LARGE_SETTINGS:
+            words = [*options_of[name], "-j", str(block), "-r", str(interval)]
+            subprocess.run([theirs, *words, raw, coded], check=True)
+            cells = [name, str(block), str(interval)]
+            for job, source in (("coding", raw), ("decoding", coded)):
+                (our, _), (their, _) = measure(job, ours, theirs, words, source, folder, runs)
+                cells += [f"{our:.2f}", f"{their:.2f}", f"{their / our:.2f}"]
+            print(f"| {' | '.join(cells)} |", flush=True)
+
+
 def even_row(name, job, runs, commands, folder):
     """Prints the seconds of one job with each block size, from runs in turn, and the ratios of the pairs in BESIDE."""
     told = [[run(command, folder) for command in commands] for _ in range(runs)]
@@ -305,6 +330,8 @@ def main():
         }
         summary(speeds["coding"], speeds["decoding"])
         means(speeds["coding"], speeds["decoding"])
+        if not quick:
+            large_table(ours, theirs, pieces, folder, runs)
         even_table(ours, pieces, folder, sizes[-1], runs)
         memory(ours, theirs, pieces["16-bit detector"], folder, [1] if quick else [16, 64], 1 if quick else 222)
 
