@@ -36,6 +36,13 @@ def counted(command):
     return int(re.search(r"Collected : (\d+)", ran.stderr)[1])
 
 
+def mispredicted(command):
+    """Returns how many branches of a run are mispredicted, in valgrind's model of a processor."""
+    words = ["valgrind", "--tool=cachegrind", "--cache-sim=no", "--branch-sim=yes", "--cachegrind-out-file=/dev/null", *command]
+    ran = subprocess.run(words, stdout=subprocess.DEVNULL, stderr=subprocess.PIPE, text=True, check=True)
+    return int(re.search(r"Mispredicts: +([\d,]+)", ran.stderr)[1].replace(",", ""))
+
+
 def told(ours, theirs, options, folder):
     """Returns the instructions of coding by ours and theirs, then those of decoding."""
     raw, coded, dest = (os.path.join(folder, name) for name in ("raw", "coded", "dest"))

@@ -3,8 +3,12 @@
 
 Counts with `valgrind --tool=callgrind`, as bench/instructions.py does, the instructions a sample that the program takes, including its
 start, to code generated samples and to decode the result. Fails if a count is more than 3 % above the one in MEASURED: a count is the
-same in every run, so a higher one means that the program does more, or that the compiler no longer inlines a function. `--measure`
-prints new rows of MEASURED, for a change that takes fewer instructions, or more for a good reason.
+same in every run, so a higher one means that the program does more, or that the compiler no longer inlines a function.
+
+Counts too, with `--tool=cachegrind`, how many branches a block are mispredicted in coding, without those of the program's start, in
+valgrind's model of a processor. Fails if there are more than 10 % above MISPREDICTED: a test of a sample became a branch.
+
+`--measure` prints new rows of both tables, for a change that takes fewer, or more for a good reason.
 
 Prints the counts that fail and, last, how many checks passed. Ends with status 1 if one failed. Without valgrind all checks are skipped,
 with status 0; if the variable CI is set, that is a failure.
@@ -20,11 +24,12 @@ from concurrent.futures import ThreadPoolExecutor
 from program import TOP, Tally
 
 sys.path.insert(0, os.path.join(TOP, "bench"))
-from bench import detector, ramp_with_noise, walk
-from instructions import STORAGE, counted
+from bench import detector, mask, ramp_with_noise, residues, walk
+from instructions import STORAGE, counted, mispredicted
 
 SAMPLES = 200_000
 MOST_ABOVE = 1.03
+MOST_MISPREDICTED_ABOVE = 1.1
 SEED = 1
 
 
@@ -48,6 +53,8 @@ INPUTS = {
     "patches": (16, [], patches),
     "walk": (32, ["-s"], walk),
     "ramp": (8, [], ramp_with_noise),
+    "mask": (8, [], mask),
+    "residues": (16, ["-s"], residues),
 }
 
 # The kind of samples, J and r; and the instructions a sample that the proved program took in coding and in decoding.
@@ -64,46 +71,81 @@ MEASURED = {
     ("patches", 8, 1): (37.3, 73.0),
     ("walk", 16, 128): (42.2, 51.8),
     ("ramp", 8, 128): (47.0, 45.5),
+    ("mask", 8, 2): (48.6, 82.2),
+    ("mask", 16, 128): (44.2, 32.5),
+    ("mask", 64, 128): (39.2, 30.6),
+    ("residues", 8, 128): (58.2, 47.3),
 }
+
+# The kind of samples, J and r; and the branches of a block that are mispredicted in coding.
+MISPREDICTED = {
+    ("detector", 8, 128): 0.7,
+    ("detector", 16, 128): 1.3,
+    ("detector", 64, 128): 7.0,
+    ("detector", 8, 2): 0.9,
+}
+
+
+def prepared(cell, folder):
+    """Writes the samples of a cell to a file. Returns the options of its jobs, and the path."""
+    kind, block_size, interval = cell
+    bits, more, made = INPUTS[kind]
+    raw = os.path.join(folder, "raw")
+    with open(raw, "wb") as file:
+        file.write(made(random.Random(SEED))[: SAMPLES * STORAGE[bits]])
+    return ["-n", str(bits), *more, "-j", str(block_size), "-r", str(interval)], raw
 
 
 def instructions_of(path, cell):
     """Returns the instructions a sample that the program takes to code the samples of a cell, and to decode them."""
-    kind, block_size, interval = cell
-    bits, more, made = INPUTS[kind]
-    options = ["-n", str(bits), *more, "-j", str(block_size), "-r", str(interval)]
     with tempfile.TemporaryDirectory() as folder:
-        raw, coded, back = (os.path.join(folder, name) for name in ("raw", "coded", "back"))
-        with open(raw, "wb") as file:
-            file.write(made(random.Random(SEED))[: SAMPLES * STORAGE[bits]])
+        options, raw = prepared(cell, folder)
+        coded, back = (os.path.join(folder, name) for name in ("coded", "back"))
         coding = counted([path, *options, raw, coded])
         decoding = counted([path, "-d", *options, coded, back])
     return coding / SAMPLES, decoding / SAMPLES
 
 
-def on_all_cells(path):
+def mispredicted_of(path, cell):
+    """Returns the branches of a block that are mispredicted in coding the samples of a cell."""
+    with tempfile.TemporaryDirectory() as folder:
+        options, raw = prepared(cell, folder)
+        coded = os.path.join(folder, "coded")
+        more = mispredicted([path, *options, raw, coded]) - mispredicted([path, *options, "/dev/null", coded])
+    return more * cell[1] / SAMPLES
+
+
+def on_each(cells, count, path):
     """Returns the counts of each cell, made on all cores at once."""
     with ThreadPoolExecutor(os.cpu_count() or 1) as pool:
-        found = pool.map(lambda cell: instructions_of(path, cell), MEASURED)
-        return dict(zip(MEASURED, found))
+        return dict(zip(cells, pool.map(lambda cell: count(path, cell), cells)))
 
 
-def print_measured(found):
-    """Prints the rows of MEASURED."""
-    for (kind, block_size, interval), (coding, decoding) in found.items():
+def print_measured(instructions, branches):
+    """Prints the rows of MEASURED, then those of MISPREDICTED."""
+    for (kind, block_size, interval), (coding, decoding) in instructions.items():
         print(f'    ("{kind}", {block_size}, {interval}): ({coding:.1f}, {decoding:.1f}),')
+    for (kind, block_size, interval), count in branches.items():
+        print(f'    ("{kind}", {block_size}, {interval}): {count:.2f},')
 
 
-def compare(found):
+def compare(instructions, branches):
     """Checks each count against the one that was measured."""
     tally = Tally()
-    for (kind, block_size, interval), counts in found.items():
+    for (kind, block_size, interval), counts in instructions.items():
         for job, count, measured in zip(("coding", "decoding"), counts, MEASURED[kind, block_size, interval]):
             what = f"{job} the {kind} with J {block_size}, r {interval}"
             tally.holds(
                 count <= measured * MOST_ABOVE,
                 f"{what} takes {count:.1f} instructions a sample; {measured:.1f} were measured, and 3 % more are allowed",
             )
+    for (kind, block_size, interval), count in branches.items():
+        measured = MISPREDICTED[kind, block_size, interval]
+        what = f"coding the {kind} with J {block_size}, r {interval}"
+        tally.holds(
+            count <= measured * MOST_MISPREDICTED_ABOVE,
+            f"{what} mispredicts {count:.2f} branches a block; {measured:.2f} were measured, and 10 % more are allowed",
+        )
     return tally
 
 
@@ -118,11 +160,13 @@ def without_valgrind():
 def main():
     if not shutil.which("valgrind"):
         return without_valgrind()
-    found = on_all_cells(os.path.abspath(sys.argv[1]))
+    path = os.path.abspath(sys.argv[1])
+    instructions = on_each(MEASURED, instructions_of, path)
+    branches = on_each(MISPREDICTED, mispredicted_of, path)
     if "--measure" in sys.argv[2:]:
-        print_measured(found)
+        print_measured(instructions, branches)
         return 0
-    tally = compare(found)
+    tally = compare(instructions, branches)
     tally.print()
     return 1 if tally.failed else 0
 

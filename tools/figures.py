@@ -41,7 +41,9 @@ KINDS = [
     ("comments of code", re.compile(r".*\.rt"), comments(SLASHES)),
     ("comments of definitions", re.compile(r"crates/\w+/specs/.*\.antt"), comments(DASHES)),
     ("comments of proofs", re.compile(r".*\.antt"), comments(DASHES)),
-    ("docstrings of Python", re.compile(r".*\.py"), docstrings),
+    ("docstrings of the module aecp", re.compile(r"python/.*\.py"), docstrings),
+    ("docstrings of tests", re.compile(r"tests/.*\.py"), docstrings),
+    ("docstrings of tools", re.compile(r".*\.py"), docstrings),
     ("comments of C and Rust", re.compile(r".*\.(h|c|rs)"), comments(SLASHES)),
     ("comments of scripts", re.compile(r".*\.(sh|toml)|Makefile|\.ci/run|crates\.txt"), comments(HASHES)),
 ]
