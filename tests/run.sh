@@ -14,7 +14,7 @@ number=0
 # contract, a doc comment and a must-fail edit; that each definition in a public contract has a
 # sentence; that generated pages are current; that files keep the limits of the house; that each
 # must-fail edit can be applied; that each lemma is cited; that the crates export what docs/SURFACE.md
-# lists. After it: scripts that run the programs which the gate has built.
+# lists. After it: scripts that run the programs which the gate has built, but for `pictures`.
 parts='contracts python3 tools/contracts.py --check
 definitions python3 tests/definitions.py
 modules python3 tools/modules.py --check
@@ -25,6 +25,7 @@ edits python3 tests/edits_apply.py
 cited python3 tests/cited.py
 surface python3 tests/surface.py
 gate gate
+kept-program keep_gate
 coded-samples on_program tests/coded.py
 cut-streams on_program tests/cuts.py
 damaged-streams on_program tests/damaged.py
@@ -53,7 +54,8 @@ part() {
     echo "== $name: part $number of $(echo "$parts" | wc -l), after $(minutes) min"
     since=$(date +%s)
     { "$@" < /dev/null 2>&1; echo $? > "$kept/$name.status"; } | tee "$kept/$name.log"
-    echo "$name: $(($(date +%s) - since)) s" >> "$kept/times"
+    has_passed "$name" && end= || end=", FAILED"
+    echo "$name: $(($(date +%s) - since)) s$end" >> "$kept/times"
 }
 
 has_passed() {
@@ -103,10 +105,14 @@ gate() {
 # Keeps for `make dist` the program that the gate has proved and built, and the gate's last line. The commit is the one that stood
 # here before the gate.
 keep_gate() {
-    mkdir -p bin
-    cp crates/aec/out/aec bin/aec
-    python3 packaging/proved.py record "$commit" bin/aec
-    python3 packaging/proved.py gate "$commit" "$kept/gate.log"
+    if has_passed gate && mkdir -p bin && rm -f bin/aec && cp crates/aec/out/aec bin/aec &&
+        python3 packaging/proved.py record "$commit" bin/aec && python3 packaging/proved.py gate "$commit" "$kept/gate.log"; then
+        echo "1 passed, 0 failed"
+    else
+        echo "the program of the gate isn't kept"
+        echo "0 passed, 1 failed"
+        return 1
+    fi
 }
 
 commit=$(python3 packaging/proved.py commit)
@@ -118,8 +124,6 @@ while read -r name command; do
     part "$name" $command
     if ! has_passed "$name"; then
         last=${last:-$name}
-    elif [ "$name" = gate ]; then
-        keep_gate
     fi
 done < "$kept/parts"
 if [ -n "$last" ]; then
@@ -129,5 +133,5 @@ last=${last:-gate}
 echo "== seconds of each part, on $(getconf _NPROCESSORS_ONLN) processors"
 cat "$kept/times"
 echo "== $last"
-tail -n 1 "$kept/$last.log"
+tail -n 1 "$kept/$last.log" | grep -E '[0-9]+ passed, [0-9]+ failed' || echo "0 passed, 1 failed"
 has_passed "$last"

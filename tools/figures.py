@@ -2,8 +2,8 @@
 """Prints how much there is to read and to prove: figures.py
 
 These are the numbers of tracked files, of words written by hand and of generated words, by their
-kind, of public functions, and of must-fail edits. A word of a comment counts where it stands; code
-doesn't. tools/gate_times.py prints how long the gate takes.
+kind, of public functions, and of must-fail edits. Of source files only the words of comments are
+counted. tools/gate_times.py prints how long the gate takes.
 """
 
 import ast
@@ -84,7 +84,8 @@ def main():
     rows = [("tracked files", len(paths))]
     rows += [(f"words: {name}", number) for name, number in words.items()]
     rows += [("words by hand, in all", sum(words.values()) - words["generated"])]
-    rows += [("public functions", sum(one.is_public for crate in crates.values() for one in crate.functions))]
+    public = [one for crate in crates.values() for one in crate.functions if one.is_public and not crate.name.endswith("_tests")]
+    rows += [("public functions", len(public))]
     rows += [(f"must-fail edits of {crate}: in the gate, others", f"{gate}, {others}") for crate, gate, others in edits]
     rows += [("must-fail edits, in all", f"{sum(row[1] for row in edits)}, {sum(row[2] for row in edits)}")]
     print("\n".join(f"{name:50}{number:>12}" for name, number in rows))

@@ -4,8 +4,8 @@
 The command is `rt ci --anew` if none is given. While it runs, this script looks at the checkers that
 it has started, five times a second. At the end it prints the processor seconds of each crate's proof,
 of its tests, of the proof that its must-fail edits begin with, and of each edit; when each began, and
-how long it took; and the sums. What a checker does after the last look isn't counted. Ends with the
-command's status. Needs Linux.
+how long it took; and the sums. What a checker does after the last look isn't counted, nor a process
+that ends before the first. Ends with the command's status. Needs Linux.
 """
 
 import os
@@ -105,7 +105,8 @@ class Watch:
     def work(self, number, found):
         """Returns the work of a process, or else of the nearest process above it that has one."""
         key = (number, found[number].begun)
-        if key not in self.works:
+        # Until it runs its own program, a new process has the words of the one that started it.
+        if self.works.get(key) is None:
             self.works[key] = work_of(number)
         parent = found[number].parent
         if self.works[key] is None and number != self.top and parent in found:
@@ -126,7 +127,7 @@ class Watch:
 
 def table(costs):
     """Returns the lines of the table: crates in their order, and of each crate its edits last, the dearest first."""
-    crates = list(crate_lines())
+    crates = [*crate_lines(), *sorted({work.crate for work in costs} - {*crate_lines()})]
     order = lambda it: (crates.index(it[0].crate), KINDS.index(it[0].kind), -it[1].sum())
     lines = [f"{'crate':20}{'work':48}{'processor s':>12}{'from min':>10}{'min':>8}"]
     for work, cost in sorted(costs.items(), key=order):

@@ -12,9 +12,8 @@ use Rattle.aec_params.specs.Blocks.{Block}
 use Rattle.aec_params.specs.BlockShapes.{HasReferencePlace}
 use Rattle.aec_params.specs.CodedDataSets.{written_count}
 use Rattle.aec_params.specs.Places.{placed_values, block_of_values}
-use Rattle.aec_block.specs.BlockShape.{most_values, IsSound}
+use Rattle.aec_block.specs.BlockShape.{block_with, most_values, IsSound}
 use Rattle.aec_block.specs.ReadAt.{Taken, nothing, taken, map_taken, binary_at, values_at, members_at, split_at}
-use Rattle.aec_block.specs.ReadCds.{block_with}
 use Rattle.aec_block.specs.Gathering.{as_taken_by, when, all_below, small_values, kept_members, small_members, small_block, pair_block}
 
 -- ---- what a result stands for

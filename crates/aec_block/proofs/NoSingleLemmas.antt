@@ -13,7 +13,8 @@ use Rattle.aec_block.specs.declared.reading.Kind.TheVariants.{ZeroBlocks, Second
 use Rattle.aec_block.specs.declared.cds.Cds.TheVariants.{Single}
 use Rattle.aec_block.specs.ReadAt.{Taken, nothing, taken, then_at, map_taken, fs_at, binary_at, values_at, split_at, members_at, kind_at, cds_at, set_of, reference_at, set_after_reference, set_after_kind}
 use Rattle.aec_block.specs.Gathering.{bits_at, when, small_values, small_members, as_taken_by}
-use Rattle.aec_block.specs.ReadCds.{checked, cds_of, is_single, is_run_body, is_single_taken, begins_single, block_with, HasNoSingle}
+use Rattle.aec_block.specs.BlockShape.{block_with}
+use Rattle.aec_block.specs.ReadCds.{checked, cds_of, is_single, is_run_body, is_single_taken, begins_single, HasNoSingle}
 use Rattle.aec_block.proofs.CodewordLemmas.{map_taken-mapped}
 use Rattle.aec_block.proofs.SetLemmas.{what_is_spelled_is_read}
 use Rattle.aec_block.proofs.SingleLemmas.{set_read, numbers_body, split_body, pairs_body}

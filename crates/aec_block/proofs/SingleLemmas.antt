@@ -19,7 +19,8 @@ use Rattle.aec_block.specs.declared.reading.Kind.{Kind}
 use Rattle.aec_block.specs.declared.reading.Kind.TheVariants.{SecondExtension, Split, NoCompression}
 use Rattle.aec_block.specs.ReadAt.{Taken, nothing, taken, then_at, map_taken, binary_at, values_at, split_at, members_at, kind_at, body_at, cds_at, set_of, reference_at, set_after_reference, set_after_kind}
 use Rattle.aec_block.specs.Gathering.{bits_at, when, all_below, small_values, small_members, as_taken_by}
-use Rattle.aec_block.specs.ReadCds.{cds_of, checked, checked_body, block_with, IsReadSingle}
+use Rattle.aec_block.specs.BlockShape.{block_with}
+use Rattle.aec_block.specs.ReadCds.{cds_of, checked, checked_body, IsReadSingle}
 use Rattle.aec_block.proofs.FillingLemmas.{map_taken-as, map_taken-twice, option_map-when, uncompressed_filled, split_filled, pairs_filled}
 use Rattle.aec_block.proofs.JoiningLemmas.{below-from_test}
 use Rattle.aec_block.proofs.ReadCdsLemmas.{plain_body}

@@ -7,6 +7,7 @@ use Rattle.aec_params.specs.CodedDataSets.{Body, uncompressed_values, value_pair
 use Rattle.aec_params.specs.Places.{told_blocks, block_of_values, block_of_members}
 use Rattle.aec_params.specs.Faults.{IsSetAt}
 use Rattle.aec_bits.specs.BitReader.{Cursor}
+use Rattle.aec_block.specs.BlockShape.{block_with}
 use Rattle.aec_block.specs.declared.cds.RunLen.{RunLen}
 use Rattle.aec_block.specs.declared.cds.RunLen.TheVariants.{Blocks, Rest}
 use Rattle.aec_params.specs.Blocks.{Block}
@@ -65,7 +66,8 @@ HasShortSplit ZeroBlocks = ⊤
 HasShortSplit SecondExtension = ⊤
 HasShortSplit NoCompression = ⊤
 
--- whether an identifier announces the values of one block
+-- whether an identifier is that of a single coded data set, which codes one block and is no run of
+-- zero blocks
 abbrev pub is_single : Kind → Bool
 is_single ZeroBlocks = false
 is_single SecondExtension = true
@@ -79,18 +81,18 @@ is_run_body (value_pairs members) = false
 is_run_body (split_values k values) = false
 is_run_body (zero_blocks m) = true
 
--- whether the identifier that was taken announces the values of one block; false if none was taken
+-- whether the identifier that was taken is that of a single coded data set; false if none was taken
 abbrev pub is_single_taken : Taken Kind → Bool
 is_single_taken nothing = false
 is_single_taken (taken kind rest) = is_single kind
 
--- whether the first bits are the identifier of a coded data set of one block (as the code judges
--- it; the clause `seen` of `read_single` says that it holds of each set that is read)
+-- whether the first bits are the identifier of a single coded data set (as the code judges it; by
+-- the clauses `seen` of `read_single` and `read_single_first` it holds of each set that is read)
 abbrev pub begins_single : Settings → List Bool → Bool
 begins_single s bits = is_single_taken (kind_at (id_len s) bits)
 
--- no coded data set of one block, of a reference block if `is_reference`, else of another, whose
--- values are at most 2^n - 1, begins the bits
+-- no single coded data set, of a reference block if `is_reference`, else of another, whose values
+-- are at most 2^n - 1, begins the bits
 abbrev pub HasNoSingle : Settings → Bool → List Bool → Type 0
 HasNoSingle s is_reference bits = (c : CodedDataSet) (rest : List Bool) → cds_at s is_reference bits ≡ taken c rest
     → is_run_body c.body ≡ false → has_small_values s c ≡ false
@@ -110,12 +112,8 @@ pub record IsReadAs (s : Settings) (is_reference : Bool) (old new : Cursor) (c :
   pub behind : new ≡ record { list = old.list; pos = old.pos + length (cds_bits s c) }
   pub answer : cds ≡ cds_of c
 
--- a block with this reference and these values
-abbrev pub block_with : Option ℕ → List ℕ → Block
-block_with reference values = record { reference = reference; values = values }
-
--- A coded data set of one block with this reference, or without one, is read, and the cursor moves
--- past it. `values` are those of its block, with 0 in the reference place, none of them above
+-- A single coded data set with this reference, or without one, is read, and the cursor moves past
+-- it. `values` are those of its block, with 0 in the reference place, none of them above
 -- 2^n - 1.
 pub record IsReadSingle (s : Settings) (old new : Cursor) (reference : Option ℕ) (values : List ℕ) : Type 0 where
   pub set : CodedDataSet

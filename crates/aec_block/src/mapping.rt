@@ -40,8 +40,8 @@ pub(crate) fn unmap_offset(top: u32, p: u32, m: u32) -> u32
 }
 
 /// Returns the offset for which `m` is coded at the prediction `p`. `difference` is the one for
-/// which a near `m` is coded, modulo 2^32. Computes the offsets on both sides of the room's end
-/// before it takes one, so that no branch depends on the sign or parity.
+/// which a near `m` is coded, modulo 2^32. Computes the near and the far offset before it selects
+/// one, so that no branch depends on the sign or parity.
 #[inline(always)]
 pub(crate) fn unmap_by_difference(top: u32, p: u32, m: u32, difference: u32) -> u32
     requires prediction { p ≤ top }

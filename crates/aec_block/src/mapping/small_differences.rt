@@ -1,4 +1,4 @@
-//! Unmaps eight values at once if each difference is within the room t on both sides of its
+//! Unmaps eight values at once if each difference is within the room on both sides of its
 //! prediction. Then a value determines its difference, sums modulo 2^32 are the offsets, and the
 //! room at each offset confirms the condition. The same sums modulo 2 are the offsets if these and
 //! the values are all 0 or 1.
@@ -118,12 +118,12 @@ pub(crate) fn are_below_two(offset: u32, values: &[u32]) -> bool
     ensures offset { result ≡ true → offset ≤ 1 }
     ensures values { result ≡ true → (i : ℕ) → i < 8 → get_or values.now i 0 ≤ 1 }
 {
-    // Most samples lie higher: a test of `offset` first spares them the lanes.
+    // Most offsets are larger: this test avoids the comparison in lanes.
     offset <= 1 && are_at_most(values, 1)
 }
 
-/// Returns true only if `offset` and eight times each of eight values add up to at most `top`;
-/// false means nothing.
+/// Returns true only if for each of eight values `offset` plus eight times the value is at most
+/// `top`; false means nothing.
 #[inline(always)]
 pub(crate) fn are_low(top: u32, offset: u32, values: &[u32]) -> bool
     requires within { offset ≤ top }

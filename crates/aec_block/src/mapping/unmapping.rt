@@ -43,8 +43,8 @@ fn unmap_low(p: u32, m: u32, difference: u32) -> u32
     }
 }
 
-/// Fills `samples` with the samples for which eight values are coded, if for each of them at least
-/// as many offsets lie above its prediction. Returns the offset of the last. `least` is the least
+/// Fills `samples` with the samples for which eight values are coded, if at least m offsets lie
+/// above the prediction of each value m. Returns the offset of the last. `least` is the least
 /// sample.
 #[inline(always)]
 fn put_low(params: &Params, least: i64, offset: u32, values: &[u32], samples: &mut [i64]) -> u32
@@ -103,8 +103,8 @@ fn put_far(params: &Params, offset: u32, values: &[u32], samples: &mut [i64]) ->
     put_any(params, offset, values, samples)
 }
 
-/// Fills `samples` with the samples for which eight values are coded, and whose offsets are passed.
-/// Returns the offset of the last.
+/// Fills `samples` with the samples at `places`, the offsets for which the eight values are coded.
+/// Returns the last offset.
 #[inline(always)]
 fn put_places(
     params: &Params,
@@ -127,9 +127,8 @@ fn put_places(
     place
 }
 
-/// Fills `samples` with the samples for which eight values are coded. Unmaps all at once if these
-/// and the offsets are 0 or 1, or if all values are near, else one by one. Returns the offset of
-/// the last.
+/// Fills `samples` with the samples for which eight values are coded: at once if the values and
+/// `offset` are 0 or 1, or if all values are near; else one by one. Returns the offset of the last.
 #[inline(always)]
 fn put_eight(params: &Params, offset: u32, values: &[u32], samples: &mut [i64]) -> u32
     requires can { CanUnmap params.now offset values.now samples.old }

@@ -1,4 +1,4 @@
-//! Reads the pairs of a block in the second extension: by a table while all numbers of pairs are
+//! Reads the pairs of a block in the second extension: by a table if all numbers of its pairs are
 //! below 64, else pair by pair.
 
 ghost use Rattle.std.specs.Prelude.{◌≡◌, ◌≤◌, ◌<◌, ◌+◌, ◌*◌, ◌/◌, ◌^◌, nat_lt, if◌then◌else◌, [], length, slice_set};
@@ -156,7 +156,7 @@ fn put_pairs(numbers: &[u32], values: &mut [u32])
 
 /// Writes 0 to the reference place, if there is one.
 #[inline(always)]
-pub(crate) fn keep_members(is_ref: bool, values: &mut [u32])
+pub(crate) fn clear_reference_place(is_ref: bool, values: &mut [u32])
     requires { 0 < length values.old }
     ensures { values.new ≡ kept_members is_ref values.old }
 {
@@ -203,7 +203,7 @@ fn read_short_pairs<const M: usize>(
         return read_long_pairs(params, reader, is_ref, values);
     }
     put_pairs(numbers, values);
-    keep_members(is_ref, values);
+    clear_reference_place(is_ref, values);
     Ok(are_small(values, limit))
 }
 
@@ -231,10 +231,10 @@ fn read_known_pairs<const N: usize, const M: usize>(
     read_short_pairs::<M>(params, reader, is_ref, &mut values[..N])
 }
 
-/// Fills `values` with the members of the next pairs. Returns whether all are at most the greatest
-/// that the width has; if not, some values are unchanged. A value in the reference place is 0,
-/// whatever number is read there. Marked cold, so that the loops that call it stay as fast for
-/// other blocks.
+/// Fills `values` with the members of the next pairs, with 0 in the reference place, whatever
+/// number is read there. Returns whether all are at most the greatest that the width has; if not,
+/// the contents of `values` are unspecified. Marked cold, so that the loops that call it stay as
+/// fast for other blocks.
 #[cold]
 #[inline(never)]
 pub(crate) fn read_pairs(
@@ -263,8 +263,9 @@ pub(crate) fn read_pairs(
     }
 }
 
-/// `read_pairs`, for `N` values, the usual number, with copies of `params` and `values`: what is
-/// passed to a function out of line doesn't stay in registers.
+/// `read_pairs` for `N` values, the usual number, with a copy of `params`, and an array of its own
+/// that is copied to `values` at the end: what is passed to a function out of line doesn't stay in
+/// registers.
 #[inline(always)]
 pub(crate) fn read_usual_pairs<const N: usize>(
     params: &Params,

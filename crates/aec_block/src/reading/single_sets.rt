@@ -1,5 +1,5 @@
-//! Reads coded data sets of one block into a list. Nearly all coded data sets are of one block; the
-//! others are runs of zero blocks.
+//! Reads single coded data sets into a list. A single coded data set codes one block and is no run
+//! of zero blocks, not even of one. Nearly all coded data sets are single.
 
 ghost use Rattle.std.specs.Prelude.{◌≡◌, ◌≤◌, ◌<◌, ◌^◌, true, false, length, Some, None, IfSome, IfOk, OnErr};
 ghost use Rattle.std.specs.Option.{is_some};
@@ -9,18 +9,19 @@ ghost use Rattle.aec_params.specs.Faults.{IsSetAt};
 ghost use Rattle.aec_params.specs.Params.{IsAllowed};
 ghost use Rattle.aec_bits.specs.BitReader.{has_one};
 ghost use Rattle.aec_block.specs.declared.cds.Cds.TheVariants.{Single};
+ghost use Rattle.aec_block.specs.BlockShape.{block_with};
 ghost use Rattle.aec_block.specs.ReadAt.{taken, map_taken, cds_at};
 ghost use Rattle.aec_block.specs.Gathering.{bits_at, kept_members};
-ghost use Rattle.aec_block.specs.ReadCds.{checked, is_run_body, begins_single, HasNoSingle, block_with, IsReadSingle};
+ghost use Rattle.aec_block.specs.ReadCds.{checked, is_run_body, begins_single, HasNoSingle, IsReadSingle};
 
 use crate::reading::codewords::read_usual_numbers;
-use crate::reading::pairs::{keep_members, read_usual_pairs};
+use crate::reading::pairs::{clear_reference_place, read_usual_pairs};
 use crate::reading::values::{IN_FIRST_BLOCKS, read_usual_split};
 use crate::reading::{Kind, read_kind, read_pattern};
 use aec_bits::BitReader;
 use aec_params::{Fault, Params};
 
-/// Returns whether the next bits are the identifier of a coded data set of one block: by sample
+/// Returns whether the next bits are the identifier of a single coded data set: by sample
 /// splitting, no compression or the second extension. The reader doesn't move.
 #[inline(always)]
 pub fn is_single_next(params: &Params, reader: &mut BitReader) -> bool
@@ -36,7 +37,7 @@ pub fn is_single_next(params: &Params, reader: &mut BitReader) -> bool
     )
 }
 
-/// Reads a coded data set of one block without a reference sample into `values`, and moves past it.
+/// Reads a single coded data set without a reference sample into `values`, and moves past it.
 /// Returns false if none begins at the reader's place, or if a value of it is above the greatest
 /// that the width has; the reader then hasn't moved, and the contents of `values` are unspecified.
 /// Allocates nothing. Inlined for blocks of `N` values; other blocks are read too. `COPY` is for
@@ -82,9 +83,9 @@ pub fn read_single<const N: usize, const COPY: usize>(
     true
 }
 
-/// Reads a coded data set of one block with a reference sample into `values`, with 0 in the
-/// reference place. Returns the pattern of the reference sample; `None` or a fault if no such set
-/// comes next, or if a value of it is above the greatest that the width has.
+/// Reads a single coded data set with a reference sample into `values`, where the caller has
+/// written 0 to the reference place. Returns the pattern of the reference sample; `None` or a fault
+/// if no such set comes next, or if a value of it is above the greatest that the width has.
 #[inline(always)]
 fn fill_first<const N: usize, const M: usize>(
     params: &Params,
@@ -134,8 +135,8 @@ fn fill_first<const N: usize, const M: usize>(
     }
 }
 
-/// Reads a coded data set of one block with a reference sample into `values`, with 0 in the
-/// reference place, and moves past it. Returns the pattern of the reference sample. Returns `None`
+/// Reads a single coded data set with a reference sample into `values`, with 0 in the reference
+/// place, and moves past it. Returns the pattern of the reference sample. Returns `None`
 /// if no such set begins at the reader's place, or if a value of it is above the greatest that the
 /// width has; the reader then hasn't moved, and the contents of `values` are unspecified. Allocates
 /// nothing. Inlined for blocks of `N` values of which `M` are written; other blocks are read too.
@@ -163,7 +164,7 @@ pub fn read_single_first<const N: usize, const M: usize>(
 {
     params.known_allowed();
     let start = reader.pos();
-    keep_members(true, values);
+    clear_reference_place(true, values);
     match fill_first::<N, M>(params, reader, values) {
         Ok(Some(pattern)) => Some(pattern),
         Ok(None) => {

@@ -2,7 +2,7 @@ use Rattle.std.proofs.Common.{◌∙◌, Some, Ok, true, refl, ap}
 use Rattle.aec_block.specs.declared.cds.Cds.TheVariants.{Single}
 use Rattle.aec_block.specs.ReadAt.{taken, map_taken}
 use Rattle.aec_block.specs.Gathering.{bits_at, when}
-use Rattle.aec_block.specs.ReadCds.{block_with}
+use Rattle.aec_block.specs.BlockShape.{block_with}
 use Rattle.aec_params.specs.Places.{block_of_values}
 use Rattle.aec_block.proofs.NoSingleLemmas.{large_set}
 use Rattle.aec_block.proofs.SingleLemmas.{set_read, first_read, numbers_body, split_body, pairs_body, written_after}

@@ -3,7 +3,8 @@ use Rattle.std.specs.Option.{is_some}
 use Rattle.aec_block.specs.declared.cds.Cds.TheVariants.{Single}
 use Rattle.aec_block.specs.ReadAt.{taken, map_taken, cds_at}
 use Rattle.aec_block.specs.Gathering.{bits_at}
-use Rattle.aec_block.specs.ReadCds.{checked, block_with}
+use Rattle.aec_block.specs.BlockShape.{block_with}
+use Rattle.aec_block.specs.ReadCds.{checked}
 use Rattle.aec_block.proofs.NoSingleLemmas.{none_stands}
 use Rattle.aec_block.proofs.SingleLemmas.{of_some, single_read, single-below}
 use Rattle.aec_block.proofs.reading.single_sets.read_single_first.Goals as goal
