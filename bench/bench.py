@@ -119,7 +119,7 @@ def residues(chance):
 
 
 def walk_8(chance):
-    """Returns 8-bit samples: a walk by steps of up to 2, which turns back at 0 and at 255."""
+    """Returns 8-bit samples: a walk by steps of up to 2, which stops at 0 and at 255."""
     samples, x = bytearray(), 128
     for _ in range(MIB):
         x = min(max(x + chance.randrange(-2, 3), 0), 255)

@@ -5,8 +5,8 @@ Counts with `valgrind --tool=callgrind`, as bench/instructions.py does, the inst
 start, to code generated samples and to decode the result. Fails if a count is more than 3 % above the one in MEASURED: a count is the
 same in every run, so a higher one means that the program does more, or that the compiler no longer inlines a function.
 
-Counts too, with `--tool=cachegrind`, how many branches a block are mispredicted in coding, without those of the program's start, in
-valgrind's model of a processor. Fails if there are more than 10 % above MISPREDICTED: a test of a sample became a branch.
+Counts too, with `--tool=cachegrind`, the mispredicted branches a block in coding, without those of the program's start, in valgrind's
+model of a processor. Fails if there are more than 10 % above MISPREDICTED: a test of a sample became a branch.
 
 `--measure` prints new rows of both tables, for a change that takes fewer, or more for a good reason.
 
