@@ -33,7 +33,8 @@ from must_fail import Unusable, changed_texts, other_edits_of
 from sources import TOP, crate_lines, text_of
 
 REFUSED = "logic=not-proved"
-SECONDS = 900
+# The most seconds that a check over kept proofs may take, and one that may begin from nothing.
+SECONDS, SECONDS_ANEW = 900, 3600
 UNFINISHED = 3
 # Set once the run is told to stop.
 STOP = threading.Event()
@@ -129,13 +130,13 @@ def stop(number, frame):
     STOP.set()
 
 
-def output_of(words, folder):
+def output_of(words, folder, seconds):
     """Returns the status of a command and what it printed; None and nothing if it took too long.
     Raises Stopped if the run is told to stop before the command ends."""
     # A command in a session of its own doesn't get the signals that stop this run. This function can
     # end it with all that it has started.
     how = {"stdout": subprocess.PIPE, "stderr": subprocess.STDOUT, "start_new_session": True}
-    last = time.monotonic() + SECONDS
+    last = time.monotonic() + seconds
     with subprocess.Popen(words, cwd=folder, **how) as started:
         while True:
             try:
@@ -150,14 +151,14 @@ def output_of(words, folder):
             return None, b""
 
 
-def check(folder):
+def check(folder, seconds=SECONDS):
     """Returns the status of a check, None if it took too long, and the checker's lines without those
     of `rt`, which are advice. Raises Stopped if the run is told to stop before the check ends."""
     if STOP.is_set():
         raise Stopped
-    status, said = output_of(["rt", "check", "--jobs", "1"], folder)
+    status, said = output_of(["rt", "check", "--jobs", "1"], folder, seconds)
     if status is None:
-        return None, [f"no answer in {SECONDS} seconds"]
+        return None, [f"no answer in {seconds} seconds"]
     lines = said.decode(errors="replace").rstrip("\n").split("\n")
     return status, [line for line in lines if not line.startswith("rt: ")]
 
@@ -205,7 +206,7 @@ def try_crate(crate, edits, lines, room):
         return ends
     folder = copy_of(crate, lines, room)
     try:
-        if check(folder)[0] == 0:
+        if check(folder, SECONDS_ANEW)[0] == 0:
             for edit in edits:
                 name = f"{crate}/{edit.name}"
                 ends[name], said = tried(edit, folder)
