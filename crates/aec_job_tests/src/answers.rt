@@ -57,7 +57,8 @@ fn job_of(alloc: Global, options: &str) -> Result<Job, Fail> {
     }
     words.push("in")?;
     words.push("out")?;
-    let matches = command(alloc)?.try_get_matches_from(words.as_slice())?;
+    let command = command(alloc)?;
+    let matches = command.try_get_matches_from(words.as_slice())?;
     Ok(settings(alloc, &matches)?)
 }
 
