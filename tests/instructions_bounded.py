@@ -24,7 +24,7 @@ from concurrent.futures import ThreadPoolExecutor
 from program import TOP, Tally
 
 sys.path.insert(0, os.path.join(TOP, "bench"))
-from bench import detector, mask, ramp_with_noise, residues, walk
+from bench import detector, mask, noise_8, ramp_with_noise, residues, walk
 from instructions import STORAGE, counted, mispredicted
 
 SAMPLES = 200_000
@@ -55,34 +55,37 @@ INPUTS = {
     "ramp": (8, [], ramp_with_noise),
     "mask": (8, [], mask),
     "residues": (16, ["-s"], residues),
+    "noise without prediction": (8, ["-N"], noise_8),
 }
 
 # The kind of samples, J and r; and the instructions a sample that the proved program took in coding and in decoding.
 MEASURED = {
-    ("detector", 8, 128): (47.6, 45.9),
-    ("detector", 16, 128): (37.1, 38.7),
-    ("detector", 64, 128): (36.1, 38.7),
-    ("detector", 8, 2): (47.8, 44.1),
-    ("detector", 8, 1): (48.0, 45.3),
-    ("zeros", 8, 128): (19.1, 6.8),
+    ("detector", 8, 128): (48.6, 45.2),
+    ("detector", 16, 128): (38.8, 37.3),
+    ("detector", 64, 128): (36.4, 39.2),
+    ("detector", 8, 2): (49.4, 44.1),
+    ("detector", 8, 1): (50.6, 45.3),
+    ("zeros", 8, 128): (19.3, 6.9),
     ("zeros", 8, 8): (20.1, 10.2),
-    ("zeros", 8, 2): (22.8, 15.2),
+    ("zeros", 8, 2): (22.8, 15.3),
     ("zeros", 8, 1): (26.5, 24.7),
-    ("patches", 8, 1): (37.3, 73.0),
-    ("walk", 16, 128): (42.2, 51.8),
-    ("ramp", 8, 128): (47.0, 45.5),
-    ("mask", 8, 2): (48.6, 82.2),
-    ("mask", 16, 128): (44.2, 32.5),
-    ("mask", 64, 128): (39.2, 30.6),
-    ("residues", 8, 128): (58.2, 47.3),
+    ("patches", 8, 1): (38.3, 74.6),
+    ("walk", 16, 128): (44.2, 50.8),
+    ("ramp", 8, 128): (47.7, 44.8),
+    ("mask", 8, 2): (47.7, 78.5),
+    ("mask", 16, 128): (44.2, 32.1),
+    ("mask", 64, 128): (40.0, 30.3),
+    ("residues", 8, 128): (54.4, 45.2),
+    ("noise without prediction", 8, 128): (41.3, 30.3),
+    ("noise without prediction", 16, 128): (30.9, 23.1),
 }
 
 # The kind of samples, J and r; and the branches of a block that are mispredicted in coding.
 MISPREDICTED = {
-    ("detector", 8, 128): 0.7,
-    ("detector", 16, 128): 1.3,
-    ("detector", 64, 128): 7.0,
-    ("detector", 8, 2): 0.9,
+    ("detector", 8, 128): 0.46,
+    ("detector", 16, 128): 1.18,
+    ("detector", 64, 128): 8.72,
+    ("detector", 8, 2): 0.66,
 }
 
 
