@@ -116,8 +116,11 @@ keep_gate() {
 }
 
 commit=$(python3 packaging/proved.py commit)
-echo "make test takes about 35 minutes on four processors that nothing else uses, 65 on two; this machine has $(getconf _NPROCESSORS_ONLN)."
-echo "Crates whose files are as they were in an earlier run on this machine aren't proved again."
+# As measured on 29 November 2026, on a busy host (`make gate-times`).
+work=190
+processors=$(getconf _NPROCESSORS_ONLN)
+echo "make test has about $work minutes of work for one processor, so at least $((work / processors)) for the $processors of this machine."
+echo "On four it took 62. Crates whose files are as they were in an earlier run on this machine aren't proved again."
 echo "$parts" > "$kept/parts"
 last=
 while read -r name command; do
@@ -130,7 +133,7 @@ if [ -n "$last" ]; then
     explain "$last"
 fi
 last=${last:-gate}
-echo "== seconds of each part, on $(getconf _NPROCESSORS_ONLN) processors"
+echo "== seconds of each part, on $processors processors"
 cat "$kept/times"
 echo "== $last"
 tail -n 1 "$kept/$last.log" | grep -E '[0-9]+ passed, [0-9]+ failed' || echo "0 passed, 1 failed"
