@@ -82,9 +82,10 @@ pub(crate) fn read_block_numbers(
     }
 }
 
-/// `read_numbers`, inlined for `N` numbers, the usual count here; else `read_block_numbers`.
+/// `read_numbers`, inlined for `N` numbers, the usual count here; else `read_block_numbers`. Each
+/// `COPY` has one caller for each `N`.
 #[inline(always)]
-pub(crate) fn read_usual_numbers<const N: usize>(
+pub(crate) fn read_usual_numbers<const N: usize, const COPY: usize>(
     reader: &mut BitReader,
     width: u32,
     numbers: &mut [u32],

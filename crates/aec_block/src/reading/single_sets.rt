@@ -67,7 +67,9 @@ pub fn read_single<const N: usize, const COPY: usize>(
     params.known_allowed();
     let start = reader.pos();
     let read = match read_kind(params, reader) {
-        Ok(Kind::NoCompression) => read_usual_numbers::<N>(reader, params.bits(), values).is_ok(),
+        Ok(Kind::NoCompression) => {
+            read_usual_numbers::<N, COPY>(reader, params.bits(), values).is_ok()
+        }
         Ok(Kind::Split(k)) => {
             read_usual_split::<N, COPY>(params, reader, k, values).unwrap_or(false)
         }
@@ -116,7 +118,7 @@ fn fill_first<const N: usize, const M: usize>(
     let pattern = read_pattern(params, reader)?;
     match kind {
         Kind::NoCompression => {
-            read_usual_numbers::<M>(reader, params.bits(), &mut values[1..])?;
+            read_usual_numbers::<M, IN_FIRST_BLOCKS>(reader, params.bits(), &mut values[1..])?;
             Ok(Some(pattern))
         }
         Kind::Split(k) => {
