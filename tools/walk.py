@@ -36,7 +36,7 @@ WAYS = [
     ),
     Way(
         "A decoded sample, of a block read at once",
-        ["aec_engine::engine::decoding::decode", "StreamReader::next_few", "single_blocks::fill_single_blocks", "single_sets::read_single",
+        ["aec_engine::engine::decoding::decode", "StreamReader::next_few", "untested_blocks::fill_next", "single_sets::read_single",
          "BitReader::read_sequences", "BitBuf::word_from"],
     ),
     Way(

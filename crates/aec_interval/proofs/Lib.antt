@@ -37,11 +37,11 @@ pub mod RefusalLemmas
 pub mod WantedSetLemmas
 pub mod ReadNextLemmas
 pub mod ReadIntervalLemmas
-pub mod SingleBlockLemmas
+pub mod UntestedLemmas
 pub mod ReachedPlaceLemmas
 pub mod PieceReadingLemmas
 pub mod ShortLemmas
-pub mod ZeroIntervalLemmas
+pub mod UntestedRunLemmas
 pub mod SkippingLemmas
 pub mod IntervalFormatLemmas
 pub mod IntervalReadingLemmas

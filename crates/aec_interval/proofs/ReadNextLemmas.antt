@@ -49,7 +49,7 @@ read_len-answer_of reference (value_pairs members) = refl
 read_len-answer_of reference (split_values k values) = refl
 read_len-answer_of reference (zero_blocks m) = refl
 
-skipped-read : (s : Settings) (due : Bool) (old new : Cursor) (c : CodedDataSet) (cds : Cds) (len : RunLen) → len ≡ read_len cds
+pub skipped-read : (s : Settings) (due : Bool) (old new : Cursor) (c : CodedDataSet) (cds : Cds) (len : RunLen) → len ≡ read_len cds
     → IsReadAs s due old new c cds → IsSkippedAs s due old new c len
 skipped-read s due old new c cds len len_is read = record {
   read = record { set = read.set; small = read.small; behind = read.behind; answer = refl };

@@ -1,6 +1,6 @@
--- Whole intervals of single blocks, of which none needs a test of its place.
+-- Whole intervals of blocks, of which none needs a test of its place.
 use Rattle.std.proofs.Common.{◌≡◌, ℕ, ◌+◌, ◌-◌, ◌*◌, ◌/◌, ◌%◌, ◌<◌, ◌≤◌, ◌^◌, ◌==◌, ◌&&◌, Bool, true, false, if◌then◌else◌, Option, Some, None, Ok, ℤ, pos, List, [], ◌∷◌, ◌++◌, length, take, drop, ⊎_elim, refl, sym, ap, ◌∙◌, subst, arith}
-use Rattle.std.proofs.Math.Nat.{mul-le-mul_right, add-mul-mod_self_right, add-mul, div-mul-le_self, le-mul_of_pos_right}
+use Rattle.std.proofs.Math.Nat.{one-mul, mul_comm, mul-le-mul_right, add-mul-mod_self_right, add-mul, div-mul-le_self, le-mul_of_pos_right}
 use Rattle.std.proofs.lemmas.Bool.{cases_lt}
 use Rattle.std.proofs.lemmas.List.{take_at, length-take, length-take-le}
 use borrow.Rule.Slice.PartMut.{put_mid}
@@ -8,78 +8,98 @@ use Rattle.std.specs.List.{AllByRecursion}
 use Rattle.aec_params.specs.declared.settings.Settings.{Settings}
 use Rattle.aec_params.specs.Params.{IsAllowed, IsHeld, interval_len, sample_pattern}
 use Rattle.aec_params.specs.Blocks.{Block}
-use Rattle.aec_params.specs.Places.{is_reference_block, block_of_values}
+use Rattle.aec_params.specs.Places.{segment_left, is_reference_block, block_of_values}
 use Rattle.aec_params.specs.CodedDataSets.{CodedDataSet}
 use Rattle.aec_params.specs.Reading.{is_wanted, LeadsTo, stream_blocks, kept_blocks, FillBlocks}
 use Rattle.aec_params.proofs.SettingLaws.{block_size-positive, interval-positive}
 use Rattle.aec_bits.specs.BitReader.{Cursor, has_one}
+use Rattle.aec_block.specs.declared.cds.RunLen.{RunLen}
 use Rattle.aec_block.specs.declared.cds.RunLen.TheVariants.{Blocks}
+use Rattle.aec_block.specs.declared.cds.Cds.{Cds}
 use Rattle.aec_block.specs.declared.cds.Cds.TheVariants.{Single}
 use Rattle.aec_block.specs.Gathering.{bits_at}
 use Rattle.aec_block.specs.ReadCds.{IsReadAs, IsReadSingle}
+use Rattle.aec_block.specs.SkipCds.{read_len}
 use Rattle.aec_block.specs.Unmapping.{Unmaps}
-use Rattle.aec_interval.specs.NextBlock.{IsNextBlock, FillsNext}
-use Rattle.aec_interval.specs.NextSet.{kept_count, block_behind}
-use Rattle.aec_interval.specs.Reached.{IsReached}
+use Rattle.aec_interval.specs.NextBlock.{FillsNext}
+use Rattle.aec_interval.specs.NextSet.{run_count, kept_count, block_behind, IsNextCds, cds_front}
+use Rattle.aec_interval.specs.Reached.{AreFilled, IsReached}
 use Rattle.aec_interval.specs.Pieces.{Place, place_at, counted_from, ReadsIntervals}
 use Rattle.aec_interval.specs.Steps.{IsUntestedEnd}
-use Rattle.aec_interval.specs.SingleBlocks.{IsUntestedAt, ReadsSingle}
+use Rattle.aec_interval.specs.UntestedBlocks.{IsUntestedAt, ReadsBlocks}
 use Rattle.aec_interval.specs.ShortIntervals.{AreWithin, begun_at, ReadsFirst, ReadsWhole}
 use Rattle.aec_interval.proofs.NextFillLemmas.{fills_block_single, fills_block_reference}
 use Rattle.aec_interval.proofs.ReadNextLemmas.{reached-start, next-cds, reached-next}
 use Rattle.aec_interval.proofs.PlaceLemmas.{LeadsTo-append, stream_blocks-append}
-use Rattle.aec_interval.proofs.ReachedLemmas.{length-stream_blocks, kept_blocks-append, kept_blocks-wanted}
+use Rattle.aec_interval.proofs.ReachedLemmas.{length-stream_blocks, kept_blocks-append, kept_blocks-wanted, AreFilled-reached}
 use Rattle.aec_interval.proofs.PieceReadingLemmas.{FillBlocks-append}
-use Rattle.aec_interval.proofs.SingleBlockLemmas.{untested-within, few_samples, wanted_here, untested-placed, untested-begins}
+use Rattle.aec_interval.proofs.UntestedLemmas.{untested-within, few_samples, wanted_here, untested-placed, untested-begins, untested-kept, none_read}
 
--- ---- the first block of an interval
+-- ---- the first blocks of an interval
 
--- the first block was read, with a reference sample or without one
-module _ (s : Settings) (old new : Cursor) (due : Bool) (block : Block) (more : List ℤ) (allowed : IsAllowed s) (is_due : s.preprocess ≡ due)
-    (all : due ≡ (due && true)) (read : (c : CodedDataSet) × IsReadAs s due old new c (Single block)) (one : has_one (bits_at old) ≡ true)
-    (fills : IsNextBlock s [] block → FillsNext s [] more (block ∷ [])) where
+-- the coded data set with which an interval begins was read, with a reference sample or without
+-- one; it stands for z blocks
+module _ (s : Settings) (old new : Cursor) (due : Bool) (cds : Cds) (len : RunLen) (z : ℕ) (more : List ℤ) (allowed : IsAllowed s)
+    (is_due : s.preprocess ≡ due) (all : due ≡ (due && true)) (len_is : len ≡ read_len cds) (read : (c : CodedDataSet) × IsReadAs s due old new c cds)
+    (one : has_one (bits_at old) ≡ true) (count_is : run_count s 0 len ≡ z) (some : 1 ≤ z) (fits : z ≤ segment_left s 0)
+    (fills : (k : ℕ) → AreFilled s k [] → IsNextCds s k [] z cds → FillsNext s [] more (cds_front s z cds)) where
   module _ (count : Option ℕ) (limit i : ℕ) (aligned : i % s.interval ≡ 0) (ends : IsUntestedEnd s count limit i (i + s.interval)) where
-    before : i < i + s.interval
-    before = omega (arith, interval-positive s allowed)
+    within : i + z ≤ i + s.interval
+    within = omega (arith, fits)
 
     wanted : is_wanted s count old.list i old.pos ≡ true
-    wanted = wanted_here s count limit i (i + s.interval) i old allowed aligned (omega arith) ends before one
+    wanted = wanted_here s count limit i (i + s.interval) i z old allowed aligned (omega arith) ends some within one
 
     due-there : due ≡ is_reference_block s (i % s.interval)
     due-there = all ∙ sym (ap (λ b. b && (i % s.interval == 0)) is_due ∙ ap (λ n. due && (n == 0)) aligned)
 
-    placed : Ok (i + 1) ≡ block_behind s count limit i 1 0
-    placed = untested-placed s count limit i (i + s.interval) i old allowed aligned (omega arith) ends before one
+    placed : Ok (i + z) ≡ block_behind s count limit i (run_count s (i % s.interval) len) 0
+    placed =
+        untested-placed s count limit i (i + s.interval) i z old allowed aligned (omega arith) ends some within one
+        (subst (λ p. z ≤ segment_left s p) (sym aligned) fits)
+        ∙ ap (λ k. block_behind s count limit i k 0) (sym (ap (λ p. run_count s p len) aligned ∙ count_is))
 
     begun : IsReached s count limit old.list i old.pos i old.pos []
     begun = reached-start s count limit old.list i old.pos old.pos [] refl refl
 
-    next : IsNextBlock s [] block
-    next = next-cds s count limit i old.pos old new i [] allowed begun wanted due (Single block) (Blocks 1) due-there refl read 0 (i + 1) placed
-        (kept_count s count i (i + 1 - i)) (i - i) aligned refl refl
+    kept : z ≡ kept_count s count i (i + z - i)
+    kept = untested-kept s count limit i (i + s.interval) i z old allowed aligned (omega arith) ends some within one
 
-    first-leads : IsUntestedAt s (begun_at count limit i old.pos) (i + s.interval) (i + 1) new more
+    next : IsNextCds s (i - i) [] z cds
+    next = next-cds s count limit i old.pos old new i [] allowed begun wanted due cds len due-there len_is read 0 (i + z) placed z (i - i) aligned refl kept
+
+    filled : AreFilled s (i - i) []
+    filled = AreFilled-reached s count limit old.list i old.pos i old.pos [] allowed begun wanted
+
+    first-leads : IsUntestedAt s (begun_at count limit i old.pos) (i + s.interval) (i + z) new more
     first-leads = record {
-      reached = reached-next s count limit i old.pos old new i [] allowed begun wanted due (Single block) (Blocks 1) due-there refl read
-          0 (i + 1) placed (kept_count s count i (i + 1 - i)) more new.list new.pos refl (fills next) refl
-          (untested-begins s count limit i (i + s.interval) i old allowed aligned (omega arith) ends before one new.list new.pos);
+      reached = reached-next s count limit i old.pos old new i [] allowed begun wanted due cds len due-there len_is read 0 (i + z) placed z more
+          new.list new.pos kept (fills (i - i) filled next) refl
+          (untested-begins s count limit i (i + s.interval) i z old allowed aligned (omega arith) ends some within one new.list new.pos);
       aligned = aligned;
-      behind = omega arith;
+      behind = omega (arith, some);
       untested = ends;
     }
 
-  reads_block : new.list ≡ old.list → AllByRecursion (IsHeld s) more → ReadsFirst s old new more
-  reads_block same held = record { list = same; held = held; leads = first-leads }
+  pub reads_front : new.list ≡ old.list → AllByRecursion (IsHeld s) more → ReadsFirst s z old new more
+  reads_front same held = record { list = same; held = held; leads = first-leads }
+
+-- the first segment of an interval has room for one block, that of a short interval for all
+pub first_fits : (s : Settings) (z : ℕ) → IsAllowed s → s.interval ≤ 64 → z ≤ s.interval → z ≤ segment_left s 0
+first_fits s z allowed short within = omega (arith, short, within)
+
+one_first : (s : Settings) → IsAllowed s → 1 ≤ segment_left s 0
+one_first s allowed = omega (arith, interval-positive s allowed)
 
 held-unmapped : (s : Settings) (x : ℤ) (values : List ℕ) (more : List ℤ) → Unmaps s x values [] more → AllByRecursion (IsHeld s) more
 held-unmapped s x values more unmaps = subst (AllByRecursion (IsHeld s)) (sym unmaps.appended) unmaps.held
 
 pub reads_first : (s : Settings) (old new : Cursor) (pattern : ℕ) (values : List ℕ) (x : ℤ) (more : List ℤ) → IsAllowed s → s.preprocess ≡ true
     → IsReadSingle s old new (Some pattern) values → has_one (bits_at old) ≡ true → IsHeld s x → sample_pattern s x ≡ pattern → Unmaps s x values [] more
-    → new.list ≡ old.list → ReadsFirst s old new more
+    → new.list ≡ old.list → ReadsFirst s 1 old new more
 reads_first s old new pattern values x more allowed on read one held pattern_is unmaps same =
-    reads_block s old new true block more allowed on refl (read.set, read.read) one
-    (λ next. fills_block_reference s [] more block pattern x values allowed next refl held pattern_is refl unmaps) same
+    reads_front s old new true (Single block) (Blocks 1) 1 more allowed on refl refl (read.set, read.read) one refl (omega arith) (one_first s allowed)
+    (λ k filled next. fills_block_reference s [] more block pattern x values allowed next refl held pattern_is refl unmaps) same
     (held-unmapped s x values more unmaps)
   where
     block : Block
@@ -87,16 +107,18 @@ reads_first s old new pattern values x more allowed on read one held pattern_is 
 
 pub reads_unpredicted : (s : Settings) (old new : Cursor) (values : List ℕ) (x : ℤ) (more : List ℤ) → IsAllowed s → s.preprocess ≡ false
     → IsReadSingle s old new None values → has_one (bits_at old) ≡ true → x ≡ pos 0 → Unmaps s x values [] more → new.list ≡ old.list
-    → ReadsFirst s old new more
+    → ReadsFirst s 1 old new more
 reads_unpredicted s old new values x more allowed off read one zero unmaps same =
-    reads_block s old new false (block_of_values None values) more allowed off refl (read.set, read.read) one
-    (λ next. fills_block_single s [] more (block_of_values None values) x values allowed next refl zero refl unmaps) same
+    reads_front s old new false (Single (block_of_values None values)) (Blocks 1) 1 more allowed off refl refl (read.set, read.read) one refl (omega arith)
+    (one_first s allowed)
+    (λ k filled next. fills_block_single s [] more (block_of_values None values) x values allowed next refl zero refl unmaps) same
     (held-unmapped s x values more unmaps)
 
--- the number of filled places is the number of values
-pub filled_places : {X : Type 0} (filled samples : List X) (n size : ℕ) → length filled ≡ length (take n samples) → n ≡ size → size ≤ length samples
-    → length filled ≡ size
-filled_places filled samples n size is all room = omega (arith, is, all, room, length-take n samples)
+-- the places that were filled are those of the first block
+pub filled_front : {X : Type 0} (filled rest samples : List X) (n size : ℕ) → length filled ≡ length (take n samples) → n ≡ size → size ≤ length samples
+    → take (1 * size) (filled ++ rest) ≡ filled
+filled_front filled rest samples n size is all room =
+    take_at filled rest (1 * size) (omega (arith, is, all, room, length-take n samples, one-mul size))
 
 -- ---- one interval
 
@@ -105,19 +127,26 @@ pub whole_end : (s : Settings) (count : Option ℕ) (limit i n : ℕ) → IsAllo
 whole_end s count limit i n allowed is within =
     untested-within s count limit i n 0 n allowed within.low within.counted is (sym (ap (λ b. if b then 1 else 0) within.unpadded)) (omega arith) within.samples
 
--- the first block of an interval, and the others
-pub reads_interval : (s : Settings) (rest : ℕ) (old mid new : Cursor) (first samples : List ℤ) → IsAllowed s → 1 + rest ≡ s.interval
-    → ReadsFirst s old mid first → ReadsSingle s rest mid first new samples → ReadsWhole s 1 old new samples
-reads_interval s rest old mid new first samples allowed all begun rest_read = record {
+-- the first blocks of an interval, and the others
+pub reads_interval : (s : Settings) (first rest : ℕ) (old mid new : Cursor) (front samples : List ℤ) → IsAllowed s → first + rest ≡ s.interval
+    → ReadsFirst s first old mid front → ReadsBlocks s first rest mid front new samples → ReadsWhole s 1 old new samples
+reads_interval s first rest old mid new front samples allowed all begun rest_read = record {
   list = rest_read.list ∙ begun.list;
   leads = λ count limit i aligned within.
       let one : i + 1 * s.interval ≡ i + s.interval = omega arith in
       let ends : IsUntestedEnd s count limit i (i + s.interval) = subst (IsUntestedEnd s count limit i) one (whole_end s count limit i _ allowed one within) in
-      let there = rest_read.leads (begun_at count limit i old.pos) (i + s.interval) (i + 1) (omega (arith, all)) (begun.leads count limit i aligned ends) in
-      let end : i + 1 + rest ≡ i + 1 * s.interval = omega (arith, all) in
+      let there = rest_read.leads (begun_at count limit i old.pos) (i + s.interval) (i + first) refl (omega (arith, all))
+      (begun.leads count limit i aligned ends) in
+      let end : i + first + rest ≡ i + 1 * s.interval = omega (arith, all) in
       subst (λ j. IsReached s count limit old.list i old.pos j new.pos samples) end
-      (subst (λ list. IsReached s count limit list i old.pos (i + 1 + rest) new.pos samples) (rest_read.list ∙ begun.list) there.reached);
+      (subst (λ list. IsReached s count limit list i old.pos (i + first + rest) new.pos samples) (rest_read.list ∙ begun.list) there.reached);
 }
+
+-- the first blocks of an interval, if these are all
+pub reads_whole : (s : Settings) (n : ℕ) (old new : Cursor) (samples : List ℤ) → IsAllowed s → n ≡ s.interval → ReadsFirst s n old new samples
+    → ReadsWhole s 1 old new samples
+reads_whole s n old new samples allowed all first =
+    reads_interval s n 0 old new new samples samples allowed (omega (arith, all)) first (none_read s n new samples first.held)
 
 -- ---- intervals one after the other
 
@@ -211,12 +240,11 @@ front_kept xs part at k within = take_at (take at xs) (part ++ drop k (drop at x
 
 -- ---- how many samples
 
-pub whole_len : (n j r len : ℕ) → 0 < r → n ≡ j → len ≡ j * r → len ≡ n + (r - 1) * n
-whole_len n j r len some same is =
-    is ∙ (ap (λ r. j * r) (omega (arith, some)) ∙ (expanded (r - 1) j ∙ ap (λ j. j + (r - 1) * j) (sym same)))
-  where
-    expanded : (k j : ℕ) → j * (k + 1) ≡ j + k * j
-    expanded k j = omega arith
+-- the samples of the first blocks, and of the others
+pub rest_len : (first n j r len : ℕ) → first ≤ r → n ≡ j → len ≡ j * r → len ≡ first * n + (r - first) * j
+rest_len first n j r len within same is =
+    let all : first + (r - first) ≡ r = omega (arith, within) in
+    omega (arith, is, mul_comm j r, ap (λ k. k * j) all, add-mul first (r - first) j, ap (λ n. first * n) same)
 
 pub part_fits : (at count most len interval total : ℕ) → at ≡ count * len → count < most → len ≡ interval → most * interval ≤ total → at + len ≤ total
 part_fits at count most len interval total place below same room =

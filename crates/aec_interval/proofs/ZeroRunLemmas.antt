@@ -160,7 +160,7 @@ reference-on s p r due = by_preprocess s.preprocess refl due
     by_preprocess false off due = absurd due
 
 -- the sample of a pattern
-sample-of-pattern : (s : Settings) (m : ℕ) → IsAllowed s → m < 2 ^ s.bits → IsHeld s (pattern_value s m) × (sample_pattern s (pattern_value s m) ≡ m)
+pub sample-of-pattern : (s : Settings) (m : ℕ) → IsAllowed s → m < 2 ^ s.bits → IsHeld s (pattern_value s m) × (sample_pattern s (pattern_value s m) ≡ m)
 sample-of-pattern s m allowed small =
     let reached = pattern-reaches s m allowed small in
     let x : ℤ = reached.0 in

@@ -13,5 +13,5 @@ pub mod CutLaws
 pub mod PieceLaws
 pub mod Skipping
 pub mod Steps
-pub mod SingleBlocks
+pub mod UntestedBlocks
 pub mod ShortIntervals

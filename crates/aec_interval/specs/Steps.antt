@@ -1,6 +1,6 @@
 -- For proofs alone: no public contract cites this file.
 -- What the steps of a reading need and how far they come, whether they make samples or skip them:
--- for the private functions of `reading`, `reading::single_blocks` and `reading::skipping`. The
+-- for the private functions of `reading`, `reading::untested_blocks` and `reading::skipping`. The
 -- contract of `decode_all` cites `IsReading` and `IsFault` instead.
 use Rattle.std.specs.Prelude.{◌≡◌, ◌<◌, ◌≤◌, ◌+◌, ◌%◌, ◌^◌, ℕ, Bool, true, Option, IfSome, List}
 use Rattle.std.specs.Int.{div_ceil}

@@ -2,8 +2,9 @@
 
 pub(crate) mod samples;
 pub(crate) mod short;
-mod single_blocks;
+pub(crate) mod short_interval;
 pub(crate) mod skipping;
+mod untested_blocks;
 pub(crate) mod whole;
 mod zero_runs;
 
@@ -23,7 +24,7 @@ ghost use Rattle.aec_interval.specs.Steps.{IsWantedNext, ComesNext, IsGoneOver};
 ghost use Rattle.aec_interval.specs.Reached.{AreFilled, IsReached, IsReadFrom, RefusesReading, RefusesUpTo};
 
 use crate::reading::samples::push_block;
-use crate::reading::single_blocks::read_single_blocks;
+use crate::reading::untested_blocks::read_untested_blocks;
 use crate::reading::zero_runs::push_zero_run;
 use crate::segment::SEGMENT_BLOCKS;
 use aec_bits::{BitBuf, BitReader};
@@ -107,7 +108,7 @@ fn within_limit(params: &Params, wanted: Wanted, blocks: u64) -> bool
 }
 
 /// If the parameters pad and block `block` begins an interval, moves to the next byte boundary. The
-/// loop in `single_blocks` needs no such call: with padding it ends before the interval's last
+/// loop in `untested_blocks` needs no such call: with padding it ends before the interval's last
 /// block.
 pub(crate) fn skip_padding(params: &Params, reader: &mut BitReader, block: u64)
     ensures list { reader.new.list ≡ reader.old.list }
@@ -300,7 +301,7 @@ pub(crate) fn read_interval(
     loop {
         let place = block - wanted.first;
         let behind = read_next(params, wanted, reader, block, place, values, samples)?;
-        block = read_single_blocks(params, wanted, reader, behind, end, samples)?;
+        block = read_untested_blocks(params, wanted, reader, behind, end, samples)?;
         if !goes_on(params, wanted, reader, block, end) {
             return Ok(block);
         }

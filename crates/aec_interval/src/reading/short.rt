@@ -1,22 +1,19 @@
-//! Reads several short intervals at a time, each of single blocks only or one run of zero blocks,
-//! if no block needs a test of its place. `read_short` sets the greatest number, `fill_intervals`
-//! reads while one follows, `fill_interval` reads one, `fill_first_block` its first block.
+//! Reads several short intervals at a time, if no block needs a test of its place. `read_short`
+//! sets the greatest number, `fill_intervals` reads while `fill_interval` reads one more.
 
-ghost use Rattle.std.specs.Prelude.{◌≡◌, ◌≤◌, ◌<◌, ◌+◌, ◌-◌, ◌*◌, ◌%◌, ◌^◌, ℕ, true, false, max, length, take, replicate, vec_len, vec_capacity, IfSome};
+ghost use Rattle.std.specs.Prelude.{◌≡◌, ◌≤◌, ◌<◌, ◌+◌, ◌-◌, ◌*◌, ◌%◌, ◌^◌, ℕ, false, max, length, vec_len, vec_capacity, IfSome};
 ghost use Rattle.std.specs.Option.{is_some};
-ghost use Rattle.std.specs.List.{AllByRecursion};
-ghost use Rattle.aec_params.specs.Params.{IsHeld, interval_len};
+ghost use Rattle.aec_params.specs.Params.{interval_len};
 ghost use Rattle.aec_block.specs.BlockShape.{most_values};
 ghost use Rattle.aec_interval.specs.Reached.{IsReached};
-ghost use Rattle.aec_interval.specs.SingleBlocks.{ReadsSingle};
-ghost use Rattle.aec_interval.specs.ShortIntervals.{AreWithin, ReadsWhole, FillsFirst, FillsInterval, FillsIntervals};
+ghost use Rattle.aec_interval.specs.ShortIntervals.{AreWithin, FillsIntervals};
 
-use crate::block_sizes::FIRST_UNPREDICTED;
-use crate::reading::single_blocks::fill_single_blocks;
-use crate::reading::zero_runs::repeated_sample;
-use crate::reading::{Wanted, block_count};
+use crate::reading::Wanted;
+use crate::reading::short_interval::{
+    PREDICTED, UNPREDICTED, ZEROS, fill_interval, read_whole_run,
+};
 use aec_bits::BitReader;
-use aec_block::{is_single_next, read_run, read_single, read_single_first, unmap_into};
+use aec_block::is_single_next;
 use aec_params::Params;
 
 /// The greatest number of samples that are read at a time.
@@ -29,158 +26,6 @@ const MAX_SHORT_BLOCKS: u32 = 8;
 /// At least this many places are made at a time.
 const MIN_PLACES: usize = 64;
 
-/// The kind of an interval that is one run of zero blocks.
-const ZEROS: usize = 10;
-
-/// The kind of an interval of single blocks whose samples are predicted. It is also the number of
-/// the copy of `read_single` for the blocks after the first.
-const PREDICTED: usize = 11;
-
-/// The kind of an interval of single blocks whose samples aren't predicted. It is also the number
-/// of the copy of `read_single` for the blocks after the first.
-const UNPREDICTED: usize = 12;
-
-/// Reads the next block as the first of its interval, with a reference sample, if it is a single
-/// one, and writes its samples to the front of `samples`. Else returns false. `N` is the block size
-/// for which this is compiled, `M` the number of values after a reference sample: one less.
-#[inline(always)]
-fn fill_reference_block<const N: usize, const M: usize>(
-    params: &Params,
-    reader: &mut BitReader,
-    values: &mut [u32],
-    samples: &mut [i64],
-) -> bool
-    requires on { params.now.preprocess ≡ true }
-    requires count { length values.old ≡ params.now.block_size }
-    requires room { params.now.block_size ≤ length samples.old }
-    ensures { FillsFirst params.now reader.old values.old samples.old result reader.new values.new
-        samples.new }
-{
-    params.known_allowed();
-    match read_single_first::<N, M>(params, reader, values) {
-        None => false,
-        Some(pattern) => {
-            let first = params.value(pattern);
-            let len = values.len();
-            unmap_into(params, first, values, &mut samples[..len]);
-            true
-        }
-    }
-}
-
-/// `fill_reference_block` without a reference sample, if no sample is predicted.
-#[inline(always)]
-fn fill_unpredicted_block<const N: usize>(
-    params: &Params,
-    reader: &mut BitReader,
-    values: &mut [u32],
-    samples: &mut [i64],
-) -> bool
-    requires off { params.now.preprocess ≡ false }
-    requires count { length values.old ≡ params.now.block_size }
-    requires room { params.now.block_size ≤ length samples.old }
-    ensures { FillsFirst params.now reader.old values.old samples.old result reader.new values.new
-        samples.new }
-{
-    params.known_allowed();
-    if !read_single::<N, FIRST_UNPREDICTED>(params, reader, values) {
-        return false;
-    }
-    let len = values.len();
-    unmap_into(params, 0, values, &mut samples[..len]);
-    true
-}
-
-/// `fill_reference_block` or `fill_unpredicted_block`, for an interval of kind `KIND`.
-#[inline(always)]
-fn fill_first_block<const N: usize, const M: usize, const KIND: usize>(
-    params: &Params,
-    reader: &mut BitReader,
-    values: &mut [u32],
-    samples: &mut [i64],
-) -> bool
-    requires count { length values.old ≡ params.now.block_size }
-    requires room { params.now.block_size ≤ length samples.old }
-    ensures { FillsFirst params.now reader.old values.old samples.old result reader.new values.new
-        samples.new }
-{
-    if params.preprocess() {
-        KIND == PREDICTED && fill_reference_block::<N, M>(params, reader, values, samples)
-    } else {
-        KIND == UNPREDICTED && fill_unpredicted_block::<N>(params, reader, values, samples)
-    }
-}
-
-/// Reads the other blocks of an interval whose first block was read, if they are single blocks, and
-/// writes their samples after those of the first. Else returns false.
-#[inline(always)]
-fn fill_rest<const N: usize, const COPY: usize>(
-    params: &Params,
-    reader: &mut BitReader,
-    values: &mut [u32],
-    samples: &mut [i64],
-) -> bool
-    requires size { N ≡ params.now.block_size }
-    requires count { length values.old ≡ params.now.block_size }
-    requires held { AllByRecursion (IsHeld params.now) (take N samples.old) }
-    requires len { length samples.old ≡ interval_len params.now }
-    ensures ok { result ≡ true → ReadsSingle params.now (params.now.interval - 1) reader.old
-        (take N samples.old) reader.new samples.new }
-    ensures list { reader.new.list ≡ reader.old.list }
-    ensures count { length values.new ≡ length values.old }
-    ensures len { length samples.new ≡ length samples.old }
-{
-    let rest = params.interval() as usize - 1;
-    fill_single_blocks::<N, COPY>(params, reader, rest, values, samples, N) == rest
-}
-
-/// Reads the next interval, if all its blocks are single ones, and writes its samples to `samples`.
-/// Else returns false, and the reader hasn't moved.
-#[inline(always)]
-fn fill_single_interval<const N: usize, const M: usize, const KIND: usize>(
-    params: &Params,
-    reader: &mut BitReader,
-    values: &mut [u32],
-    samples: &mut [i64],
-) -> bool
-    requires size { N ≡ params.now.block_size }
-    requires count { length values.old ≡ params.now.block_size }
-    requires len { length samples.old ≡ interval_len params.now }
-    ensures fills { FillsInterval params.now reader.old samples.old result reader.new samples.new }
-    ensures count { length values.new ≡ length values.old }
-{
-    params.known_allowed();
-    let start = reader.pos();
-    if fill_first_block::<N, M, KIND>(params, reader, values, samples)
-        && fill_rest::<N, KIND>(params, reader, values, samples)
-    {
-        return true;
-    }
-    reader.seek(start);
-    false
-}
-
-/// Reads the next run of zero blocks, if it is as long as the interval that begins with it, and
-/// returns the sample that it repeats. Else returns `None`, and the reader hasn't moved.
-#[inline(always)]
-fn read_whole_run(params: &Params, reader: &mut BitReader) -> Option<i64>
-    requires { params.now.interval ≤ 64 }
-    ensures ok { IfSome result (λ sample. ReadsWhole params.now 1 reader.old reader.new
-        (replicate (interval_len params.now) sample)) }
-    ensures stays { is_some result ≡ false → reader.new ≡ reader.old }
-    ensures list { reader.new.list ≡ reader.old.list }
-{
-    params.known_allowed();
-    let start = reader.pos();
-    if let Some((reference, len)) = read_run(params, reader, params.preprocess()) {
-        if block_count(params, 0, len) == u64::from(params.interval()) {
-            return Some(repeated_sample(params, reference, &[]));
-        }
-    }
-    reader.seek(start);
-    None
-}
-
 /// Returns whether the next interval is short and one run of zero blocks; no clause says so. The
 /// reader doesn't move.
 pub(crate) fn is_zero_interval_next(params: &Params, reader: &mut BitReader) -> bool
@@ -190,43 +35,6 @@ pub(crate) fn is_zero_interval_next(params: &Params, reader: &mut BitReader) -> 
     let comes = params.interval() <= MAX_SHORT_BLOCKS && read_whole_run(params, reader).is_some();
     reader.seek(start);
     comes
-}
-
-/// Reads the next interval, if it is one run of zero blocks, and writes its samples to `samples`.
-/// Else returns false, and the reader hasn't moved.
-#[inline(always)]
-fn fill_zero_interval(params: &Params, reader: &mut BitReader, samples: &mut [i64]) -> bool
-    requires short { params.now.interval ≤ 64 }
-    requires len { length samples.old ≡ interval_len params.now }
-    ensures { FillsInterval params.now reader.old samples.old result reader.new samples.new }
-{
-    let Some(sample) = read_whole_run(params, reader) else {
-        return false;
-    };
-    samples.fill(sample);
-    true
-}
-
-/// Reads the next interval, if it is of kind `KIND`, and writes its samples to `samples`. Else
-/// returns false, and the reader hasn't moved. One loop for all kinds would make each slower.
-#[inline(always)]
-fn fill_interval<const N: usize, const M: usize, const KIND: usize>(
-    params: &Params,
-    reader: &mut BitReader,
-    values: &mut [u32],
-    samples: &mut [i64],
-) -> bool
-    requires size { N ≡ params.now.block_size }
-    requires short { params.now.interval ≤ 64 }
-    requires count { length values.old ≡ params.now.block_size }
-    requires len { length samples.old ≡ interval_len params.now }
-    ensures fills { FillsInterval params.now reader.old samples.old result reader.new samples.new }
-    ensures count { length values.new ≡ length values.old }
-{
-    if KIND == ZEROS {
-        return fill_zero_interval(params, reader, samples);
-    }
-    fill_single_interval::<N, M, KIND>(params, reader, values, samples)
 }
 
 /// Reads the next intervals while `fill_interval` reads them, at most `most`, and writes their

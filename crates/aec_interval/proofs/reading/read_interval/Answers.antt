@@ -30,7 +30,7 @@ pub returns-in_err-block-clause-refuses : goal.returns-in_err-block-clause-refus
 returns-in_err-block-clause-refuses c =
     by_block_end _ _ _ _ _ _ _ _ c.loop-behind.invariant.inside
     (λ bits end fault. RefusesUpTo c.args.params.now c.args.wanted.count c.args.wanted.limit bits c.args.wanted.first c.args.wanted.start end fault)
-    _ _ _ (c.read_single_blocks.ensures.list ∙ (c.read_next.ensures.list ∙ c.loop-behind.invariant.list)) c.from_residual-in_err-block.ensures.1
+    _ _ _ (c.read_untested_blocks.ensures.list ∙ (c.read_next.ensures.list ∙ c.loop-behind.invariant.list)) c.from_residual-in_err-block.ensures.1
     c.in_err-block.ensures.refuses
 
 pub returns-in_err-block-clause-full : goal.returns-in_err-block-clause-full

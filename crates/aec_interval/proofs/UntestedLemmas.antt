@@ -1,5 +1,4 @@
--- Single blocks: each is one coded data set without a reference sample, and needs no test of its
--- place.
+-- Blocks of coded data sets without a reference sample, of which none needs a test of its place.
 use Rattle.std.proofs.Common.{length, take, ◌≡◌, ℕ, ◌+◌, ◌-◌, ◌*◌, ◌/◌, ◌%◌, ◌<◌, ◌≤◌, ◌==◌, ◌&&◌, Bool, true, false, if◌then◌else◌, min, Option, Some, None, IfSome, unwrap_or, ⊎_elim, ◌^◌, Ok, Err, ℤ, List, [], ◌∷◌, ◌++◌, refl, sym, ap, ◌∙◌, subst, arith}
 use Rattle.std.proofs.Math.Nat.{mod-lt, mul-le-mul_right, le-mul_of_pos_right, div-mul-le_self, add-mul}
 use Rattle.std.proofs.lemmas.Grind.{div_ceil_times}
@@ -20,16 +19,19 @@ use Rattle.aec_params.specs.Reading.{is_wanted, keeps_limit, begin_of, LeadsTo}
 use Rattle.aec_params.proofs.SettingLaws.{block_size-positive, interval-positive}
 use Rattle.aec_bits.specs.BitReader.{Cursor, has_one}
 use Rattle.aec_block.specs.declared.cds.RunLen.TheVariants.{Blocks}
+use Rattle.aec_block.specs.declared.cds.RunLen.{RunLen}
+use Rattle.aec_block.specs.declared.cds.Cds.{Cds}
 use Rattle.aec_block.specs.declared.cds.Cds.TheVariants.{Single}
 use Rattle.aec_block.specs.Gathering.{bits_at}
-use Rattle.aec_block.specs.ReadCds.{IsReadSingle}
+use Rattle.aec_block.specs.ReadCds.{IsReadAs, IsReadSingle}
+use Rattle.aec_block.specs.SkipCds.{read_len}
 use Rattle.aec_block.specs.Unmapping.{Unmaps}
 use Rattle.aec_block.proofs.UnmappingLemmas.{unmaps-behind}
 use Rattle.aec_interval.specs.NextBlock.{last_sample, IsNextBlock, FillsNext}
-use Rattle.aec_interval.specs.NextSet.{block_behind, kept_count}
+use Rattle.aec_interval.specs.NextSet.{run_count, block_behind, kept_count, IsNextCds, cds_front}
 use Rattle.aec_interval.specs.Steps.{IsUntestedEnd}
 use Rattle.aec_interval.specs.declared.reading.Wanted.{Wanted}
-use Rattle.aec_interval.specs.SingleBlocks.{IsUntestedAt, ReadsSingle}
+use Rattle.aec_interval.specs.UntestedBlocks.{IsUntestedAt, ReadsBlocks}
 use Rattle.aec_interval.specs.Reached.{IsReached, LeadsBehindOne, RefusesUpTo, no_room}
 use Rattle.aec_interval.proofs.BlockLemmas.{all-append}
 use Rattle.aec_interval.proofs.ReadIntervalLemmas.{place-behind}
@@ -75,80 +77,92 @@ pub few_samples : (count : Option ℕ) (limit : ℕ) → limit ≤ 2 ^ 32 → If
 few_samples None limit low counted = low
 few_samples (Some n) limit low counted = counted
 
--- block i, of the interval that begins at block `first`, needs no test of its place, and a 1 bit is
--- left
-module _ (s : Settings) (count : Option ℕ) (limit first end i : ℕ) (old : Cursor) (allowed : IsAllowed s) (aligned : first % s.interval ≡ 0) (after : first ≤ i)
-    (ends : IsUntestedEnd s count limit first end) (before : i < end) (one : has_one (bits_at old) ≡ true) where
+-- z blocks from block i on, of the interval that begins at block `first`, need no test of their
+-- places, and a 1 bit is left
+module _ (s : Settings) (count : Option ℕ) (limit first end i z : ℕ) (old : Cursor) (allowed : IsAllowed s) (aligned : first % s.interval ≡ 0)
+    (after : first ≤ i) (ends : IsUntestedEnd s count limit first end) (some : 1 ≤ z) (within : i + z ≤ end) (one : has_one (bits_at old) ≡ true) where
   wanted_by : (count : Option ℕ) → IsUntestedEnd s count limit first end → is_wanted s count old.list i old.pos ≡ true
   wanted_by None ends = one
-  wanted_by (Some n) ends = lt-ltb i (div_ceil n s.block_size) (omega (arith, ends.needed, before))
+  wanted_by (Some n) ends = lt-ltb i (div_ceil n s.block_size) (omega (arith, ends.needed, some, within))
 
   pub wanted_here : is_wanted s count old.list i old.pos ≡ true
   wanted_here = wanted_by count ends
 
   pub untested-place : i % s.interval ≡ i - first
-  untested-place = place-behind s first i aligned after (omega (arith, before, ends.within))
+  untested-place = place-behind s first i aligned after (omega (arith, some, within, ends.within))
 
-  fits : 1 ≤ segment_left s (i % s.interval)
-  fits = omega (arith, mod-lt i (interval-positive s allowed))
-
-  keeps_by : (count : Option ℕ) → keeps_limit s count limit end ≡ true → keeps_limit s count limit (i + 1) ≡ true
+  keeps_by : (count : Option ℕ) → keeps_limit s count limit end ≡ true → keeps_limit s count limit (i + z) ≡ true
   keeps_by None keeps =
-      let fewer : (i + 1) * s.block_size ≤ end * s.block_size = mul-le-mul_right s.block_size (omega (arith, before)) in
-      le-leb ((i + 1) * s.block_size) limit (omega (arith, fewer, leb-true (end * s.block_size) limit keeps))
+      let fewer : (i + z) * s.block_size ≤ end * s.block_size = mul-le-mul_right s.block_size within in
+      le-leb ((i + z) * s.block_size) limit (omega (arith, fewer, leb-true (end * s.block_size) limit keeps))
   keeps_by (Some n) keeps = refl
 
-  pub untested-placed : Ok (i + 1) ≡ block_behind s count limit i 1 0
-  untested-placed =
+  -- they are no more than their segment has left
+  pub untested-placed : z ≤ segment_left s (i % s.interval) → Ok (i + z) ≡ block_behind s count limit i z 0
+  untested-placed fits =
       let keeps = keeps_by count ends.keeps in
       sym (ap (λ b. if b then Err (RunTooLong 0)
-      else (if keeps_limit s count limit (i + 1) then Ok (i + 1) else Err (TooManySamples limit)))
-      (le-ltb (segment_left s (i % s.interval)) 1 fits)
-      ∙ ap (λ b. if b then Ok (i + 1) else Err (TooManySamples limit)) keeps)
+      else (if keeps_limit s count limit (i + z) then Ok (i + z) else Err (TooManySamples limit)))
+      (le-ltb (segment_left s (i % s.interval)) z fits)
+      ∙ ap (λ b. if b then Ok (i + z) else Err (TooManySamples limit)) keeps)
 
-  unpadded : (pad : Bool) → (pad ≡ true → end < first + s.interval) → (pad && ((i + 1) % s.interval == 0)) ≡ false
+  kept_by : (count : Option ℕ) → IsUntestedEnd s count limit first end → z ≡ kept_count s count i (i + z - i)
+  kept_by None ends = omega arith
+  kept_by (Some n) ends = omega (arith, ends.needed, within)
+
+  pub untested-kept : z ≡ kept_count s count i (i + z - i)
+  untested-kept = kept_by count ends
+
+  unpadded : (pad : Bool) → (pad ≡ true → end < first + s.interval) → (pad && ((i + z) % s.interval == 0)) ≡ false
   unpadded false padded = refl
   unpadded true padded =
-      let next : (i + 1) % s.interval ≡ i + 1 - first =
-      place-behind s first (i + 1) aligned (omega (arith, after)) (omega (arith, before, padded refl)) in
-      ne_eqb ((i + 1) % s.interval) 0 (λ e. omega (arith, e, next, after))
+      let next : (i + z) % s.interval ≡ i + z - first =
+      place-behind s first (i + z) aligned (omega (arith, after)) (omega (arith, within, padded refl)) in
+      ne_eqb ((i + z) % s.interval) 0 (λ e. omega (arith, e, next, after, some))
 
-  pub untested-begins : (list : List Bool) (b : ℕ) → b ≡ begin_of s list (i + 1) b
+  pub untested-begins : (list : List Bool) (b : ℕ) → b ≡ begin_of s list (i + z) b
   untested-begins list b = sym (ap (λ skips. if skips then min (next_multiple_of b 8) (length list) else b) (unpadded s.pad ends.unpadded))
 
--- a reading has come to a block that needs no test and isn't the first of its interval
-module _ (s : Settings) (wanted : Wanted) (end i : ℕ) (old : Cursor) (samples : List ℤ) (allowed : IsAllowed s) (here : IsUntestedAt s wanted end i old samples)
-    (before : i < end) (one : has_one (bits_at old) ≡ true) where
+-- a segment has room for one block
+pub one_fits : (s : Settings) (i : ℕ) → IsAllowed s → 1 ≤ segment_left s (i % s.interval)
+one_fits s i allowed = omega (arith, mod-lt i (interval-positive s allowed))
+
+-- a reading has come to z blocks that need no test, and the first of which isn't the first of its
+-- interval
+module _ (s : Settings) (wanted : Wanted) (end i z : ℕ) (old : Cursor) (samples : List ℤ) (allowed : IsAllowed s)
+    (here : IsUntestedAt s wanted end i old samples) (some : 1 ≤ z) (within : i + z ≤ end) (one : has_one (bits_at old) ≡ true) where
   after : wanted.first ≤ i
   after = omega (arith, here.behind)
 
-  wanted_there : is_wanted s wanted.count old.list i old.pos ≡ true
-  wanted_there = wanted_here s wanted.count wanted.limit wanted.first end i old allowed here.aligned after here.untested before one
+  pub wanted_there : is_wanted s wanted.count old.list i old.pos ≡ true
+  wanted_there = wanted_here s wanted.count wanted.limit wanted.first end i z old allowed here.aligned after here.untested some within one
 
   due : false ≡ is_reference_block s (i % s.interval)
   due =
-      let place = untested-place s wanted.count wanted.limit wanted.first end i old allowed here.aligned after here.untested before one in
+      let place = untested-place s wanted.count wanted.limit wanted.first end i z old allowed here.aligned after here.untested some within one in
       sym (and_right s.preprocess (i % s.interval == 0) (ne_eqb (i % s.interval) 0 (λ e. omega (arith, e, place, here.behind))))
 
-  placed : Ok (i + 1) ≡ block_behind s wanted.count wanted.limit i 1 0
-  placed = untested-placed s wanted.count wanted.limit wanted.first end i old allowed here.aligned after here.untested before one
+  -- a coded data set of these blocks was read there
+  module _ (new : Cursor) (cds : Cds) (len : RunLen) (len_is : len ≡ read_len cds) (read : (c : CodedDataSet) × IsReadAs s false old new c cds)
+      (count_is : run_count s (i % s.interval) len ≡ z) (fits : z ≤ segment_left s (i % s.interval)) where
+    placed : Ok (i + z) ≡ block_behind s wanted.count wanted.limit i (run_count s (i % s.interval) len) 0
+    placed =
+        untested-placed s wanted.count wanted.limit wanted.first end i z old allowed here.aligned after here.untested some within one fits
+        ∙ ap (λ k. block_behind s wanted.count wanted.limit i k 0) (sym count_is)
 
-  begins : (list : List Bool) (b : ℕ) → b ≡ begin_of s list (i + 1) b
-  begins = untested-begins s wanted.count wanted.limit wanted.first end i old allowed here.aligned after here.untested before one
+    kept : z ≡ kept_count s wanted.count i (i + z - i)
+    kept = untested-kept s wanted.count wanted.limit wanted.first end i z old allowed here.aligned after here.untested some within one
 
-  -- a single block was read there
-  module _ (new : Cursor) (values : List ℕ) (read : IsReadSingle s old new None values) where
-    pub single-next : IsNextBlock s samples (block_of_values None values)
-    single-next =
-        next-cds s wanted.count wanted.limit wanted.first wanted.start old new i samples allowed here.reached wanted_there false
-        (Single (block_of_values None values)) (Blocks 1) due refl (read.set, read.read) 0 (i + 1) placed (kept_count s wanted.count i (i + 1 - i))
-        (i - wanted.first) here.aligned refl refl
+    pub next-there : IsNextCds s (i - wanted.first) samples z cds
+    next-there =
+        next-cds s wanted.count wanted.limit wanted.first wanted.start old new i samples allowed here.reached wanted_there false cds len due len_is read
+        0 (i + z) placed z (i - wanted.first) here.aligned refl kept
 
-    pub place-next : (more : List ℤ) → FillsNext s samples more (block_of_values None values ∷ []) → IsUntestedAt s wanted end (i + 1) new more
+    pub place-next : (more : List ℤ) → FillsNext s samples more (cds_front s z cds) → IsUntestedAt s wanted end (i + z) new more
     place-next more fills = record {
-      reached = reached-next s wanted.count wanted.limit wanted.first wanted.start old new i samples allowed here.reached wanted_there false
-          (Single (block_of_values None values)) (Blocks 1) due refl (read.set, read.read) 0 (i + 1) placed (kept_count s wanted.count i (i + 1 - i))
-          more new.list new.pos refl fills refl (begins new.list new.pos);
+      reached = reached-next s wanted.count wanted.limit wanted.first wanted.start old new i samples allowed here.reached wanted_there false cds len due
+          len_is read 0 (i + z) placed z more new.list new.pos kept fills refl
+          (untested-begins s wanted.count wanted.limit wanted.first end i z old allowed here.aligned after here.untested some within one new.list new.pos);
       aligned = here.aligned;
       behind = omega (arith, here.behind);
       untested = here.untested;
@@ -164,39 +178,44 @@ single-fills s all part values p at k n allowed next previous sum within len unm
     (subst (Unmaps s p values (take at all)) (sym (take-put_mid at k all part n (omega (arith, sum, len)) (omega (arith, within))))
     (unmaps-behind s p values (take at all) part unmaps))
 
-pub one_single : (s : Settings) (old new : Cursor) (all part : List ℤ) (values : List ℕ) (p : ℤ) (at k n : ℕ) → IsAllowed s → IsReadSingle s old new None values
-    → has_one (bits_at old) ≡ true → new.list ≡ old.list → AllByRecursion (IsHeld s) (take at all)
+pub one_single : (s : Settings) (place : ℕ) (old new : Cursor) (all part : List ℤ) (values : List ℕ) (p : ℤ) (at k n : ℕ) → IsAllowed s
+    → IsReadSingle s old new None values → has_one (bits_at old) ≡ true → new.list ≡ old.list → AllByRecursion (IsHeld s) (take at all)
     → p ≡ last_sample (take at all) → n ≡ at + k → at + k ≤ length all → length part ≡ k → Unmaps s p values [] part
-    → ReadsSingle s 1 old (take at all) new (take n (put_mid at k all part))
-one_single s old new all part values p at k n allowed read one same held previous sum within len unmaps = record {
+    → ReadsBlocks s place 1 old (take at all) new (take n (put_mid at k all part))
+one_single s place old new all part values p at k n allowed read one same held previous sum within len unmaps = record {
   list = same;
   held = subst (AllByRecursion (IsHeld s)) (sym (take-put_mid at k all part n (omega (arith, sum, len)) (omega (arith, within))))
       (all-append (IsHeld s) (take at all) part held (subst (AllByRecursion (IsHeld s)) (sym unmaps.appended) unmaps.held));
-  leads = λ wanted end i some here.
-      let before : i < end = omega (arith, some) in
-      place-next s wanted end i old (take at all) allowed here before one new values read (take n (put_mid at k all part))
-      (single-fills s all part values p at k n allowed (single-next s wanted end i old (take at all) allowed here before one new values read)
-      previous sum within len unmaps);
+  leads = λ wanted end i there some here.
+      let single : Cds = Single (block_of_values None values) in
+      let before : i + 1 ≤ end = omega (arith, some) in
+      place-next s wanted end i 1 old (take at all) allowed here (omega arith) before one new single (Blocks 1) refl (read.set, read.read) refl
+      (one_fits s i allowed) (take n (put_mid at k all part))
+      (single-fills s all part values p at k n allowed
+      (next-there s wanted end i 1 old (take at all) allowed here (omega arith) before one new single (Blocks 1) refl (read.set, read.read) refl
+      (one_fits s i allowed)) previous sum within len unmaps);
 }
 
 -- ---- several blocks
 
-pub none_read : (s : Settings) (cursor : Cursor) (samples : List ℤ) → AllByRecursion (IsHeld s) samples → ReadsSingle s 0 cursor samples cursor samples
-none_read s cursor samples held = record {
+pub none_read : (s : Settings) (place : ℕ) (cursor : Cursor) (samples : List ℤ) → AllByRecursion (IsHeld s) samples
+    → ReadsBlocks s place 0 cursor samples cursor samples
+none_read s place cursor samples held = record {
   list = refl;
   held = held;
-  leads = λ wanted end i some here. let same : i ≡ i + 0 = omega arith in subst (λ j. IsUntestedAt s wanted end j cursor samples) same here;
+  leads = λ wanted end i there some here.
+      let same : i ≡ i + 0 = omega arith in subst (λ j. IsUntestedAt s wanted end j cursor samples) same here;
 }
 
-pub more_read : (s : Settings) (n m : ℕ) (old mid new : Cursor) (samples front more : List ℤ) → ReadsSingle s n old samples mid front
-    → ReadsSingle s m mid front new more → ReadsSingle s (n + m) old samples new more
-more_read s n m old mid new samples front more first second = record {
+pub more_read : (s : Settings) (place n m : ℕ) (old mid new : Cursor) (samples front more : List ℤ) → ReadsBlocks s place n old samples mid front
+    → ReadsBlocks s (place + n) m mid front new more → ReadsBlocks s place (n + m) old samples new more
+more_read s place n m old mid new samples front more first second = record {
   list = second.list ∙ first.list;
   held = second.held;
-  leads = λ wanted end i some here.
-      let place : i + n + m ≡ i + (n + m) = omega arith in
-      subst (λ j. IsUntestedAt s wanted end j new more) place
-      (second.leads wanted end (i + n) (omega (arith, some)) (first.leads wanted end i (omega (arith, some)) here));
+  leads = λ wanted end i there some here.
+      let last : i + n + m ≡ i + (n + m) = omega arith in
+      subst (λ j. IsUntestedAt s wanted end j new more) last
+      (second.leads wanted end (i + n) (omega (arith, there)) (omega (arith, some)) (first.leads wanted end i there (omega (arith, some)) here));
 }
 
 -- the samples before the places that were added
@@ -206,12 +225,12 @@ front_of_extended items more extended all true from is same place = rw (same, is
 front_of_extended items more extended all false from is same place = rw (same, is) (take_all from items (omega (arith, place)))
 
 -- blocks were read into places that were added after the samples; only filled places are kept
-reads_kept : (s : Settings) (n j from : ℕ) (old new : Cursor) (items more extended all filled kept : List ℤ) (b : Bool)
+reads_kept : (s : Settings) (p n j from : ℕ) (old new : Cursor) (items more extended all filled kept : List ℤ) (b : Bool)
     → extended ≡ (if b then items ++ more else items) → all ≡ extended → from ≡ length items → j ≡ s.block_size → kept ≡ take (from + n * j) filled
-    → ReadsSingle s n old (take from all) new (take (from + n * s.block_size) filled) → ReadsSingle s n old items new kept
-reads_kept s n j from old new items more extended all filled kept b is same place size cut read =
-    subst (λ items. ReadsSingle s n old items new kept) (front_of_extended items more extended all b from is same place)
-    (subst (ReadsSingle s n old (take from all) new) (sym (cut ∙ ap (λ j. take (from + n * j) filled) size)) read)
+    → ReadsBlocks s p n old (take from all) new (take (from + n * s.block_size) filled) → ReadsBlocks s p n old items new kept
+reads_kept s p n j from old new items more extended all filled kept b is same place size cut read =
+    subst (λ items. ReadsBlocks s p n old items new kept) (front_of_extended items more extended all b from is same place)
+    (subst (ReadsBlocks s p n old (take from all) new) (sym (cut ∙ ap (λ j. take (from + n * j) filled) size)) read)
 
 -- ---- how many samples
 
@@ -221,14 +240,16 @@ few_places blocks size j is small few =
     let both : (2 + 120 / j) * j ≡ 2 * j + 120 / j * j = add-mul 2 (120 / j) j in
     omega (arith, ap (λ n. blocks * n) is, most, both, div-mul-le_self 120 j, small)
 
-pub block_fits : (from at count most size all : ℕ) → at ≡ from + count * size → count < most → from + most * size ≤ all → at + size ≤ all
-block_fits from at count most size all is below room =
-    let more : (count + 1) * size ≤ most * size = mul-le-mul_right size (omega (arith, below)) in
-    omega (arith, is, more, room, add-mul count 1 size)
+-- what is left has room for its blocks
+pub blocks_fit : (from at count most size all : ℕ) → at ≡ from + count * size → count ≤ most → from + most * size ≤ all → at + (most - count) * size ≤ all
+blocks_fit from at count most size all is within room =
+    let both : (count + (most - count)) * size ≡ count * size + (most - count) * size = add-mul count (most - count) size in
+    let all : count + (most - count) ≡ most = omega (arith, within) in
+    omega (arith, is, room, both, ap (λ n. n * size) all)
 
-pub one_block_more : (from at count size : ℕ) → at ≡ from + count * size → at + size ≡ from + (count + 1) * size
-one_block_more from at count size is =
-    let both : (count + 1) * size ≡ count * size + size = omega (arith, add-mul count 1 size) in omega (arith, is, both)
+pub blocks_more : (from at count read size j : ℕ) → at ≡ from + count * size → j ≡ size → at + read * j ≡ from + (count + read) * size
+blocks_more from at count read size j is same =
+    let both : (count + read) * size ≡ count * size + read * size = add-mul count read size in omega (arith, is, both, ap (λ j. read * j) same)
 
 pub len-joined : (old mid new block next read size : ℕ) → block ≤ next → mid ≤ old + (next - block) * size → new ≤ mid + read * size
     → new ≤ old + (next + read - block) * size
@@ -280,8 +301,12 @@ lacks_room s wanted last next end before old samples fault stays here within mem
 -- so a reading goes n blocks further, to a block that needs no test either
 pub reads_further : (s : Settings) (wanted : Wanted) (last next n j from : ℕ) (before old new : Cursor) (items more extended all filled kept : List ℤ)
     (b : Bool) → extended ≡ (if b then items ++ more else items) → all ≡ extended → from ≡ length items → j ≡ s.block_size
-    → kept ≡ take (from + n * j) filled → ReadsSingle s n old (take from all) new (take (from + n * s.block_size) filled) → old ≡ before
-    → IsUntestedAt s wanted last next before items → n ≤ last - next → ReadsSingle s n old items new kept × IsUntestedAt s wanted last (next + n) new kept
+    → kept ≡ take (from + n * j) filled
+    → ReadsBlocks s (next - wanted.first) n old (take from all) new (take (from + n * s.block_size) filled) → old ≡ before
+    → IsUntestedAt s wanted last next before items → n ≤ last - next
+    → ReadsBlocks s (next - wanted.first) n old items new kept × IsUntestedAt s wanted last (next + n) new kept
 reads_further s wanted last next n j from before old new items more extended all filled kept b is same place size cut read stays here few =
-    let whole = reads_kept s n j from old new items more extended all filled kept b is same place size cut read in
-    (whole, whole.leads wanted last next few (subst (λ cursor. IsUntestedAt s wanted last next cursor items) (sym stays) here))
+    let whole = reads_kept s (next - wanted.first) n j from old new items more extended all filled kept b is same place size cut read in (
+      whole,
+      whole.leads wanted last next (omega (arith, here.behind)) few (subst (λ cursor. IsUntestedAt s wanted last next cursor items) (sym stays) here),
+    )

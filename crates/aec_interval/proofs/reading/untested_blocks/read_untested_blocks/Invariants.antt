@@ -1,8 +1,8 @@
 use Rattle.std.proofs.Common.{◌-◌, ◌+◌, ◌*◌, ◌≡◌, ◌≤◌, ◌<◌, max, vec_len, vec_capacity}
 use Rattle.std.specs.List.{AllByRecursion}
 use Rattle.aec_params.specs.Params.{IsHeld}
-use Rattle.aec_interval.specs.SingleBlocks.{IsUntestedAt, most_at_once}
-use Rattle.aec_interval.proofs.reading.single_blocks.read_single_blocks.Given as goal
+use Rattle.aec_interval.specs.UntestedBlocks.{IsUntestedAt, most_at_once}
+use Rattle.aec_interval.proofs.reading.untested_blocks.read_untested_blocks.Given as goal
 
 abbrev pub invariant-loop-next : goal.invariant-loop-next
 invariant-loop-next l = record {

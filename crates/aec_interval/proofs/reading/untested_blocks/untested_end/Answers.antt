@@ -1,7 +1,7 @@
 use Rattle.std.proofs.Common.{rules, ◌≡◌, ◌≤◌, ◌-◌, ◌*◌, ◌/◌, unwrap_or, ap, arith}
 use Rattle.std.proofs.Math.Nat.{mul-le-mul_right, div-mul-le_self}
-use Rattle.aec_interval.proofs.SingleBlockLemmas.{untested-within, few_samples}
-use Rattle.aec_interval.proofs.reading.single_blocks.untested_end.Goals as goal
+use Rattle.aec_interval.proofs.UntestedLemmas.{untested-within, few_samples}
+use Rattle.aec_interval.proofs.reading.untested_blocks.untested_end.Goals as goal
 
 pub returns-then-saturating_mul-samples : goal.returns-then-saturating_mul-samples
 returns-then-saturating_mul-samples c =

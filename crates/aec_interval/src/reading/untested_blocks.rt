@@ -1,21 +1,22 @@
-//! Reads single blocks (each with a coded data set of its own) without a reference sample, one
-//! after the other, if none needs a test of its place. `read_single_blocks` sets how many blocks,
-//! makes their places and keeps the filled ones; `fill_single_blocks` reads while the next is a
-//! single block.
+//! Reads blocks without a reference sample, single ones and runs of zero blocks, one coded data set
+//! after the other, if none needs a test of its place. `read_untested_blocks` sets how many blocks,
+//! makes their places and keeps the filled ones; `fill_blocks` reads while `fill_next` reads one
+//! coded data set more.
 
-ghost use Rattle.std.specs.Prelude.{◌≡◌, ◌≤◌, ◌<◌, ◌+◌, ◌-◌, ◌*◌, ◌%◌, ◌^◌, true, false, max, length, take, vec_len, vec_capacity, IfSome, IfOk, IfErr, OnErr};
+ghost use Rattle.std.specs.Prelude.{◌≡◌, ◌≤◌, ◌<◌, ◌+◌, ◌-◌, ◌*◌, ◌%◌, ◌^◌, false, max, length, take, vec_len, vec_capacity, IfSome, IfOk, IfErr, OnErr};
 ghost use Rattle.std.specs.List.{AllByRecursion};
-ghost use Rattle.aec_params.specs.Params.{IsAllowed, IsHeld};
+ghost use Rattle.aec_params.specs.Params.{IsHeld};
 ghost use Rattle.aec_block.specs.BlockShape.{most_values};
 ghost use Rattle.aec_interval.specs.Reached.{IsReached, RefusesUpTo};
 ghost use Rattle.aec_interval.specs.Steps.{IsUntestedEnd};
-ghost use Rattle.aec_interval.specs.SingleBlocks.{FillsBlocks};
+ghost use Rattle.aec_interval.specs.UntestedBlocks.{FillsBlocks};
 
 use crate::block_sizes::{IN_LONG_INTERVALS, by_block_size};
-use crate::reading::Wanted;
+use crate::reading::zero_runs::repeated_sample;
+use crate::reading::{Wanted, block_count, blocks_left};
 use crate::segment::previous_of;
 use aec_bits::BitReader;
-use aec_block::{MOST_VALUES, is_single_next, read_single, unmap_into};
+use aec_block::{MOST_VALUES, is_single_next, read_run, read_single, unmap_into};
 use aec_params::{Fault, Params};
 
 /// Room is made for this many blocks at first, since often no more single blocks follow.
@@ -47,22 +48,91 @@ fn untested_end(params: &Params, wanted: Wanted, end: u64) -> u64
     unpadded.min(samples / size)
 }
 
-/// Reads the next single blocks, at most `most`, each into `values`, and writes their samples after
-/// the first `from` samples. Returns how many blocks it read. Each `COPY` has one caller for each
-/// `N`.
-#[inline(always)]
-pub(crate) fn fill_single_blocks<const N: usize, const COPY: usize>(
+/// Reads the next run of zero blocks, from place `place` of an interval on, and writes its samples
+/// after the first `from` samples. Returns how many blocks it read: 0 if no run comes, or if it has
+/// more than `most` blocks or goes past the end of its segment.
+#[cold]
+#[inline(never)]
+fn fill_run(
     params: &Params,
     reader: &mut BitReader,
+    place: u64,
+    most: usize,
+    samples: &mut [i64],
+    from: usize,
+) -> usize
+    requires place { place < params.now.interval }
+    requires held { AllByRecursion (IsHeld params.now) (take from samples.old) }
+    requires room { from + most * params.now.block_size ≤ length samples.old }
+    ensures { FillsBlocks params.now place most from reader.old samples.old result reader.new
+        samples.new }
+{
+    let start = reader.pos();
+    if let Some((reference, len)) = read_run(params, reader, false) {
+        let blocks = block_count(params, place, len);
+        if blocks <= blocks_left(params, place).min(most as u64) {
+            let sample = repeated_sample(params, reference, &samples[..from]);
+            let end = from + blocks as usize * params.block_size() as usize;
+            samples[from..end].fill(sample);
+            return blocks as usize;
+        }
+    }
+    reader.seek(start);
+    0
+}
+
+/// Reads the next coded data set, from place `place` of an interval on, into `values` if it is a
+/// single block, and writes its samples after the first `from` samples. Returns how many blocks it
+/// read: one, or a run of at most `most`; 0 if neither comes.
+#[inline(always)]
+fn fill_next<const N: usize, const COPY: usize>(
+    params: &Params,
+    reader: &mut BitReader,
+    place: u64,
     most: usize,
     values: &mut [u32],
     samples: &mut [i64],
     from: usize,
 ) -> usize
+    requires some { 0 < most }
+    requires place { place < params.now.interval }
     requires held { AllByRecursion (IsHeld params.now) (take from samples.old) }
     requires count { length values.old ≡ params.now.block_size }
     requires room { from + most * params.now.block_size ≤ length samples.old }
-    ensures fills { FillsBlocks params.now most from reader.old samples.old result reader.new
+    ensures fills { FillsBlocks params.now place most from reader.old samples.old result reader.new
+        samples.new }
+    ensures count { length values.new ≡ length values.old }
+{
+    params.known_allowed();
+    if !read_single::<N, COPY>(params, reader, values) {
+        // Only this copy is lent, so that the caller's stays in registers.
+        let lent = *params;
+        return fill_run(&lent, reader, place, most, samples, from);
+    }
+    let previous = previous_of(&samples[..from]);
+    let end = from + values.len();
+    unmap_into(params, previous, values, &mut samples[from..end]);
+    1
+}
+
+/// Reads the next blocks, from place `place` of an interval on, at most `most`, and writes their
+/// samples after the first `from` samples. Returns how many blocks it read. Each `COPY` has one
+/// caller for each `N`.
+#[inline(always)]
+pub(crate) fn fill_blocks<const N: usize, const COPY: usize>(
+    params: &Params,
+    reader: &mut BitReader,
+    place: u64,
+    most: usize,
+    values: &mut [u32],
+    samples: &mut [i64],
+    from: usize,
+) -> usize
+    requires within { place + most ≤ params.now.interval }
+    requires held { AllByRecursion (IsHeld params.now) (take from samples.old) }
+    requires count { length values.old ≡ params.now.block_size }
+    requires room { from + most * params.now.block_size ≤ length samples.old }
+    ensures fills { FillsBlocks params.now place most from reader.old samples.old result reader.new
         samples.new }
     ensures count { length values.new ≡ length values.old }
 {
@@ -70,87 +140,93 @@ pub(crate) fn fill_single_blocks<const N: usize, const COPY: usize>(
     let mut count = 0;
     let mut at = from;
     while count < most {
-        if !read_single::<N, COPY>(params, reader, values) {
+        let next = place + count as u64;
+        let left = most - count;
+        let read = fill_next::<N, COPY>(params, reader, next, left, values, samples, at);
+        if read == 0 {
             return count;
         }
-        let previous = previous_of(&samples[..at]);
-        let end = at + values.len();
-        unmap_into(params, previous, values, &mut samples[at..end]);
-        count += 1;
-        at = end;
+        count += read;
+        at += read * values.len();
     }
     count
 }
 
-/// `fill_single_blocks` for blocks of `N` samples, out of line.
+/// `fill_blocks` for blocks of `N` samples, out of line.
 #[inline(never)]
 fn fill_known_blocks<const N: usize>(
     params: &Params,
     reader: &mut BitReader,
+    place: u64,
     most: usize,
     samples: &mut [i64],
     from: usize,
 ) -> usize
+    requires within { place + most ≤ params.now.interval }
     requires held { AllByRecursion (IsHeld params.now) (take from samples.old) }
     requires size { N ≡ params.now.block_size }
     requires small { N ≤ most_values }
     requires room { from + most * params.now.block_size ≤ length samples.old }
-    ensures { FillsBlocks params.now most from reader.old samples.old result reader.new
+    ensures { FillsBlocks params.now place most from reader.old samples.old result reader.new
         samples.new }
 {
     // A copy that no other call can see stays in registers.
     let own = *params;
     let mut values = [0u32; N];
-    fill_single_blocks::<N, IN_LONG_INTERVALS>(&own, reader, most, &mut values, samples, from)
+    fill_blocks::<N, IN_LONG_INTERVALS>(&own, reader, place, most, &mut values, samples, from)
 }
 
-/// `fill_single_blocks` for blocks of any size, out of line.
+/// `fill_blocks` for blocks of any size, out of line.
 #[inline(never)]
 fn fill_any_blocks(
     params: &Params,
     reader: &mut BitReader,
+    place: u64,
     most: usize,
     samples: &mut [i64],
     from: usize,
 ) -> usize
+    requires within { place + most ≤ params.now.interval }
     requires held { AllByRecursion (IsHeld params.now) (take from samples.old) }
     requires room { from + most * params.now.block_size ≤ length samples.old }
-    ensures { FillsBlocks params.now most from reader.old samples.old result reader.new
+    ensures { FillsBlocks params.now place most from reader.old samples.old result reader.new
         samples.new }
 {
     // A copy that no other call can see stays in registers.
     let own = *params;
     let mut scratch = [0u32; MOST_VALUES];
     let values = &mut scratch[..own.block_size() as usize];
-    fill_single_blocks::<0, IN_LONG_INTERVALS>(&own, reader, most, values, samples, from)
+    fill_blocks::<0, IN_LONG_INTERVALS>(&own, reader, place, most, values, samples, from)
 }
 
-/// `fill_single_blocks`, with code of its own for each usual block size.
+/// `fill_blocks`, with code of its own for each usual block size.
 fn fill_usual_blocks(
     params: &Params,
     reader: &mut BitReader,
+    place: u64,
     most: usize,
     samples: &mut [i64],
     from: usize,
 ) -> usize
+    requires within { place + most ≤ params.now.interval }
     requires held { AllByRecursion (IsHeld params.now) (take from samples.old) }
     requires room { from + most * params.now.block_size ≤ length samples.old }
-    ensures { FillsBlocks params.now most from reader.old samples.old result reader.new
+    ensures { FillsBlocks params.now place most from reader.old samples.old result reader.new
         samples.new }
 {
     by_block_size!(
         params.block_size(),
         [8 10 12 14 16 18 20 22 24 26 28 30 32 64],
-        fill_known_blocks(params, reader, most, samples, from),
-        fill_any_blocks(params, reader, most, samples, from)
+        fill_known_blocks(params, reader, place, most, samples, from),
+        fill_any_blocks(params, reader, place, most, samples, from)
     )
 }
 
-/// Reads the next single blocks, before block `end`, where the interval ends, and appends their
-/// samples. Returns the number of the next block. Fails with `Memory` only if there was no room for
-/// the samples that the interval has left.
+/// Reads the next blocks before block `end`, where the interval ends, if a single one comes first,
+/// and appends their samples. Returns the number of the next block: `block` if none was read. Fails
+/// with `Memory` only if there was no room for the samples that the interval has left.
 #[inline(never)]
-pub(crate) fn read_single_blocks(
+pub(crate) fn read_untested_blocks(
     params: &Params,
     wanted: Wanted,
     reader: &mut BitReader,
@@ -189,11 +265,12 @@ pub(crate) fn read_single_blocks(
             return Ok(next);
         }
         let asked = at_once.min((last - next) as usize);
+        let place = next - wanted.first;
         let from = samples.len();
         let places = &ZEROS[..asked * size];
         samples.extend_from_slice(places)?;
         let all = samples.as_mut_slice();
-        let read = fill_usual_blocks(params, reader, asked, all, from);
+        let read = fill_usual_blocks(params, reader, place, asked, all, from);
         samples.truncate(from + read * size);
         next += read as u64;
         if read < asked {

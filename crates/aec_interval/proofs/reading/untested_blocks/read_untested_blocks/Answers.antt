@@ -3,10 +3,10 @@ use Rattle.std.proofs.lemmas.List.{with_items_is}
 use Rattle.aec_params.proofs.SettingLaws.{block_size-positive, block_size-most}
 use Rattle.aec_bits.specs.BitReader.{Cursor}
 use Rattle.aec_params.specs.declared.fault.Fault.TheVariants.{Memory}
-use Rattle.aec_interval.specs.SingleBlocks.{most_at_once}
-use Rattle.aec_interval.proofs.SingleBlockLemmas.{few_places, len-joined, len-lacking, lacks_room, reads_further}
+use Rattle.aec_interval.specs.UntestedBlocks.{most_at_once}
+use Rattle.aec_interval.proofs.UntestedLemmas.{few_places, len-joined, len-lacking, lacks_room, reads_further}
 use Rattle.aec_interval.proofs.RefusalLemmas.{of_refusal, on_refusal}
-use Rattle.aec_interval.proofs.reading.single_blocks.read_single_blocks.Goals as goal
+use Rattle.aec_interval.proofs.reading.untested_blocks.read_untested_blocks.Goals as goal
 
 pub loop-next-init : goal.loop-next-init
 loop-next-init c = record {
