@@ -118,17 +118,17 @@ sequences_read list values word left end later behind stop same window fits stan
     (omega (arith, inside, length-drop (end - left) list, window.within)) window stand.stands in
     record { window = read.0; fits = fits; read = record { stands = read.1; below = stand.below } }
 
-pub sequences_more : (list : List Bool) (start i : ℕ) (items part : List ℕ) (word left end behind later stop : ℕ) → 8 * i + 8 ≤ length items
-    → length part ≡ length (take (8 * i + 8 - 8 * i) (drop (8 * i) items)) → StandsBehind list start (take (8 * i) items) word left end
+pub sequences_more : (list : List Bool) (start i : ℕ) (items part : List ℕ) (word left end behind later stop : ℕ) → 16 * i + 16 ≤ length items
+    → length part ≡ length (take (16 * i + 16 - 16 * i) (drop (16 * i) items)) → StandsBehind list start (take (16 * i) items) word left end
     → StandsBehind list (end - left) part behind later stop
-    → StandsBehind list start (take (8 * (i + 1)) (put_mid (8 * i) (8 * i + 8 - 8 * i) items part)) behind later stop
+    → StandsBehind list start (take (16 * (i + 1)) (put_mid (16 * i) (16 * i + 16 - 16 * i) items part)) behind later stop
 sequences_more list start i items part word left end behind later stop within size so_far next =
-    let eight = part_len (8 * i) 8 items part within size in
+    let sixteen = part_len (16 * i) 16 items part within size in
     record {
       window = next.window;
       fits = next.fits;
-      read = stands_with fs 64 items part (8 * i) (8 * i + 8 - 8 * i) (8 * (i + 1)) (drop (stop - later) list) (drop (end - left) list) (drop start list)
-          (omega (arith, within)) (omega (arith, eight)) so_far.read next.read;
+      read = stands_with fs 64 items part (16 * i) (16 * i + 16 - 16 * i) (16 * (i + 1)) (drop (stop - later) list) (drop (end - left) list) (drop start list)
+          (omega (arith, within)) (omega (arith, sixteen)) so_far.read next.read;
     }
 
 -- ---- numbers of a fixed width
@@ -238,14 +238,14 @@ numbers_end list width n word place start count items part many here all short s
     stands_to_end (binary width) (2 ^ width) items part at (drop (start + width * count) list) (drop place list) (drop start list)
     (omega (arith, most, many, same_at)) whole (rw (sym same_at) at so_far) (rw (ap (λ k. drop k list) behind) at there)
 
--- if reading stops in the fundamental sequences after the groups of eight, it stops before `count`
-pub rest_stops : (list : List Bool) (start count i : ℕ) (items : List ℕ) (word left end : ℕ) → length items ≡ count → count / 8 ≤ i → i ≤ count / 8
-    → StandsBehind list start (take (8 * i) items) word left end
-    → StopsBefore (length (take (length items - 8 * (length items / 8)) (drop (8 * (length items / 8)) items))) (drop (end - left) list)
+-- if reading stops after the groups of sixteen fundamental sequences, it stops before `count`
+pub rest_stops : (list : List Bool) (start count i : ℕ) (items : List ℕ) (word left end : ℕ) → length items ≡ count → count / 16 ≤ i → i ≤ count / 16
+    → StandsBehind list start (take (16 * i) items) word left end
+    → StopsBefore (length (take (length items - 16 * (length items / 16)) (drop (16 * (length items / 16)) items))) (drop (end - left) list)
     → StopsBefore count (drop start list)
 rest_stops list start count i items word left end many past within so_far stop =
-    let at : ℕ = 8 * (length items / 8) in
-    let same_at : 8 * i ≡ at = omega (arith, many, past, within) in
+    let at : ℕ = 16 * (length items / 16) in
+    let same_at : 16 * i ≡ at = omega (arith, many, past, within) in
     let size = length-take-le (length items - at) (drop at items) (omega (arith, length-drop at items)) in
     stops_later 64 items at (length (take (length items - at) (drop at items))) count (drop (end - left) list) (drop start list) (omega arith)
     (omega (arith, size, many)) stop (rw same_at at so_far.read)

@@ -21,4 +21,6 @@ pub mod TopNumbersLemmas
 pub mod WindowLemmas
 pub mod GroupLemmas
 pub mod OnesLemmas
+pub mod TableLaws
+pub mod EndsLemmas
 pub mod EightLemmas

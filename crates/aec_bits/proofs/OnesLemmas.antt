@@ -187,7 +187,7 @@ window_cut list place word same =
     ∙ ap (λ l. drop (place + 64) list ++ l) (drop-zeros past 64) in
     (64 - past, sym (take-append-drop 64 padded) ∙ (ap (λ l. l ++ drop 64 padded) (sym same) ∙ ap (λ l. word_bits word ++ l) behind))
 
-ones_in_word : (word : ℕ) → word < 2 ^ 64 → ones_among (word_bits word) ≡ count_ones word
+pub ones_in_word : (word : ℕ) → word < 2 ^ 64 → ones_among (word_bits word) ≡ count_ones word
 unfolding word_bits
 ones_in_word word fits = ones_among-whole 64 word fits
 

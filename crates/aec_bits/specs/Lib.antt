@@ -10,4 +10,5 @@ pub mod WordBits
 pub mod Stretches
 pub mod Packed
 pub mod Ones
+pub mod Ends
 pub mod Windows

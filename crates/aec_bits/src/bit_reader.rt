@@ -1,6 +1,8 @@
 //! A reader of bits.
 
 mod counted_ones;
+mod ends_in_bytes;
+mod ends_in_words;
 mod windows;
 
 use crate::bit_buf::{BitBuf, missing_bits};

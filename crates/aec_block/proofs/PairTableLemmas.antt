@@ -12,18 +12,9 @@ use Rattle.aec_block.specs.Gathering.{bits_at, all_below, when, members_of_numbe
 use Rattle.aec_block.proofs.CodewordLemmas.{fs_at-fs}
 use Rattle.aec_block.proofs.PairLemmas.{triangle, triangle_number}
 
--- the members of `count` pairs from the pair with the number `first` on, each pair's in a list of
--- its own
-abbrev pub rows_from : ℕ → ℕ → List (List ℕ)
-rows_from first zero = []
-rows_from first (suc count) = before_members (pair_with_number first) [] ∷ rows_from (suc first) count
-
-pub rows_from-row : (first count i : ℕ) → i < count → slice_index_or (rows_from first count) i [] ≡ before_members (pair_with_number (first + i)) []
-rows_from-row first zero i within = absurd (omega arith)
-rows_from-row first (suc count) zero within = let e : first + 0 ≡ first = omega arith in rw e refl
-rows_from-row first (suc count) (suc i) within =
-    let e : suc first + i ≡ first + suc i = omega arith in
-    rows_from-row (suc first) count i (omega arith) ∙ ap (λ n. before_members (pair_with_number n) []) e
+-- the members of the pair with a number
+abbrev pub members_of : ℕ → List ℕ
+members_of number = before_members (pair_with_number number) []
 
 -- ---- the members of pairs with given numbers
 

@@ -1,12 +1,13 @@
 //! Reads several codewords at once, from a word that holds the next bits.
 
-ghost use Rattle.std.specs.Prelude.{◌≡◌, ◌+◌, ◌-◌, ◌*◌, ◌/◌, ◌<◌, ◌≤◌, ◌^◌, ◌++◌, ◌%◌, ◌∷◌, [], nat_le, false, length, take, drop, count_ones, MatchOption};
+ghost use Rattle.std.specs.Prelude.{◌≡◌, ◌+◌, ◌-◌, ◌*◌, ◌/◌, ◌<◌, ◌≤◌, ◌^◌, ◌++◌, ◌%◌, ◌∷◌, [], nat_le, false, length, take, drop, count_ones, replicate, MatchOption};
 ghost use Rattle.aec_params.specs.Codewords.{fs, binary};
 ghost use Rattle.aec_bits.specs.BitReader.{has_one, StopsBefore};
 ghost use Rattle.aec_bits.specs.WordBits.{word_bits};
 ghost use Rattle.aec_bits.specs.Windows.{IsClearWindow, IsWholeWindow, IsTopOne, BeginsWindow, FitWord, StandsBefore, FillsNumbers, ReadsSequences, moved_to_top, numbers_of_word};
 
 use crate::bit_buf::BitBuf;
+use crate::bit_reader::ends_in_words::gaps_within;
 use std::simd::prelude::*;
 
 /// The next bits of a list: the lowest `left` bits of a word. In the list they end before place
@@ -105,10 +106,10 @@ fn sequences_one_by_one(buf: &BitBuf, window: Window, numbers: &mut [u32]) -> Op
     Some(rest)
 }
 
-/// Fills `numbers` with the numbers of the fundamental sequences that begin a window, and returns
-/// what is left after them. The window has a 1 bit for each, so each is found.
+/// Fills `numbers`, one by one, with the numbers of the fundamental sequences that begin a window,
+/// and returns what is left after them. The window has a 1 bit for each, so each is found.
 #[inline(always)]
-fn sequences_within(window: Window, numbers: &mut [u32]) -> Window
+fn each_within(window: Window, numbers: &mut [u32]) -> Window
     requires size { window.left ≤ 64 }
     requires fits { window.word < 2 ^ window.left }
     requires some { length numbers.old ≤ count_ones window.word }
@@ -124,6 +125,55 @@ fn sequences_within(window: Window, numbers: &mut [u32]) -> Window
         rest = behind;
     }
     rest
+}
+
+/// Returns the word whose top bits are those of a window; zeros follow.
+#[inline(always)]
+fn top_word(window: Window) -> u64
+    requires size { window.left ≤ 64 }
+    requires fits { window.word < 2 ^ window.left }
+    ensures bits { word_bits result
+        ≡ binary window.left window.word ++ replicate (64 - window.left) false }
+    ensures ones { count_ones result ≡ count_ones window.word }
+{
+    window.word.wrapping_shl(64 - window.left)
+}
+
+/// Returns what is left of a window after its first `gone` bits.
+#[inline(always)]
+fn window_after(window: Window, gone: u32) -> Window
+    requires some { 0 < gone }
+    requires there { gone ≤ window.left }
+    requires size { window.left ≤ 64 }
+    ensures rest { binary result.left result.word ≡ drop gone (binary window.left window.word) }
+    ensures fits { result.word < 2 ^ result.left }
+    ensures end { result.end ≡ window.end }
+{
+    let left = window.left - gone;
+    Window {
+        word: window.word & ((1 << left) - 1),
+        left,
+        end: window.end,
+    }
+}
+
+/// `each_within`, with all numbers at once if there are eight to sixteen: for fewer, a table isn't
+/// faster.
+#[inline(always)]
+fn sequences_within(window: Window, numbers: &mut [u32]) -> Window
+    requires size { window.left ≤ 64 }
+    requires fits { window.word < 2 ^ window.left }
+    requires some { length numbers.old ≤ count_ones window.word }
+    ensures put { FillsNumbers fs 64 numbers.old numbers.new (binary result.left result.word)
+        (binary window.left window.word) }
+    ensures fits { result.word < 2 ^ result.left }
+    ensures end { result.end ≡ window.end }
+{
+    if numbers.len() < 8 || numbers.len() > 16 {
+        return each_within(window, numbers);
+    }
+    let gone = gaps_within(top_word(window), numbers);
+    window_after(window, gone)
 }
 
 /// Returns whether a window has `count` 1 bits left.
@@ -149,7 +199,7 @@ fn with_ones(buf: &BitBuf, window: Window, count: usize) -> Window
 
 /// Fills `numbers` with the numbers of the next fundamental sequences, with one test for all if 64
 /// bits have a 1 for each. Returns the window after them; `None` if the 64 bits at one of them have
-/// no 1.
+/// no 1. What is passed out of line is a copy of the window, which can so stay in registers.
 #[inline(always)]
 fn next_sequences(buf: &BitBuf, window: Window, numbers: &mut [u32]) -> Option<Window>
     requires { IsClearWindow buf.now.list window }
@@ -160,11 +210,16 @@ fn next_sequences(buf: &BitBuf, window: Window, numbers: &mut [u32]) -> Option<W
     if has_ones(ready, numbers.len()) {
         return Some(sequences_within(ready, numbers));
     }
-    sequences_one_by_one(buf, ready, numbers)
+    let apart = Window {
+        word: ready.word,
+        left: ready.left,
+        end: ready.end,
+    };
+    sequences_one_by_one(buf, apart, numbers)
 }
 
-/// Fills `numbers` with the numbers of the fundamental sequences from place `start` on, eight at a
-/// time. Returns the place after them; `None` if the 64 bits at one of them have no 1.
+/// Fills `numbers` with the numbers of the fundamental sequences from place `start` on, sixteen at
+/// a time. Returns the place after them; `None` if the 64 bits at one of them have no 1.
 #[inline(always)]
 pub(crate) fn sequences_from(buf: &BitBuf, start: u64, numbers: &mut [u32]) -> Option<u64>
     requires { start ≤ length buf.now.list }
@@ -175,10 +230,10 @@ pub(crate) fn sequences_from(buf: &BitBuf, start: u64, numbers: &mut [u32]) -> O
     ensures len { length numbers.new ≡ length numbers.old }
 {
     let mut window = window_from(buf, start);
-    for i in 0..numbers.len() / 8 {
-        window = next_sequences(buf, window, &mut numbers[8 * i..8 * i + 8])?;
+    for i in 0..numbers.len() / 16 {
+        window = next_sequences(buf, window, &mut numbers[16 * i..16 * i + 16])?;
     }
-    let done = 8 * (numbers.len() / 8);
+    let done = 16 * (numbers.len() / 16);
     let after = next_sequences(buf, window, &mut numbers[done..])?;
     Some(place_of(after))
 }

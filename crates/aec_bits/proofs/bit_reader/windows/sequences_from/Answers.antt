@@ -5,7 +5,7 @@ use Rattle.aec_bits.proofs.bit_reader.windows.sequences_from.Goals as goal
 pub returns-in_err-window-clause-cases : goal.returns-in_err-window-clause-cases
 returns-in_err-window-clause-cases c =
     rw c.from_residual.ensures
-    (stops_later 64 c.loop-i.numbers (8 * c.loop-i.i) _ (length c.args.numbers.now) _ (drop c.args.start c.args.buf.now.list)
+    (stops_later 64 c.loop-i.numbers (16 * c.loop-i.i) _ (length c.args.numbers.now) _ (drop c.args.start c.args.buf.now.list)
     (omega arith) (omega arith) c.in_err-window.ensures.cases c.loop-i.invariant.read)
 
 pub loop-i-preserved : goal.loop-i-preserved

@@ -1,8 +1,7 @@
 use Rattle.std.proofs.Common.{[], ap, ◌∙◌, zero-add}
-use Rattle.aec_block.specs.ReadAt.{pair_with_number, before_members}
-use Rattle.aec_block.proofs.PairTableLemmas.{rows_from-row}
+use Rattle.aec_bits.proofs.TableLaws.{at_place-listed_from}
+use Rattle.aec_block.proofs.PairTableLemmas.{members_of}
 use Rattle.aec_block.proofs.reading.pairs.short_pair.Goals as goal
 
 pub returns : goal.returns
-returns c =
-    rows_from-row 0 64 c.args.number c.requires ∙ ap (λ n. before_members (pair_with_number n) []) (zero-add c.args.number)
+returns c = at_place-listed_from members_of [] 0 64 c.args.number c.requires ∙ ap members_of (zero-add c.args.number)

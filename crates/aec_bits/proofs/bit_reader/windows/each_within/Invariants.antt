@@ -1,7 +1,7 @@
 use Rattle.std.proofs.Common.{count_ones, length, ◌≡◌, ◌+◌, ◌<◌, ◌≤◌, ◌^◌, take}
 use Rattle.aec_params.specs.Codewords.{fs, binary}
 use Rattle.aec_bits.specs.Windows.{StandsBefore}
-use Rattle.aec_bits.proofs.bit_reader.windows.sequences_within.Given as goal
+use Rattle.aec_bits.proofs.bit_reader.windows.each_within.Given as goal
 
 abbrev pub invariant-loop-i : goal.invariant-loop-i
 invariant-loop-i l = record {
