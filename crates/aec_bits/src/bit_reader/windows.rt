@@ -157,8 +157,7 @@ fn window_after(window: Window, gone: u32) -> Window
     }
 }
 
-/// `each_within`, with all numbers at once if there are eight to sixteen: for fewer, a table isn't
-/// faster.
+/// `each_within`, with eight to sixteen numbers at once: fewer take fewer instructions one by one.
 #[inline(always)]
 fn sequences_within(window: Window, numbers: &mut [u32]) -> Window
     requires size { window.left ≤ 64 }
@@ -172,8 +171,7 @@ fn sequences_within(window: Window, numbers: &mut [u32]) -> Window
     if numbers.len() < 8 || numbers.len() > 16 {
         return each_within(window, numbers);
     }
-    let gone = gaps_within(top_word(window), numbers);
-    window_after(window, gone)
+    window_after(window, gaps_within(top_word(window), numbers))
 }
 
 /// Returns whether a window has `count` 1 bits left.
@@ -199,7 +197,7 @@ fn with_ones(buf: &BitBuf, window: Window, count: usize) -> Window
 
 /// Fills `numbers` with the numbers of the next fundamental sequences, with one test for all if 64
 /// bits have a 1 for each. Returns the window after them; `None` if the 64 bits at one of them have
-/// no 1. What is passed out of line is a copy of the window, which can so stay in registers.
+/// no 1. For more than eight, a copy is passed out of line, so the window stays in registers.
 #[inline(always)]
 fn next_sequences(buf: &BitBuf, window: Window, numbers: &mut [u32]) -> Option<Window>
     requires { IsClearWindow buf.now.list window }
@@ -209,6 +207,9 @@ fn next_sequences(buf: &BitBuf, window: Window, numbers: &mut [u32]) -> Option<W
     let ready = with_ones(buf, window, numbers.len());
     if has_ones(ready, numbers.len()) {
         return Some(sequences_within(ready, numbers));
+    }
+    if numbers.len() <= 8 {
+        return sequences_one_by_one(buf, ready, numbers);
     }
     let apart = Window {
         word: ready.word,
