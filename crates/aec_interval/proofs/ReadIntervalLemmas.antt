@@ -75,7 +75,7 @@ module _ (s : Settings) (count : Option ℕ) (limit : ℕ) (bits : List Bool) (f
   by_block_end P r fault list same exit refuses =
       of_refusal r (P bits (first + s.interval)) fault exit (subst (λ e. P bits e fault) inside.end_is (subst (λ l. P l end fault) same refuses))
 
-  -- single blocks that are read after a coded data set don't go past the end of the interval
+  -- blocks that are read after a coded data set don't go past the end of the interval
   module _ (behind next : ℕ) (to : ComesNext s i behind) (after : behind ≤ next) (most : next ≤ max behind end) where
     pub comes-further : next < 2 ^ 34 → ComesNext s i next
     comes-further few = record {
@@ -91,11 +91,11 @@ module _ (s : Settings) (count : Option ℕ) (limit : ℕ) (bits : List Bool) (f
         both_parts (behind - i) (next - behind) (next - i) s.block_size (omega (arith, to.forward, after)) in
         omega (arith, both, few, more)
 
-  -- a capacity too small for the single blocks up to the end of an interval is too small for a
-  -- whole interval
-  pub no_room-single : (behind here len capacity before : ℕ) → ComesNext s i behind → here ≤ (i - first) * s.block_size
+  -- a capacity too small for the blocks up to the end of an interval is too small for a whole
+  -- interval
+  pub no_room-untested : (behind here len capacity before : ℕ) → ComesNext s i behind → here ≤ (i - first) * s.block_size
       → len ≤ here + (behind - i) * s.block_size → before ≤ capacity → capacity < len + (end - behind) * s.block_size → before < interval_len s
-  no_room-single behind here len capacity before to few more grown full =
+  no_room-untested behind here len capacity before to few more grown full =
       let there : (i - first) * s.block_size + (behind - i) * s.block_size ≡ (behind - first) * s.block_size =
       both_parts (i - first) (behind - i) (behind - first) s.block_size (omega (arith, to.forward, inside.after)) in
       let all : (behind - first) * s.block_size + (end - behind) * s.block_size ≡ s.interval * s.block_size =

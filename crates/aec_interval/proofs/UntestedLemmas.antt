@@ -168,7 +168,7 @@ module _ (s : Settings) (wanted : Wanted) (end i z : ℕ) (old : Cursor) (sample
       untested = here.untested;
     }
 
--- the samples of a single block are put after those before it
+-- the samples of a single block are written after those before it
 single-fills : (s : Settings) (all part : List ℤ) (values : List ℕ) (p : ℤ) (at k n : ℕ) → IsAllowed s
     → IsNextBlock s (take at all) (block_of_values None values)
     → p ≡ last_sample (take at all) → n ≡ at + k → at + k ≤ length all → length part ≡ k → Unmaps s p values [] part

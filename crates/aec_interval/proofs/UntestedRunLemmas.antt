@@ -55,7 +55,8 @@ held-zeros s due None samples x allowed has held is = by_preprocess s.preprocess
     by_preprocess false off =
         subst (λ (y : ℤ). IsHeld s y) (sym (is ∙ cond-false s.preprocess (last_sample samples) (pos 0) off)) (held-zero s allowed)
 
--- a run of z blocks was read at block p of an interval; x is the sample that it repeats after these
+-- a run of z blocks was read at block p of an interval; x is the sample that it repeats after the
+-- samples `before`
 module _ (s : Settings) (due : Bool) (p : ℕ) (old new : Cursor) (reference : Option ℕ) (len : RunLen) (z : ℕ) (before : List ℤ) (x : ℤ)
     (allowed : IsAllowed s) (place : p < s.interval) (read : (c : CodedDataSet) × IsReadAs s due old new c (Zeros reference len))
     (count_is : run_count s p len ≡ z) (held : AllByRecursion (IsHeld s) before) (x_is : x ≡ sample_of_zeros s reference before) where

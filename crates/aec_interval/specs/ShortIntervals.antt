@@ -40,8 +40,8 @@ pub record ReadsWhole (s : Settings) (n : ℕ) (old new : Cursor) (samples : Lis
   pub leads : (count : Option ℕ) (limit i : ℕ) → i % s.interval ≡ 0 → AreWithin s count limit (i + n * s.interval)
       → IsReached s count limit old.list i old.pos (i + n * s.interval) new.pos samples
 
--- the first n blocks of an interval were read into the front of the samples, if n isn't 0; the list
--- of samples keeps its length
+-- the first n blocks of an interval were read into the front of the samples, if n isn't 0; else the
+-- bits are the same, too. The list of samples keeps its length
 pub record FillsFirst (s : Settings) (old : Cursor) (samples : List ℤ) (n : ℕ) (new : Cursor)
     (after : List ℤ) : Type 0 where
   pub ok : 0 < n → ReadsFirst s n old new (take (n * s.block_size) after)

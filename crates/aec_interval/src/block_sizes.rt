@@ -23,6 +23,6 @@ pub(crate) use by_block_size;
 /// large function only if it has one caller.
 pub(crate) const IN_LONG_INTERVALS: usize = 3;
 
-/// The copy for the first block of a short interval without a reference sample. Those for the other
-/// blocks of short intervals are numbered as the kinds of `reading::short`.
+/// The copy for the first block, without a reference sample, of a short interval. Those for the
+/// other blocks of short intervals are numbered as the kinds of `reading::short_interval`.
 pub(crate) const FIRST_UNPREDICTED: usize = 5;

@@ -1,4 +1,4 @@
-//! A table of the places of ones in a byte.
+//! A table of the places after the ones of each byte.
 
 ghost use Rattle.std.specs.Prelude.{◌≡◌, ◌<◌};
 ghost use Rattle.aec_bits.specs.Ends.{ends_in_byte};

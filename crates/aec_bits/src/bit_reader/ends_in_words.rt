@@ -1,4 +1,4 @@
-//! Finds where the first 8 or 16 fundamental sequences of a word end: byte by byte, by a table.
+//! Finds where the first fundamental sequences of a word end, at most 16: byte by byte, by a table.
 
 ghost use Rattle.std.specs.Prelude.{◌≡◌, ◌+◌, ◌-◌, ◌*◌, ◌/◌, ◌%◌, ◌^◌, ◌<◌, ◌≤◌, ℕ, length, take, count_ones};
 ghost use Rattle.aec_params.specs.Codewords.{binary};
@@ -51,8 +51,8 @@ fn put_front<const N: u32>(word: u64, ends: &mut [u8]) -> usize
     count
 }
 
-/// Writes the first `count` ends in a word to `ends`, and other numbers after them. Reads its first
-/// `N` bytes, and then as many more as are needed.
+/// Writes the first `count` ends in a word to `ends`, and other numbers after them. Reads the
+/// word's first `N` bytes, and then as many more as are needed.
 #[inline(always)]
 fn put_count<const N: u32>(word: u64, count: usize, ends: &mut [u8])
     requires bytes { N ≤ 8 }
@@ -96,8 +96,8 @@ fn sixteen_gaps(ends: &[u8; 40]) -> [u32; 16]
 }
 
 /// Fills `numbers`, eight at most, with those of the fundamental sequences at the top of a word.
-/// Returns the place after them. Three bytes contain nearly all. The last end is read before the
-/// vector of all, since a load of what several stores wrote has to wait for them.
+/// Returns the place after them. Three bytes nearly always contain eight ends. The last end is
+/// loaded before the vector of all ends, since a load of what several stores wrote waits for them.
 #[inline(always)]
 fn eight_within(word: u64, numbers: &mut [u32]) -> u32
     requires some { 0 < length numbers.old }
@@ -113,7 +113,7 @@ fn eight_within(word: u64, numbers: &mut [u32]) -> u32
     u32::from(gone)
 }
 
-/// `eight_within` for sixteen at most. Five bytes contain nearly all.
+/// `eight_within` for sixteen at most. Five bytes nearly always contain sixteen ends.
 #[inline(always)]
 fn sixteen_within(word: u64, numbers: &mut [u32]) -> u32
     requires some { 0 < length numbers.old }

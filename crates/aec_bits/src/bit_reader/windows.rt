@@ -157,7 +157,7 @@ fn window_after(window: Window, gone: u32) -> Window
     }
 }
 
-/// `each_within`, with eight to sixteen numbers at once: fewer take fewer instructions one by one.
+/// Like `each_within`, but reads 8 to 16 numbers at once: fewer are faster read one by one.
 #[inline(always)]
 fn sequences_within(window: Window, numbers: &mut [u32]) -> Window
     requires size { window.left ≤ 64 }
@@ -197,7 +197,7 @@ fn with_ones(buf: &BitBuf, window: Window, count: usize) -> Window
 
 /// Fills `numbers` with the numbers of the next fundamental sequences, with one test for all if 64
 /// bits have a 1 for each. Returns the window after them; `None` if the 64 bits at one of them have
-/// no 1. For more than eight, a copy is passed out of line, so the window stays in registers.
+/// no 1. A copy passed out of line leaves the window in registers; for up to eight it costs more.
 #[inline(always)]
 fn next_sequences(buf: &BitBuf, window: Window, numbers: &mut [u32]) -> Option<Window>
     requires { IsClearWindow buf.now.list window }

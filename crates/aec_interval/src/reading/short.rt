@@ -89,7 +89,8 @@ fn fill_usual_intervals<const KIND: usize>(
     }
 }
 
-/// `fill_usual_intervals` for single blocks if such a block comes next, else for zero blocks.
+/// `fill_usual_intervals` for any intervals if a single block comes next, else for intervals that
+/// are each one run of zero blocks.
 fn fill_next_intervals(
     params: &Params,
     reader: &mut BitReader,

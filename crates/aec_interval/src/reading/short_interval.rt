@@ -19,12 +19,12 @@ use aec_params::Params;
 /// The kind of an interval that is one run of zero blocks.
 pub(crate) const ZEROS: usize = 10;
 
-/// The kind of an interval whose samples are predicted. It is also the number of the copy of
-/// `read_single` for the blocks after the first coded data set.
+/// The kind of an interval of single blocks and runs whose samples are predicted. It is also the
+/// number of the copy of `read_single` for the blocks after the first coded data set.
 pub(crate) const PREDICTED: usize = 11;
 
-/// The kind of an interval whose samples aren't predicted. It is also the number of the copy of
-/// `read_single` for the blocks after the first coded data set.
+/// The kind of an interval of single blocks and runs whose samples aren't predicted. It is also the
+/// number of the copy of `read_single` for the blocks after the first coded data set.
 pub(crate) const UNPREDICTED: usize = 12;
 
 /// Reads the next block as the first of its interval, with a reference sample, if it is a single
@@ -104,9 +104,9 @@ fn fill_first_block<const N: usize, const M: usize, const KIND: usize>(
     0
 }
 
-/// Reads the next run of zero blocks, if one comes, as the first of its interval, and isn't longer
-/// than the interval. Returns how many blocks it has, and the sample that it repeats. Else returns
-/// `None`, and the reader hasn't moved.
+/// Reads the next coded data set as the first of its interval, if it is a run of zero blocks and no
+/// longer than the interval. Returns how many blocks it has, and the sample that it repeats. Else
+/// returns `None`, and the reader hasn't moved.
 #[inline(always)]
 fn read_first_run(params: &Params, reader: &mut BitReader) -> Option<(u64, i64)>
     requires short { params.now.interval ≤ 64 }
@@ -145,7 +145,7 @@ fn fill_first_run(params: &Params, reader: &mut BitReader, samples: &mut [i64]) 
     blocks as usize
 }
 
-/// `fill_first_block`, or `fill_first_run` if a run comes.
+/// `fill_first_block`; if that reads none, `fill_first_run`.
 #[inline(always)]
 fn fill_first<const N: usize, const M: usize, const KIND: usize>(
     params: &Params,
@@ -196,8 +196,8 @@ fn fill_rest<const N: usize, const COPY: usize>(
     fill_blocks::<N, COPY>(params, reader, place, rest, values, samples, from) == rest
 }
 
-/// Reads the next interval, if its samples are predicted as `KIND` says, and writes its samples to
-/// `samples`. Else returns false, and the reader hasn't moved.
+/// Reads the next interval, if `fill_first` and `fill_rest` read all of it, and writes its samples
+/// to `samples`. Else returns false, and the reader hasn't moved.
 #[inline(always)]
 fn fill_mixed_interval<const N: usize, const M: usize, const KIND: usize>(
     params: &Params,
@@ -257,8 +257,9 @@ fn fill_zero_interval(params: &Params, reader: &mut BitReader, samples: &mut [i6
     true
 }
 
-/// Reads the next interval, if it is of kind `KIND`, and writes its samples to `samples`. Else
-/// returns false, and the reader hasn't moved. One loop for all kinds would make each slower.
+/// Reads the next interval and writes its samples to `samples`, or returns false, and the reader
+/// hasn't moved. `KIND` says what the interval may be, for speed alone: no clause speaks of it. One
+/// loop for all kinds would make each slower.
 #[inline(always)]
 pub(crate) fn fill_interval<const N: usize, const M: usize, const KIND: usize>(
     params: &Params,

@@ -1,7 +1,7 @@
 //! Reads blocks without a reference sample, single ones and runs of zero blocks, one coded data set
-//! after the other, if none needs a test of its place. `read_untested_blocks` sets how many blocks,
-//! makes their places and keeps the filled ones; `fill_blocks` reads while `fill_next` reads one
-//! coded data set more.
+//! after the other, if no block needs a test of its place. `read_untested_blocks` chooses how many
+//! blocks to try, appends places for them and cuts off the unfilled ones; `fill_blocks` calls
+//! `fill_next` until that reads nothing.
 
 ghost use Rattle.std.specs.Prelude.{◌≡◌, ◌≤◌, ◌<◌, ◌+◌, ◌-◌, ◌*◌, ◌%◌, ◌^◌, false, max, length, take, vec_len, vec_capacity, IfSome, IfOk, IfErr, OnErr};
 ghost use Rattle.std.specs.List.{AllByRecursion};
@@ -19,7 +19,8 @@ use aec_bits::BitReader;
 use aec_block::{MOST_VALUES, is_single_next, read_run, read_single, unmap_into};
 use aec_params::{Fault, Params};
 
-/// Room is made for this many blocks at first, since often no more single blocks follow.
+/// Room is made for this many blocks at first, since often no more blocks follow that can be read
+/// here.
 const BLOCKS_AT_FIRST: usize = 2;
 
 /// Then room is made for the blocks of about this many more samples. Places are cleared before they
@@ -50,7 +51,7 @@ fn untested_end(params: &Params, wanted: Wanted, end: u64) -> u64
 
 /// Reads the next run of zero blocks, from place `place` of an interval on, and writes its samples
 /// after the first `from` samples. Returns how many blocks it read: 0 if no run comes, or if it has
-/// more than `most` blocks or goes past the end of its segment.
+/// more than `most` blocks or goes past the end of its segment (no clause says when).
 #[cold]
 #[inline(never)]
 fn fill_run(
@@ -223,8 +224,10 @@ fn fill_usual_blocks(
 }
 
 /// Reads the next blocks before block `end`, where the interval ends, if a single one comes first,
-/// and appends their samples. Returns the number of the next block: `block` if none was read. Fails
-/// with `Memory` only if there was no room for the samples that the interval has left.
+/// and appends their samples. Returns the number of the next block: `block` if none was read. Stops
+/// at a coded data set that isn't read, such as a run with more blocks than places were made for,
+/// and at a run where it would make more places; no clause says how far it comes. Fails with
+/// `Memory` only if there was no room for the samples that the interval has left.
 #[inline(never)]
 pub(crate) fn read_untested_blocks(
     params: &Params,

@@ -1,7 +1,7 @@
 use Rattle.std.proofs.Common.{rules, ap, refl, sym, ◌∙◌, arith, length, vec_len, vec_capacity}
 use Rattle.aec_interval.specs.Reached.{RefusesUpTo}
 use Rattle.aec_interval.proofs.ReadNextLemmas.{reached-start}
-use Rattle.aec_interval.proofs.ReadIntervalLemmas.{place, inside-begun, no_room-refuses, no_room-single, by_its_end, by_block_end, comes-further, len-further, gone-over, len-within}
+use Rattle.aec_interval.proofs.ReadIntervalLemmas.{place, inside-begun, no_room-refuses, no_room-untested, by_its_end, by_block_end, comes-further, len-further, gone-over, len-within}
 use Rattle.aec_interval.proofs.RefusalLemmas.{of_refusal}
 use Rattle.aec_interval.proofs.reading.read_interval.Goals as goal
 
@@ -36,7 +36,7 @@ returns-in_err-block-clause-refuses c =
 pub returns-in_err-block-clause-full : goal.returns-in_err-block-clause-full
 returns-in_err-block-clause-full c =
     of_refusal _ _ _ c.from_residual-in_err-block.ensures.1
-    (λ memory. no_room-single _ _ _ _ _ _ _ _ c.loop-behind.invariant.inside c.in_ok-behind.behind (vec_len c.loop-behind.samples)
+    (λ memory. no_room-untested _ _ _ _ _ _ _ _ c.loop-behind.invariant.inside c.in_ok-behind.behind (vec_len c.loop-behind.samples)
     (vec_len c.read_next.new.samples) (vec_capacity c.read_next.new.samples) (vec_capacity c.args.samples.now) c.in_ok-behind.ensures.next
     c.loop-behind.invariant.len c.in_ok-behind.ensures.len (omega (arith, c.loop-behind.invariant.capacity, c.read_next.ensures.capacity))
     c.in_err-block.ensures.full)
