@@ -30,7 +30,7 @@ from concurrent.futures import ThreadPoolExecutor, as_completed
 sys.path.insert(0, os.path.join(os.path.dirname(__file__), "..", "tools"))
 
 from must_fail import Unusable, changed_texts, other_edits_of
-from sources import TOP, crate_lines, text_of
+from sources import TOP, below, crate_lines, text_of
 
 REFUSED = "logic=not-proved"
 # The most seconds that a check over kept proofs may take, and one that may begin from nothing.
@@ -104,12 +104,6 @@ def asked_of(words, crates):
         sys.exit("wrong_bodies.py --changed takes one commit")
     found = {crate: other_edits_of(crate) for crate in crates}
     return {crate: edits for crate, edits in found.items() if edits}
-
-
-def below(crate, lines):
-    """Returns the crates of the repository that a crate uses, directly or through others."""
-    found = {name for name in lines[crate].uses if name in lines}
-    return found.union(*(below(name, lines) for name in found))
 
 
 def copy_of(crate, lines, room):

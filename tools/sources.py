@@ -129,6 +129,12 @@ def crate_lines():
     return {line[1]: CrateLine(line[2] or "", line[3].split(), line[0]) for line in lines if line}
 
 
+def below(crate, lines):
+    """Returns the crates of the repository that a crate uses, directly or through others."""
+    found = {name for name in lines[crate].uses if name in lines}
+    return found.union(*(below(name, lines) for name in found))
+
+
 def all_crates():
     """Returns the crates of the repository by name, lowest first."""
     return {name: crate_of(name) for name in crate_lines()}
