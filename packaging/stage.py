@@ -2,9 +2,12 @@
 
 import os
 import re
+import runpy
 import subprocess
 
 import pages
+
+PLAIN, V3 = "x86-64-v2", "x86-64-v3"
 
 
 def write(path, data, mode=0o644):
@@ -33,14 +36,25 @@ def made(top, target, folder, *words):
 
 
 def program(top, folder, prefix, name):
-    """Installs the program with its manual page, completions and pages, as `make install` does."""
-    made(top, "install", folder, f"PREFIX={prefix}", f"PROGRAM={name}")
+    """Installs the plain program with its manual page, completions and pages, as `make install` does."""
+    made(top, "install", folder, f"PREFIX={prefix}", f"PROGRAM={name}", f"CPU={PLAIN}")
 
 
 def library(top, folder, prefix, libdir, pc_prefix):
-    """Installs the library for C, as `make install-c` does."""
+    """Installs the library for C, as `make install-c` does: for both levels."""
     words = [f"PREFIX={prefix}", f"LIBDIR={prefix}/{libdir}", "PC_PREFIX=" + pc_prefix.replace("$", "$$")]
     made(top, "install-c", folder, *words)
+
+
+def level_function(top):
+    """Returns the shell function of level.sh, with the flags that the Python module has."""
+    flags = runpy.run_path(os.path.join(top, "python/aecp/levels.py"))["FLAGS"]
+    return read(os.path.join(top, "packaging/level.sh")).decode().replace("@FLAGS@", " ".join(flags))
+
+
+def with_level_function(top, script):
+    """Returns a script with the shell function instead of its line @LEVEL_OF@."""
+    return script.replace(b"@LEVEL_OF@\n", level_function(top).encode())
 
 
 def user_pages(folder, without):

@@ -7,6 +7,7 @@ import functools
 import os
 from typing import Any
 
+from aecp.levels import names_of
 from aecp.options import FLAGS, NUMBERS, Options
 
 HERE = os.path.dirname(os.path.abspath(__file__))
@@ -59,12 +60,13 @@ class Reader(ctypes.Structure):
 
 def place_of_library() -> str:
     """Returns the path of the library: AECP_LIBRARY, else beside this module, else in a checkout's bin/, else where the loader
-    looks for SONAME."""
+    looks for SONAME. Beside this module and in bin/, the library for the processor's level comes first."""
     named = os.environ.get("AECP_LIBRARY")
     if named:
         return named
-    here = (os.path.join(HERE, NAME), os.path.normpath(os.path.join(HERE, "..", "..", "bin", NAME)))
-    return next(filter(os.path.exists, here), SONAME)
+    folders = (HERE, os.path.normpath(os.path.join(HERE, "..", "..", "bin")))
+    places = (os.path.join(folder, name) for folder in folders for name in names_of(NAME))
+    return next(filter(os.path.exists, places), SONAME)
 
 
 def call_types() -> dict[str, tuple[Any, list[Any]]]:
