@@ -1,21 +1,49 @@
 # What a user, a packager and a developer run. Building needs the kit's command `rt` and python3; the library also cc, ld, objcopy and
 # ar. Installing needs python3. `make dist` needs objdump, dpkg-deb, and git or the variable SOURCE_DATE_EPOCH.
 #
-# Variables: PREFIX; DESTDIR, a folder that replaces / as the root; PROGRAM, the program's installed name; BUILT, the file to install as
-# the program, bin/aec if it isn't given; LIBDIR and PYTHON_DIR, where the library and the Python module go; PC_PREFIX, the prefix in
+# Variables: PREFIX; DESTDIR, a folder that replaces / as the root; PROGRAM, the program's installed name; CPU, the level of processor
+# to build and install for, x86-64-v2 or x86-64-v3, by default the one that this processor has; BUILT, the file to install as the
+# program, by default the one for CPU; LIBDIR and PYTHON_DIR, where the library and the Python module go; PC_PREFIX, the prefix in
 # aecp.pc; PYTHON, the interpreter that runs the scripts of packaging/ and says what PYTHON_DIR is if that isn't given.
 PREFIX ?= /usr/local
 
 VERSION := $(shell cat VERSION)
 PYTHON ?= python3
+# Only as an argument of make: some systems have an environment variable CPU, with other values.
+ifneq ($(origin CPU),command line)
+CPU := $(shell $(PYTHON) python/aecp/levels.py)
+else ifeq ($(filter x86-64-v2 x86-64-v3,$(CPU)),)
+$(error CPU is x86-64-v2 or x86-64-v3, not $(CPU))
+endif
+# Given two texts, is the first for x86-64-v3 and the second for x86-64-v2.
+by_cpu = $(if $(filter x86-64-v3,$(CPU)),$(1),$(2))
 
 .PHONY: all try example sizes test pages man version theorem wrong-bodies install uninstall bench pictures clean
 
-# Proves the program and the crates that it uses, and builds bin/aec.
+# Proves the program and the crates that it uses, and builds bin/aec, which runs on x86-64-v2. If CPU is x86-64-v3, also builds
+# bin/x86-64-v3/aec from the same proofs.
 all: bin/aec
+	@$(call by_cpu,$(MAKE) -s v3-program)
 
 bin/aec: FORCE
-	@at=$$($(PYTHON) packaging/proved.py commit) && sh build.sh && $(PYTHON) packaging/proved.py record "$$at" bin/aec
+	@at=$$($(PYTHON) packaging/proved.py state) && sh build.sh && $(PYTHON) packaging/proved.py record "$$at" bin/aec
+
+# Builds for x86-64-v3 what bin/ has for x86-64-v2, and refuses if the crates have changed meanwhile: program, library, both.
+.PHONY: v3 v3-program v3-library
+v3: v3-program v3-library
+v3-program v3-library:
+	@$(PYTHON) packaging/build_v3.py $(patsubst v3-%,%,$@)
+
+# Proves and builds program and library for both levels.
+.PHONY: levels
+levels:
+	@$(MAKE) -s all library CPU=x86-64-v3
+
+# Tests bin/x86-64-v3/aec by the scripts of tests/ that run a program, and compares it with bin/aec. SHORT=1: few jobs, half a minute.
+.PHONY: test-cpu
+SHORT ?=
+test-cpu:
+	@$(PYTHON) tests/levels.py $(if $(SHORT),--short)
 
 FORCE:
 
@@ -24,7 +52,7 @@ try:
 	@sh try.sh
 
 # Runs bin/aec on the files of examples/.
-example: bin/aec
+example: all
 	@sh examples/run.sh bin/aec
 
 # Prints how many bytes a file takes with each block size and interval: make sizes FILE=.. OPTIONS="-n 16". Needs bin/libaecp.so.
@@ -90,12 +118,16 @@ bench: bin/aec
 pictures:
 	python3 bench/pictures.py
 
-# Installs what `make` has built. It needs python3, but no rt. To keep libaec's client as `aec`, give another name as PROGRAM.
+# Installs the program that `make` has built for CPU. It needs python3, but no rt. To keep libaec's client as `aec`, give another name as
+# PROGRAM.
 PROGRAM ?= aec
-BUILT ?= bin/aec
+BUILT ?= bin/$(call by_cpu,x86-64-v3/)aec
+or_plain = $(if $(filter bin/x86-64-v3/aec,$(BUILT)),$(comma) or give CPU=x86-64-v2 to install bin/aec)
+comma := ,
 share = $(DESTDIR)$(PREFIX)/share
 install:
-	@test -x $(BUILT) || { echo "there is no $(BUILT): run make first, which proves the program and builds it" >&2; exit 1; }
+	@test -x $(BUILT) || { echo "there is no $(BUILT): run make first, which proves the program and builds it$(or_plain)" >&2; exit 1; }
+	@echo "installing $(BUILT)$(if $(filter file,$(origin BUILT)), for $(CPU)) as $(PREFIX)/bin/$(PROGRAM)"
 	install -d $(DESTDIR)$(PREFIX)/bin $(share)/man/man1 $(share)/bash-completion/completions $(share)/zsh/site-functions
 	install -m 755 $(BUILT) $(DESTDIR)$(PREFIX)/bin/$(PROGRAM)
 	sed 's|share/doc/aec|share/doc/$(PROGRAM)|' man/aec.1 > $(share)/man/man1/$(PROGRAM).1
@@ -113,10 +145,12 @@ uninstall:
 clean:
 	rm -rf bin dist crates/*/out
 
-# Proves the library for C, and builds bin/libaecp.a and bin/libaecp.so. The Python module needs the latter.
+# Proves the library for C, and builds bin/libaecp.a and bin/libaecp.so. The Python module needs the latter. If CPU is x86-64-v3, also
+# builds both for this level in bin/x86-64-v3/.
 .PHONY: library test-library install-library install-c install-python uninstall-library
 library:
-	@at=$$($(PYTHON) packaging/proved.py commit) && sh library.sh && $(PYTHON) packaging/proved.py record "$$at" bin/libaecp.a bin/libaecp.so
+	@at=$$($(PYTHON) packaging/proved.py state) && sh library.sh && $(PYTHON) packaging/proved.py record "$$at" bin/libaecp.a bin/libaecp.so
+	@$(call by_cpu,$(MAKE) -s v3-library)
 
 # Tests the library in bin/ against the program that the gate has built.
 test-library:
@@ -126,7 +160,10 @@ test-library:
 	python3 tests/library_builds.py
 	python3 tests/archive.py bin
 
-# Header, libraries, aecp(3), files for pkg-config and CMake, Python module, command `aecp` with aecp(1). The module goes where `python3` looks for modules, with its own copy of the library.
+# Header, libraries, aecp(3), files for pkg-config and CMake, Python module, command `aecp` with aecp(1). The module goes where `python3`
+# looks for modules, with its own copy of the library. If the library for x86-64-v3 is built, it is installed too: the loader chooses it
+# by its folder, from glibc 2.33 on, and the module by the processor.
+hwcaps = glibc-hwcaps/x86-64-v3
 PYTHON_DIR ?= $(shell $(PYTHON) -c 'import sysconfig; print(sysconfig.get_path("purelib"))')
 LIBDIR ?= $(PREFIX)/lib
 PC_PREFIX ?= $(PREFIX)
@@ -142,6 +179,8 @@ install-c:
 	install -m 644 bin/libaecp.a $(DESTDIR)$(LIBDIR)/libaecp.a
 	install -m 755 bin/libaecp.so $(DESTDIR)$(LIBDIR)/libaecp.so.0
 	ln -sf libaecp.so.0 $(DESTDIR)$(LIBDIR)/libaecp.so
+	if [ -e bin/x86-64-v3/libaecp.so ]; then \
+	    install -D -m 755 bin/x86-64-v3/libaecp.so $(DESTDIR)$(LIBDIR)/$(hwcaps)/libaecp.so.0; fi
 	sed 's|@PREFIX@|$(PC_PREFIX)|; s|@LIBDIR@|$(patsubst $(PREFIX)/%,$${prefix}/%,$(LIBDIR))|; s|@VERSION@|$(VERSION)|' include/aecp.pc.in \
 	    > $(DESTDIR)$(LIBDIR)/pkgconfig/aecp.pc
 	install -d $(DESTDIR)$(LIBDIR)/cmake/aecp $(share)/man/man3
@@ -154,6 +193,8 @@ install-python:
 	install -d $(DESTDIR)$(PREFIX)/bin $(share)/man/man1 $(DESTDIR)$(PYTHON_DIR)/aecp $(info)
 	install -m 644 python/aecp/*.py python/aecp/py.typed $(DESTDIR)$(PYTHON_DIR)/aecp
 	install -m 755 bin/libaecp.so $(DESTDIR)$(PYTHON_DIR)/aecp/libaecp.so
+	if [ -e bin/x86-64-v3/libaecp.so ]; then \
+	    install -D -m 755 bin/x86-64-v3/libaecp.so $(DESTDIR)$(PYTHON_DIR)/aecp/x86-64-v3/libaecp.so; fi
 	printf '#!/usr/bin/env python3\nfrom aecp.cli import main\n\nmain()\n' > $(DESTDIR)$(PREFIX)/bin/aecp
 	chmod 755 $(DESTDIR)$(PREFIX)/bin/aecp
 	install -m 644 man/aecp.1 $(share)/man/man1/aecp.1
@@ -164,9 +205,10 @@ install-python:
 uninstall-library:
 	rm -f $(DESTDIR)$(PREFIX)/include/aecp.h $(DESTDIR)$(PREFIX)/bin/aecp $(DESTDIR)$(LIBDIR)/pkgconfig/aecp.pc
 	rm -f $(DESTDIR)$(LIBDIR)/libaecp.a $(DESTDIR)$(LIBDIR)/libaecp.so.0 $(DESTDIR)$(LIBDIR)/libaecp.so
-	rm -f $(share)/man/man1/aecp.1 $(share)/man/man3/aecp.3
+	rm -f $(share)/man/man1/aecp.1 $(share)/man/man3/aecp.3 $(DESTDIR)$(LIBDIR)/$(hwcaps)/libaecp.so.0
 	rm -rf $(DESTDIR)$(LIBDIR)/cmake/aecp $(DESTDIR)$(PYTHON_DIR)/aecp $(info)
 	-rmdir $(DESTDIR)$(LIBDIR)/cmake 2> /dev/null
+	rmdir $(DESTDIR)$(LIBDIR)/$(hwcaps) $(DESTDIR)$(LIBDIR)/glibc-hwcaps 2> /dev/null || true
 
 # Packages of what `make` and `make library` have built, in dist/: a tarball, Debian packages and a wheel. UNPROVED=1 packs
 # them, for a try, without checking that they were proved; then the file PROVED of each package says that nothing is proved.

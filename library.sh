@@ -1,10 +1,12 @@
 #!/bin/sh
 # Proves and builds the library for C, with every crate that it stands on, and leaves bin/libaecp.a and bin/libaecp.so: the names
 # that begin with aecp_ are all that they define for others, and the C library is all that they need. With the word --link only
-# the last step is made, on the archive that is there. Run from the top of the repository by `make library`.
+# the last step is made, on the archive that is there, or on the one that the variable ARCHIVE names; `--link FOLDER` leaves both files
+# there instead of in bin. Run from the top of the repository by `make library`.
 set -eu
-mkdir -p bin
-log=bin/library.log
+bin=${2:-bin}
+mkdir -p "$bin"
+log=$bin/library.log
 archive=crates/aec_c/out/libaec_c.a
 
 if ! command -v rt > /dev/null; then
@@ -29,6 +31,6 @@ trap 'rm -rf "$work"' EXIT
 # shellcheck disable=SC2086
 ld -r --gc-sections $roots -o "$work/all.o" --whole-archive "${ARCHIVE:-$archive}" --no-whole-archive "$kit/c/liblibc_c.a"
 objcopy --wildcard --keep-global-symbol='aecp_*' "$work/all.o" "$work/aecp.o"
-rm -f bin/libaecp.a
-ar rcs bin/libaecp.a "$work/aecp.o"
-${CC:-cc} -shared -o bin/libaecp.so "$work/aecp.o" -Wl,-soname,libaecp.so.0 -Wl,-z,defs
+rm -f "$bin/libaecp.a"
+ar rcs "$bin/libaecp.a" "$work/aecp.o"
+${CC:-cc} -shared -o "$bin/libaecp.so" "$work/aecp.o" -Wl,-soname,libaecp.so.0 -Wl,-z,defs

@@ -1,20 +1,24 @@
 #!/usr/bin/env python3
-"""Records what was proved of the built files: proved.py commit | record COMMIT FILE.. | gate COMMIT LOG
+"""Records what was proved of the built files: proved.py state | record STATE FILE.. | gate STATE LOG
 
-commit: prints the commit of the checkout, before a build begins.
-record: after `make` or `make library` has proved and built FILE, writes FILE.proved beside it: the file's SHA-256, the commit and
-the kit. `make dist` packs a file only if its sum and commit still match and all files have one kit. It also writes sum, commit and
-kit into the file PROVED of each package.
-gate: after `make test` has run the gate, writes the commit and the last line of the gate's LOG to bin/gate.
+state: prints the commit of the checkout and the sum of its crates, before a build begins.
+record: after `make` or `make library` has proved and built FILE, writes FILE.proved beside it: the file's SHA-256, the state and
+the kit. `make dist` packs a file only if its sum and state still match and all files have one kit. It also writes sum, commit and
+kit into the file PROVED of each package. A file of bin/ that was built for x86-64-v3 from other crates is removed: nothing may
+take it for the same program.
+gate: after `make test` has run the gate, writes the state and the last line of the gate's LOG to bin/gate.
 """
 
 import hashlib
 import os
 import subprocess
 import sys
+from typing import NamedTuple
 
 TOP = os.path.abspath(os.path.join(os.path.dirname(os.path.abspath(__file__)), ".."))
 GATE = "bin/gate"
+# The level that the gate doesn't build, and the folder of its files.
+LEVEL = "x86-64-v3"
 
 HEAD = """aec {version} for Linux on x86-64. A checker has proved that each Rattle function of the program and of the library keeps
 its contract. The page docs/PROOFS.md of the source lists what the contracts say, and what isn't proved.
@@ -23,14 +27,30 @@ kit     {kit}
 commit  {commit}
 gate    {gate}
 
-SHA-256 of each binary. To compare one, run `sha256sum` on the binary.
+SHA-256 of each binary. To compare one, run `sha256sum` on the binary. A path with x86-64-v3 is of a binary for processors
+of this level, any other of one for x86-64-v2.
 """
 UNPROVED = """aec {version} for Linux on x86-64. NOTHING IS PROVED of these binaries. They were built for trying the packages.
 
 commit  {commit}
 
-SHA-256 of each binary.
+SHA-256 of each binary. A path with x86-64-v3 is of a binary for processors of this level, any other of one for x86-64-v2.
 """
+
+
+BUILD = "run make levels"
+
+
+class Record(NamedTuple):
+    """What is recorded of a built file: its SHA-256, the commit and the sum of the crates that it was built from, the kit."""
+
+    sum: str
+    state: str
+    kit: str
+
+    def crates(self):
+        """Returns the sum of the crates."""
+        return self.state.rpartition(" ")[2]
 
 
 class NotProved(Exception):
@@ -59,6 +79,20 @@ def commit():
     return name + (" with changes" if git("status", "--porcelain", "--untracked-files=no") else "")
 
 
+def crates():
+    """Returns a sum of what the proofs read: crates.txt, and src/, specs/ and proofs/ of each crate."""
+    top = os.path.join(TOP, "crates")
+    parts = [os.path.join(top, crate, part) for crate in os.listdir(top) for part in ("src", "specs", "proofs")]
+    paths = [os.path.join(at, name) for part in parts for at, _, names in os.walk(part) for name in names]
+    lines = [f"{os.path.relpath(path, TOP)} {sum_of(path)}\n" for path in sorted([os.path.join(TOP, "crates.txt"), *paths])]
+    return hashlib.sha256("".join(lines).encode()).hexdigest()[:16]
+
+
+def state():
+    """Returns the commit of the checkout and the sum of its crates."""
+    return f"{commit()}, crates {crates()}"
+
+
 def sum_of(path):
     """Returns the SHA-256 of a file."""
     with open(path, "rb") as file:
@@ -66,13 +100,44 @@ def sum_of(path):
 
 
 def record(at, path):
-    """Writes sum, commit and kit of a file that was just proved and built."""
-    with open(path + ".proved", "w", encoding="utf-8") as file:
-        file.write(f"{sum_of(path)}\n{at}\n{told('rt', 'version')}\n")
+    """Writes sum, state and kit of a file that was just proved and built. Removes its counterpart in the folder LEVEL if that was
+    built from other crates or by another kit."""
+    with open(os.path.join(TOP, path + ".proved"), "w", encoding="utf-8") as file:
+        file.write(f"{sum_of(os.path.join(TOP, path))}\n{at}\n{told('rt', 'version')}\n")
+    other = counterpart(path)
+    if os.path.exists(os.path.join(TOP, other)) and not is_same_build(path, other):
+        os.remove(os.path.join(TOP, other))
+        print(f"{other} is removed, since it was not built from these crates")
+
+
+def counterpart(path):
+    """Returns where the file is that is built for LEVEL instead."""
+    return os.path.join(os.path.dirname(path), LEVEL, os.path.basename(path))
+
+
+def record_of(path):
+    """Returns the record of a file. Raises NotProved if there is none, or if the file has another sum."""
+    try:
+        with open(os.path.join(TOP, path + ".proved"), encoding="utf-8") as file:
+            found = Record(*file.read().splitlines())
+    except (OSError, TypeError):
+        raise NotProved(f"{path}.proved is missing: {BUILD}") from None
+    if found.sum != sum_of(os.path.join(TOP, path)):
+        raise NotProved(f"{path} isn't the file that make has built: {BUILD}")
+    return found
+
+
+def is_same_build(path, other):
+    """Returns whether two files are as they were recorded, and were built from the same crates by one kit."""
+    try:
+        one, two = record_of(path), record_of(other)
+    except (NotProved, OSError):
+        return False
+    return (one.crates(), one.kit) == (two.crates(), two.kit)
 
 
 def record_gate(at, log):
-    """Writes a commit, and the last line of the gate's log at this commit, to bin/gate."""
+    """Writes a state, and the last line of the gate's log at this state, to bin/gate."""
     with open(log, encoding="utf-8") as file:
         lines = file.read().splitlines()
     os.makedirs(os.path.join(TOP, "bin"), exist_ok=True)
@@ -81,33 +146,27 @@ def record_gate(at, log):
 
 
 def kit_of(paths):
-    """Returns the kit that has proved these files. Raises NotProved if a file or its commit has changed, or if the files have
-    several kits."""
-    kits = set()
+    """Returns the kit that has proved these files. Raises NotProved if a file, its commit or its crates have changed, or if the
+    files have several kits."""
+    kits, now = set(), state()
     for path in paths:
-        try:
-            with open(os.path.join(TOP, path + ".proved"), encoding="utf-8") as file:
-                told_sum, told_commit, kit = file.read().splitlines()
-        except (OSError, ValueError):
-            raise NotProved(f"{path}.proved is missing: run make and make library") from None
-        if told_sum != sum_of(os.path.join(TOP, path)):
-            raise NotProved(f"{path} isn't the file that make has built: run make and make library")
-        if told_commit != commit():
-            raise NotProved(f"{path} was built at commit {told_commit}, and this is {commit()}: run make and make library")
-        kits.add(kit)
+        found = record_of(path)
+        if found.state != now:
+            raise NotProved(f"{path} was built at commit {found.state}, and this is {now}: {BUILD}")
+        kits.add(found.kit)
     if len(kits) != 1:
-        raise NotProved(f"the files were proved by different kits, {sorted(kits)}: run make and make library")
+        raise NotProved(f"the files were proved by different kits, {sorted(kits)}: {BUILD}")
     return kits.pop()
 
 
 def gate():
-    """Returns the last line of the gate at this commit, from bin/gate, or a text that it wasn't run."""
+    """Returns the last line of the gate at this commit and of these crates, from bin/gate, or a text that it wasn't run."""
     try:
         with open(os.path.join(TOP, GATE), encoding="utf-8") as file:
             at, line = file.read().splitlines()
     except (OSError, ValueError):
         at, line = "", ""
-    return line if at == commit() else "make test was not run at this commit on the machine that made this package"
+    return line if at == state() else "make test was not run at this commit on the machine that made this package"
 
 
 def head(version, paths, is_proved):
@@ -119,8 +178,8 @@ def head(version, paths, is_proved):
 
 def main():
     action, words = (sys.argv[1:2] or [""])[0], sys.argv[2:]
-    if action == "commit" and not words:
-        print(commit())
+    if action == "state" and not words:
+        print(state())
     elif action in ("record", "gate") and len(words) > 1:
         for path in words[1:]:
             record(words[0], path) if action == "record" else record_gate(words[0], path)

@@ -102,11 +102,11 @@ gate() {
     env ${jobs:+RT_JOBS="$jobs"} rt ci
 }
 
-# Keeps for `make dist` the program that the gate has proved and built, and the gate's last line. The commit is the one that stood
+# Keeps for `make dist` the program that the gate has proved and built, and the gate's last line. The state is the one that stood
 # here before the gate.
 keep_gate() {
     if has_passed gate && mkdir -p bin && rm -f bin/aec && cp crates/aec/out/aec bin/aec &&
-        python3 packaging/proved.py record "$commit" bin/aec && python3 packaging/proved.py gate "$commit" "$kept/gate.log"; then
+        python3 packaging/proved.py record "$state" bin/aec && python3 packaging/proved.py gate "$state" "$kept/gate.log"; then
         echo "1 passed, 0 failed"
     else
         echo "the program of the gate isn't kept"
@@ -115,7 +115,7 @@ keep_gate() {
     fi
 }
 
-commit=$(python3 packaging/proved.py commit)
+state=$(python3 packaging/proved.py state)
 # As measured on 29 November 2026, on a busy host (`make gate-times`).
 work=190
 processors=$(getconf _NPROCESSORS_ONLN)
