@@ -12,7 +12,11 @@ import stage
 
 ARCH, TRIPLET = "amd64", "x86_64-linux-gnu"
 LIB = f"lib/{TRIPLET}"
+# The library for x86-64-v3, below LIB, where the loader looks for it.
+HWCAPS = f"glibc-hwcaps/{stage.V3}/libaecp.so.0"
 MAINTAINER = "The maintainers of aec <maintainers@users.noreply.citruslapis.example>"
+# The folders of bin/ for each level.
+LEVELS = (("", stage.PLAIN), (f"{stage.V3}/", stage.V3))
 # The fields in which the control files differ.
 PACKAGES = {
     "aec-proved": {
@@ -25,7 +29,8 @@ PACKAGES = {
  .
  A checker has proved that every Rattle function of the program keeps its
  contract.
- It needs a processor with SSE4.2 (x86-64-v2).
+ It needs a processor with SSE4.2 (x86-64-v2). The package has a second,
+ faster program for x86-64-v3 (AVX2), and its installation chooses.
  .
  The program is /usr/bin/aec-proved; the alternatives system adds the name
  aec. If libaec-tools is installed too, aec is libaec's program.""",
@@ -39,7 +44,8 @@ PACKAGES = {
  .
  A checker has proved that every Rattle function of the library keeps its
  contract.
- It needs a processor with SSE4.2 (x86-64-v2).
+ It needs a processor with SSE4.2 (x86-64-v2). On one with x86-64-v3 (AVX2)
+ the loader takes a second, faster library of this package.
  Its symbols begin with aecp_, so a program can also link libaec.""",
     },
     "libaecp-dev": {
@@ -124,7 +130,8 @@ def finish(top, root, folder, name, version, depends, moment):
         path = os.path.join(own, f"{name}.{script}")
         if os.path.exists(path):
             mode = 0o755 if script in ("postinst", "prerm") else 0o644
-            text = stage.read(path).replace(b"@VERSION@", version.encode()).replace(b"@NEXT@", next_of(version).encode())
+            text = stage.with_level_function(top, stage.read(path))
+            text = text.replace(b"@VERSION@", version.encode()).replace(b"@NEXT@", next_of(version).encode())
             stage.write(os.path.join(root, "DEBIAN", script), text, mode)
     stage.write(os.path.join(root, "DEBIAN/md5sums"), sums(root).encode())
     stage.write(os.path.join(root, "DEBIAN/control"), control(name, version, depends, root).encode())
@@ -139,9 +146,18 @@ def next_of(version):
     return f"{int(version.split('.')[0]) + 1}~"
 
 
-def libc_of(path):
-    """Returns the dependency on the C library."""
-    return "libc6 (>= {}.{})".format(*elf.glibc_needed(path))
+def libc_of(top, name):
+    """Returns the dependency on the C library of a file that is built for both levels."""
+    return "libc6 (>= {}.{})".format(*max(elf.glibc_needed(os.path.join(top, "bin", at, name)) for at, _ in LEVELS))
+
+
+def both_levels(top, root):
+    """Puts both programs into a folder, and a link to the plain one in their place. The postinst lets it lead to the other."""
+    command, folder = (os.path.join(root, "usr", name, "aec-proved") for name in ("bin", "lib"))
+    for level, path in ((stage.PLAIN, command), (stage.V3, os.path.join(top, "bin", stage.V3, "aec"))):
+        stage.write(os.path.join(folder, level, "aec-proved"), stage.read(path), 0o755)
+    os.remove(command)
+    os.symlink(f"../lib/aec-proved/{stage.PLAIN}/aec-proved", command)
 
 
 def program(top, root):
@@ -154,6 +170,7 @@ def program(top, root):
     completion = os.path.join(share, "zsh/vendor-completions/_aec-proved")
     stage.write(completion, stage.read(os.path.join(share, "zsh/site-functions/_aec-proved")))
     shutil.rmtree(os.path.join(share, "zsh/site-functions"))
+    both_levels(top, root)
     # The licence is in the file copyright.
     documents_folder = os.path.join(share, "doc/aec-proved")
     shutil.rmtree(documents_folder)
@@ -164,9 +181,11 @@ def split_library(top, work):
     """Writes the files of libaecp0 and libaecp-dev. Returns the root folders of both."""
     dev, shared = os.path.join(work, "libaecp-dev"), os.path.join(work, "libaecp0")
     stage.library(top, dev, "/usr", LIB, "/usr")
-    moved = os.path.join(dev, "usr", LIB, "libaecp.so.0")
-    stage.write(os.path.join(shared, "usr", LIB, "libaecp.so.0"), stage.read(moved))
-    os.remove(moved)
+    for name in ("libaecp.so.0", HWCAPS):
+        moved = os.path.join(dev, "usr", LIB, name)
+        stage.write(os.path.join(shared, "usr", LIB, name), stage.read(moved))
+        os.remove(moved)
+    os.removedirs(os.path.dirname(moved))
     page = os.path.join(dev, "usr/share/man/man3/aecp.3")
     stage.write(page + ".gz", packed(stage.read(page)))
     os.remove(page)
@@ -180,13 +199,13 @@ def build(top, work, folder, version, moment, proved):
     program(top, root)
     shared, dev = split_library(top, work)
     places = {
-        "aec-proved": (root, {"aec": "/usr/bin/aec-proved"}),
-        "libaecp0": (shared, {"libaecp.so": f"/usr/{LIB}/libaecp.so.0"}),
+        "aec-proved": (root, {f"{at}aec": f"/usr/lib/aec-proved/{level}/aec-proved" for at, level in LEVELS}),
+        "libaecp0": (shared, {"libaecp.so": f"/usr/{LIB}/libaecp.so.0", f"{stage.V3}/libaecp.so": f"/usr/{LIB}/{HWCAPS}"}),
         "libaecp-dev": (dev, {"libaecp.a": f"/usr/{LIB}/libaecp.a"}),
     }
     depends = {
-        "aec-proved": libc_of(os.path.join(top, "bin/aec")),
-        "libaecp0": libc_of(os.path.join(top, "bin/libaecp.so")),
+        "aec-proved": libc_of(top, "aec"),
+        "libaecp0": libc_of(top, "libaecp.so"),
         "libaecp-dev": f"libaecp0 (= {version}), libc6-dev",
     }
     made = []

@@ -1,7 +1,7 @@
 #!/usr/bin/env python3
-"""Packs what `make` and `make library` have built into dist/: dist.py [--unproved]
+"""Packs what `make levels` has built into dist/: dist.py [--unproved]
 
-Writes a tarball, the Debian packages and the wheel. Two runs with the same bin/ write the same bytes, in any folder: each
+Each package has the files for x86-64-v2 and those for x86-64-v3. Writes a tarball, the Debian packages and the wheel. Two runs with the same bin/ write the same bytes, in any folder: each
 date is SOURCE_DATE_EPOCH or else the commit's, names are sorted, and no package contains a path of this machine.
 
 Fails unless each binary was proved and built at this commit; a checkout with changes counts as the commit 'NAME with changes'.
@@ -19,10 +19,11 @@ sys.dont_write_bytecode = True
 
 import deb
 import proved
+import stage
 import tarball
 import wheel
 
-BINARIES = {"aec": "bin/aec", "libaecp.a": "bin/libaecp.a", "libaecp.so": "bin/libaecp.so"}
+BINARIES = {name: f"bin/{name}" for name in ("aec", "libaecp.a", "libaecp.so", f"{stage.V3}/aec", f"{stage.V3}/libaecp.so")}
 DIST = os.path.join(proved.TOP, "dist")
 
 
@@ -72,7 +73,7 @@ def main():
     begun = time.monotonic()
     missing = [path for path in BINARIES.values() if not os.path.exists(os.path.join(proved.TOP, path))]
     if missing:
-        print(f"there is no {missing[0]}: run make and make library first", file=sys.stderr)
+        print(f"there is no {missing[0]}: run make levels first", file=sys.stderr)
         return 1
     try:
         made = build(is_proved)

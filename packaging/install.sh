@@ -4,8 +4,11 @@
 #     sh install.sh PREFIX
 #     sh install.sh uninstall PREFIX
 #
+# The program is that for x86-64-v3 if this processor has all features of this level, else that for x86-64-v2. AECP_LEVEL in the
+# environment names the one to install instead.
+#
 # Replaces files of the same names without asking. The files are those of the folders bin, lib, include and share beside this script;
-# `uninstall` removes these. The program is bin/aec. If libaec's client is installed as `aec`, set PROGRAM=aec-proved in the environment:
+# `uninstall` removes these. If libaec's client is installed as `aec`, set PROGRAM=aec-proved in the environment:
 # the program gets this name. Set it for `uninstall` too.
 set -eu
 umask 022
@@ -13,8 +16,17 @@ from=$(cd "$(dirname "$0")" && pwd)
 program=${PROGRAM:-aec}
 
 usage() {
-    echo "usage: [PROGRAM=NAME] sh install.sh PREFIX, or [PROGRAM=NAME] sh install.sh uninstall PREFIX" >&2
+    echo "usage: [PROGRAM=NAME] [AECP_LEVEL=x86-64-v2|x86-64-v3] sh install.sh PREFIX, or [PROGRAM=NAME] sh install.sh uninstall PREFIX" >&2
     exit 1
+}
+
+@LEVEL_OF@
+# The file here that is installed as a file of PREFIX: of the programs, the one for the level.
+source_of() {
+    case $level/$1 in
+        x86-64-v3/bin/aec) echo "$from/x86-64-v3/aec" ;;
+        *) echo "$from/$1" ;;
+    esac
 }
 
 # All files, as paths below this folder.
@@ -52,7 +64,7 @@ install_file() {
         ln -s "$(readlink "$from/$1")" "$to"
         return
     fi
-    renamed "$1" > "$to" || cat "$from/$1" > "$to"
+    renamed "$1" > "$to" || cat "$(source_of "$1")" > "$to"
     mode=644
     [ ! -x "$from/$1" ] || mode=755
     chmod $mode "$to"
@@ -93,10 +105,15 @@ case ${1:-} in
     *) prefix=$PWD/$1 ;;
 esac
 [ $# = 1 ] || usage
+level=${AECP_LEVEL:-$(level_of /proc/cpuinfo)}
+case $level in
+    x86-64-v2 | x86-64-v3) ;;
+    *) usage ;;
+esac
 
 if [ $action = install ]; then
     files | while IFS= read -r file; do install_file "$file"; done
-    echo "installed in $prefix: bin/$program, lib/libaecp.a, lib/libaecp.so.0. If $prefix/lib is on the loader's path, run ldconfig."
+    echo "installed in $prefix: bin/$program for $level, lib/libaecp.a, lib/libaecp.so.0. If $prefix/lib is on the loader's path, run ldconfig."
 else
     check_installed
     files | while IFS= read -r file; do rm -f "$prefix/$(place "$file")"; done

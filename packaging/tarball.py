@@ -7,7 +7,13 @@ import tarfile
 import stage
 
 # The paths of the binaries in the folder.
-PLACES = {"aec": "bin/aec", "libaecp.a": "lib/libaecp.a", "libaecp.so": "lib/libaecp.so.0"}
+PLACES = {
+    "aec": "bin/aec",
+    f"{stage.V3}/aec": f"{stage.V3}/aec",
+    "libaecp.a": "lib/libaecp.a",
+    "libaecp.so": "lib/libaecp.so.0",
+    f"{stage.V3}/libaecp.so": f"lib/glibc-hwcaps/{stage.V3}/libaecp.so.0",
+}
 
 
 def add(archive, path, name, moment):
@@ -28,8 +34,10 @@ def fill(top, folder, version, proved):
     """Puts everything below a folder."""
     stage.program(top, folder, "", "aec")
     stage.library(top, folder, "", "lib", "${pcfiledir}/../..")
-    with open(os.path.join(top, "packaging", "install.sh"), "rb") as file:
-        stage.write(os.path.join(folder, "install.sh"), file.read(), 0o755)
+    better = f"{stage.V3}/aec"
+    stage.write(os.path.join(folder, PLACES[better]), stage.read(os.path.join(top, "bin", better)), 0o755)
+    script = stage.with_level_function(top, stage.read(os.path.join(top, "packaging/install.sh")))
+    stage.write(os.path.join(folder, "install.sh"), script, 0o755)
     stage.write(os.path.join(folder, "LICENSE"), stage.read(os.path.join(top, "LICENSE")))
     for place in ("NOTICES", "share/doc/aec/NOTICES"):
         stage.write(os.path.join(folder, place), stage.notices(top))
@@ -44,8 +52,10 @@ README = """aec {version} for Linux on x86-64-v2 (SSE4.2), glibc 2.34 or newer.
     sh install.sh PREFIX              installs, for example below /usr/local or $HOME/.local
     sh install.sh uninstall PREFIX    removes what was installed
     PROGRAM=aec-proved sh install.sh PREFIX    installs the program as aec-proved, beside libaec's aec; set PROGRAM for uninstall too
+    AECP_LEVEL=x86-64-v2 sh install.sh PREFIX  installs the program for every processor with SSE4.2
 
-bin/aec also runs in this folder. share/doc/aec/README.md is the first page. PROVED lists the binaries and says what was proved.
+If this processor has x86-64-v3 (AVX2), the program for this level is installed, which is faster. Every program with the shared library
+gets the one for its processor. bin/aec also runs in this folder. share/doc/aec/README.md is the first page. PROVED lists the binaries and says what was proved.
 LICENSE is the licence, and NOTICES has the licence of crates whose code is in the binaries.
 """
 

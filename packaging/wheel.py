@@ -11,7 +11,7 @@ import elf
 import stage
 
 GLIBC = (2, 17)
-PLACES = {"libaecp.so": "aecp/libaecp.so"}
+PLACES = {"libaecp.so": "aecp/libaecp.so", f"{stage.V3}/libaecp.so": f"aecp/{stage.V3}/libaecp.so"}
 TAG = f"py3-none-manylinux_{GLIBC[0]}_{GLIBC[1]}_x86_64"
 METADATA = """Metadata-Version: 2.1
 Name: aecp
@@ -60,11 +60,11 @@ def project_value(text, name):
     return re.search(rf'^{name} = "(.*)"$', text, re.M)[1]
 
 
-def module_files(folder, library):
-    """Returns the files of the module, by their names in the wheel."""
+def module_files(folder, libraries):
+    """Returns the files of the module, by their names in the wheel. `libraries` are the paths of the libraries, by their names in bin/."""
     names = sorted(it for it in os.listdir(os.path.join(folder, "aecp")) if it.endswith(".py") or it == "py.typed")
     found = {f"aecp/{name}": data_of(os.path.join(folder, "aecp", name)) for name in names}
-    return {**found, "aecp/libaecp.so": data_of(library)}
+    return {**found, **{place: data_of(libraries[name]) for name, place in PLACES.items()}}
 
 
 def data_of(path):
@@ -88,8 +88,9 @@ def put(archive, name, data, moment):
 
 def build(top, folder, version, moment, proved):
     """Writes the wheel into a folder. Returns the wheel's path."""
-    library = os.path.join(top, "bin", "libaecp.so")
-    check_library(library)
+    libraries = {name: os.path.join(top, "bin", name) for name in PLACES}
+    for library in libraries.values():
+        check_library(library)
     source = os.path.join(top, "python")
     project = data_of(os.path.join(source, "pyproject.toml")).decode()
     metadata = METADATA.format(
@@ -100,7 +101,7 @@ def build(top, folder, version, moment, proved):
     )
     info = f"aecp-{version}.dist-info"
     files = {
-        **module_files(source, library),
+        **module_files(source, libraries),
         f"aecp-{version}.data/data/share/man/man1/aecp.1": data_of(os.path.join(top, "man", "aecp.1")),
         f"{info}/LICENSE": data_of(os.path.join(top, "LICENSE")),
         f"{info}/METADATA": metadata.encode(),

@@ -3,6 +3,7 @@
 import glob
 import os
 import re
+import runpy
 import shutil
 import signal
 import subprocess
@@ -110,6 +111,7 @@ def try_bare(python, wheel, tally):
     tally.holds(status == 0, f"pip install: {said}")
     status, said = run([python, "-c", WITHOUT_NUMPY])
     tally.check("the module without numpy", (status, said.strip()), (0, open(os.path.join(TOP, "VERSION")).read().strip()))
+    try_library(python, tally)
     command = os.path.join(os.path.dirname(python), "aecp")
     status, said = run([command, "--help"])
     tally.holds(status == 0 and "keep" in said, f"aecp --help: {said}")
@@ -117,6 +119,16 @@ def try_bare(python, wheel, tally):
     status, said = run([python, "-m", "pip", "uninstall", "-y", "--disable-pip-version-check", "aecp"])
     tally.holds(status == 0, f"pip uninstall: {said}")
     tally.check("what the wheel leaves", sorted(files_of(python) - before), [])
+
+
+def try_library(python, tally):
+    """Checks which library the installed module loads, by the processor and by AECP_LEVEL."""
+    levels = runpy.run_path(os.path.join(TOP, "python/aecp/levels.py"))
+    here = levels["level"]()
+    for asked in {"", levels["PLAIN"], here}:
+        status, said = run([python, "-c", "import aecp.library; print(aecp.library.LIBRARY._name)"], AECP_LEVEL=asked)
+        end = "/aecp/x86-64-v3/libaecp.so\n" if (asked or here) == levels["V3"] else "/aecp/libaecp.so\n"
+        tally.holds(status == 0 and said.endswith(end), f"the library that the module loads with AECP_LEVEL={asked}: {said}")
 
 
 def try_archive(command, folder, tally):
@@ -177,6 +189,9 @@ def try_make(folder, tally):
     tally.check("make install-library", run([*words, "install-library"]), (0, ""))
     tally.holds(os.path.exists(os.path.join(folder, "usr/share/man/man1/aecp.1")), "make install-library installs no aecp(1)")
     module = os.path.join(folder, "usr/lib/python3/dist-packages")
+    for place in ("usr/lib/glibc-hwcaps/x86-64-v3/libaecp.so.0", "usr/lib/python3/dist-packages/aecp/x86-64-v3/libaecp.so"):
+        is_there = os.path.exists(os.path.join(folder, place))
+        tally.check(f"{place} is installed", is_there, os.path.exists(os.path.join(TOP, "bin/x86-64-v3/libaecp.so")))
     status, said = run([sys.executable, "-c", "import aecp; print(aecp.__version__)"], PYTHONPATH=module)
     tally.check("the installed module", (status, said.strip()), (0, open(os.path.join(TOP, "VERSION")).read().strip()))
     tally.check("make uninstall-library", run([*words, "uninstall-library"]), (0, ""))

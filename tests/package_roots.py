@@ -111,6 +111,12 @@ class Root:
         else:
             shutil.copy2(path, to)
 
+    def set_processor(self, flags):
+        """Writes /proc/cpuinfo of the root, for a processor with these flags."""
+        os.makedirs(self.inside("proc"), exist_ok=True)
+        with open(self.inside("proc/cpuinfo"), "w", encoding="ascii") as file:
+            file.write(f"flags\t\t: {flags}\n")
+
     def files(self):
         """Returns the paths of all files and links that are no RECORDS."""
         found = set()

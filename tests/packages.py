@@ -14,6 +14,7 @@ how many passed. Ends with status 1 if one failed.
 import glob
 import os
 import re
+import runpy
 import shutil
 import subprocess
 import sys
@@ -37,6 +38,11 @@ import wheel
 
 DIST = os.path.join(TOP, "dist")
 LIB = "usr/lib/x86_64-linux-gnu"
+BINARIES = ("aec", "libaecp.a", "libaecp.so", "x86-64-v3/aec", "x86-64-v3/libaecp.so")
+LEVELS = runpy.run_path(os.path.join(TOP, "python/aecp/levels.py"))
+PLAIN, V3 = LEVELS["PLAIN"], LEVELS["V3"]
+# Flags in /proc/cpuinfo of a processor of each level.
+FLAGS = {PLAIN: "sse4_2 popcnt", V3: " ".join(["sse4_2", "popcnt", *LEVELS["FLAGS"]])}
 # The command that a file PROVED names; --strict so that a line in another form fails.
 SUMS = "grep -E '^[0-9a-f]{{64}} ' {} | sha256sum --strict -c"
 
@@ -76,7 +82,7 @@ def dist(top):
 
 def is_proved():
     try:
-        return bool(proved.kit_of(["bin/aec", "bin/libaecp.a", "bin/libaecp.so"]))
+        return bool(proved.kit_of([f"bin/{name}" for name in BINARIES]))
     except proved.NotProved:
         return False
 
@@ -105,7 +111,7 @@ def try_builds(made, folder, tally):
     tally.check("the names of a second build", sorted(again), sorted(made))
     for name in sorted(made):
         tally.holds(data_of(made[name]) == data_of(again.get(name, made[name])), f"a second build of {name} has other bytes")
-    for name in ("aec", "libaecp.a", "libaecp.so"):
+    for name in BINARIES:
         found = re.findall(rb"/(?:tmp|home|root|work)/[\w./-]+|" + re.escape(TOP.encode()), data_of(os.path.join(TOP, "bin", name)))
         tally.check(f"paths of this machine in bin/{name}", found, [])
 
@@ -139,14 +145,15 @@ def try_notices(made, tally):
 
 def try_symbols(made, tally):
     """Checks that the binaries need no newer C library than the packages say, and no other library."""
-    library, program = os.path.join(TOP, "bin/libaecp.so"), os.path.join(TOP, "bin/aec")
-    needed = elf.glibc_needed(library)
-    tally.holds(needed <= wheel.GLIBC, f"the wheel is {wheel.TAG}, and the library needs glibc {needed}")
-    for path in (library, program):
+    paths = {name: os.path.join(TOP, "bin", name) for name in BINARIES if not name.endswith(".a")}
+    needs = {name: elf.glibc_needed(path) for name, path in paths.items()}
+    library, program = (max(it for name, it in needs.items() if name.endswith(end)) for end in ("libaecp.so", "aec"))
+    tally.holds(library <= wheel.GLIBC, f"the wheel is {wheel.TAG}, and the library needs glibc {library}")
+    for path in paths.values():
         tally.holds(set(elf.libraries_needed(path)) <= {"libc.so.6"}, f"{path} needs {elf.libraries_needed(path)}")
     told = subprocess.run(["dpkg-deb", "-f", made[f"aec-proved_{version()}_amd64.deb"], "Depends"], capture_output=True, text=True).stdout
-    tally.check("what the package of the program needs", told.strip(), "libc6 (>= {}.{})".format(*elf.glibc_needed(program)))
-    print("glibc: the program needs {}.{}, the library {}.{}".format(*elf.glibc_needed(program), *needed))
+    tally.check("what the package of the program needs", told.strip(), "libc6 (>= {}.{})".format(*program))
+    print("glibc: the program needs {}.{}, the library {}.{}".format(*program, *library))
 
 
 def commands_of(page):
@@ -170,6 +177,31 @@ ln -s {top}{os.path.dirname(page)}/examples .
     tally.holds(status == 0, f"{name}: README's commands end with {status}: {said}")
 
 
+def levels_here():
+    """Returns the levels whose binaries run on this machine."""
+    return [PLAIN, V3] if LEVELS["level"]() == V3 else [PLAIN]
+
+
+def built_for(level, name):
+    """Returns the bytes of the file of bin/ that is built for a level."""
+    return data_of(os.path.join(TOP, "bin", V3 if level == V3 else "", name))
+
+
+def try_tarball_levels(root, install, program, tally):
+    """Installs the tarball on processors of both levels, and with AECP_LEVEL, and compares which program is installed."""
+    tally.holds(built_for(PLAIN, "aec") != built_for(V3, "aec"), "the programs for both levels are one")
+    for level, flags in FLAGS.items():
+        root.set_processor(flags)
+        # Without another root install.sh reads this machine's /proc/cpuinfo.
+        default = level if root.words else levels_here()[-1]
+        for asked in ("", PLAIN, V3):
+            status, said = root.run(f"AECP_LEVEL={asked} {install}")
+            is_right = status == 0 and data_of(program) == built_for(asked or default, "aec") and f" for {asked or default}" in said
+            tally.holds(is_right, f"the tarball's program on {level} with AECP_LEVEL={asked}: {said}")
+    tally.check("the tarball with AECP_LEVEL=v3", root.run(f"AECP_LEVEL=v3 {install}")[0], 1)
+    root.set_processor(FLAGS[levels_here()[-1]])
+
+
 def try_tarball(made, root, folder, tally):
     """Unpacks the tarball, installs it, uses it, and removes it; then again under another name."""
     name = f"aec-{version()}-x86_64-linux"
@@ -177,6 +209,7 @@ def try_tarball(made, root, folder, tally):
     subprocess.run(["tar", "-C", folder, "-xzf", made[name + ".tar.gz"]], check=True)
     root.copy(os.path.join(folder, name), f"/tmp/{name}")
     place, prefix = (f"/tmp/{name}", "/opt/aec") if root.words else (root.inside(f"/tmp/{name}"), root.inside("/opt/aec"))
+    try_tarball_levels(root, f"sh {place}/install.sh {prefix}", root.inside("/opt/aec/bin/aec"), tally)
     for words, script in (("sums", f"cd {place}; {SUMS.format('PROVED')}"), ("install", f"sh {place}/install.sh {prefix}")):
         status, said = root.run(script)
         tally.holds(status == 0, f"the tarball's {words}: {said}")
@@ -221,8 +254,13 @@ def try_c(prefix, lib, name, root, folder, tally):
             root.copy(built, "/tmp/example")
             inside = f"{prefix}/{lib}".removeprefix(root.path if root.words else "")
             path = f"LD_LIBRARY_PATH={inside} " if kind == "shared" and name != "deb" else ""
-            status, said = root.run(path + ("/tmp/example" if root.words else root.inside("/tmp/example")))
+            program = path + ("/tmp/example" if root.words else root.inside("/tmp/example"))
+            status, said = root.run(program)
             tally.holds(status == 0 and "last sample 7" in said, f"{name}: the {kind} program of LIBRARY prints {said!r}")
+            if kind == "shared":
+                said = root.run(f"export LD_TRACE_LOADED_OBJECTS=1; {program}")[1]
+                wanted = f"/glibc-hwcaps/{V3}/" if levels_here()[-1] == V3 else "/"
+                tally.holds(re.search(rf"libaecp.so.0 => \S+(?<!/{V3}){wanted}libaecp.so.0", said), f"{name}: the loader takes {said}")
 
 
 def try_debs(made, root, folder, tally):
@@ -234,7 +272,7 @@ def try_debs(made, root, folder, tally):
     for deb in debs:
         root.copy(made[deb], f"/tmp/{deb}")
     before = root.files()
-    for has_other in (True, False):
+    for has_other, level in ((True, PLAIN), (False, levels_here()[-1])):
         other = root.inside("/usr/bin/aec")
         if has_other:
             with open(other, "w", encoding="utf-8") as file:
@@ -242,6 +280,7 @@ def try_debs(made, root, folder, tally):
         # libaecp-dev needs libc6-dev, which a root without a compiler lacks.
         status, said = root.run(f"cd /tmp && dpkg -i {debs[0]} {debs[1]} && dpkg -i --force-depends {debs[2]}")
         tally.holds(status == 0, f"dpkg -i: {said}")
+        try_link(root, f"/tmp/{debs[0]}", level, tally)
         tally.check("aec-proved --version", root.run("aec-proved --version"), (0, f"aec {version()}\n"))
         status, said = root.run(f"for name in /usr/share/doc/*/PROVED; do {SUMS.format('$name')}; done")
         tally.holds(status == 0 and said.count(": OK") >= 3, f"the sums of PROVED: {said}")
@@ -257,6 +296,16 @@ def try_debs(made, root, folder, tally):
             tally.check("a file of another package, at last", data_of(other), b"libaec's client\n")
             os.remove(other)
         tally.check("what the packages leave", sorted(root.files() - before), [])
+
+
+def try_link(root, deb, last, tally):
+    """Installs the program's package on processors of both levels, last on one of the level `last`. Checks which program the command is."""
+    for level in (PLAIN, V3, last):
+        root.set_processor(FLAGS[level])
+        status, said = root.run(f"dpkg -i {deb}")
+        tally.holds(status == 0, f"dpkg -i on {level}: {said}")
+        wanted = f"/usr/lib/aec-proved/{level}/aec-proved\n"
+        tally.check(f"the command aec-proved on {level}", root.run("readlink -f /usr/bin/aec-proved"), (0, wanted))
 
 
 def try_lintian(made, tally):
