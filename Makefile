@@ -152,8 +152,10 @@ library:
 	@at=$$($(PYTHON) packaging/proved.py state) && sh library.sh && $(PYTHON) packaging/proved.py record "$$at" bin/libaecp.a bin/libaecp.so
 	@$(call by_cpu,$(MAKE) -s v3-library)
 
-# Tests the library in bin/ against the program that the gate has built.
+# Tests the library in bin/ against the program that the gate has built, and how files for a level of processor are built and chosen.
 test-library:
+	python3 tests/level_builds.py
+	python3 tests/processors.py
 	python3 tests/library.py crates/aec/out/aec bin
 	python3 tests/library_arrays.py crates/aec/out/aec bin
 	python3 tests/library_python.py bin
@@ -210,7 +212,7 @@ uninstall-library:
 	-rmdir $(DESTDIR)$(LIBDIR)/cmake 2> /dev/null
 	rmdir $(DESTDIR)$(LIBDIR)/$(hwcaps) $(DESTDIR)$(LIBDIR)/glibc-hwcaps 2> /dev/null || true
 
-# Packages of what `make` and `make library` have built, in dist/: a tarball, Debian packages and a wheel. UNPROVED=1 packs
+# Packages of what `make levels` has built, in dist/: a tarball, Debian packages and a wheel. UNPROVED=1 packs
 # them, for a try, without checking that they were proved; then the file PROVED of each package says that nothing is proved.
 .PHONY: dist test-packages
 UNPROVED ?=

@@ -31,6 +31,8 @@ rattle_crate(name = "{name}", cpu = "{cpu}", deps = {deps}{kind})
 """
 # The program's own status if the processor lacks a feature of the level. It is built then.
 LACKS_FEATURE = 127
+# How many lines of the checker are shown if it fails.
+LINES = 20
 
 
 class Kind(NamedTuple):
@@ -96,10 +98,12 @@ def build(kind, tree, log):
     with open(log, "w", encoding="utf-8") as file:
         ended = subprocess.run(["rt", *kind.words], cwd=folder, stdin=subprocess.DEVNULL, stdout=file, stderr=file, check=False)
     with open(log, encoding="utf-8", errors="replace") as file:
-        is_proved = re.search(rf"^logic=proved .*\bcpu={proved.LEVEL}\b", file.read(), re.M)
+        said = file.read()
+    is_proved = re.search(rf"^logic=proved .*\bcpu={proved.LEVEL}\b", said, re.M)
     made = os.path.join(folder, "out", kind.made)
     if not is_proved or not os.path.exists(made) or ended.returncode not in (0, LACKS_FEATURE):
-        raise Failed(f"{kind.crate} isn't built for {proved.LEVEL}: {os.path.relpath(log, proved.TOP)} has the checker's lines")
+        end = "\n".join(said.splitlines()[-LINES:])
+        raise Failed(f"{kind.crate} isn't built for {proved.LEVEL}. The last lines of {os.path.relpath(log, proved.TOP)}:\n{end}")
     return made
 
 

@@ -1,8 +1,9 @@
 #!/usr/bin/env python3
 """Packs what `make levels` has built into dist/: dist.py [--unproved]
 
-Each package has the files for x86-64-v2 and those for x86-64-v3. Writes a tarball, the Debian packages and the wheel. Two runs with the same bin/ write the same bytes, in any folder: each
-date is SOURCE_DATE_EPOCH or else the commit's, names are sorted, and no package contains a path of this machine.
+Writes a tarball, the Debian packages and the wheel, each with the files for x86-64-v2 and for x86-64-v3. Two runs with the same bin/
+write the same bytes, in any folder: each date is SOURCE_DATE_EPOCH or else the commit's, names are sorted, and no package contains a
+path of this machine.
 
 Fails unless each binary was proved and built at this commit; a checkout with changes counts as the commit 'NAME with changes'.
 With --unproved, the binaries are packed unchecked, for a try, and the file PROVED says so.

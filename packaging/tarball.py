@@ -54,8 +54,9 @@ README = """aec {version} for Linux on x86-64-v2 (SSE4.2), glibc 2.34 or newer.
     PROGRAM=aec-proved sh install.sh PREFIX    installs the program as aec-proved, beside libaec's aec; set PROGRAM for uninstall too
     AECP_LEVEL=x86-64-v2 sh install.sh PREFIX  installs the program for every processor with SSE4.2
 
-If this processor has x86-64-v3 (AVX2), the program for this level is installed, which is faster. Every program with the shared library
-gets the one for its processor. bin/aec also runs in this folder. share/doc/aec/README.md is the first page. PROVED lists the binaries and says what was proved.
+On a processor with x86-64-v3 (AVX2) a faster program for this level is installed, and the loader takes a faster shared library.
+
+bin/aec also runs in this folder. share/doc/aec/README.md is the first page. PROVED lists the binaries and says what was proved.
 LICENSE is the licence, and NOTICES has the licence of crates whose code is in the binaries.
 """
 

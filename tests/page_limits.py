@@ -33,7 +33,7 @@ MOST = {
     "docs/DECISIONS.md": 4000,
     "docs/FORMAT.md": 3800,
     "docs/LIBRARY.md": 1200,
-    "docs/PACKAGING.md": 400,
+    "docs/PACKAGING.md": 600,
     "docs/PROOFS.md": 6000,
     "docs/RECIPES.md": 1600,
     "docs/SPEED.md": 1500,
