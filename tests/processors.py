@@ -37,9 +37,9 @@ ADDED = "abm avx avx2 bmi1 bmi2 f16c fma movbe".split()
 OLD = "fpu cx16 lahf_lm popcnt pni sse4_1 sse4_2 ssse3 fma4 bmi avx2_ xavx abmx".split()
 TEXT = """processor\t: 0
 vendor_id\t: GenuineIntel
-flags\t\t: {0}
-bugs\t\t: avx avx2 bmi1 bmi2 f16c fma abm movbe
 vmx flags\t: {1}
+bugs\t\t: avx avx2 bmi1 bmi2 f16c fma abm movbe
+flags\t\t: {0}
 
 processor\t: 1
 flags\t\t: {0}
