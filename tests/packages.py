@@ -143,6 +143,13 @@ def try_notices(made, tally):
         tally.check("NOTICES of the wheel", archive.read(f"aecp-{version()}.dist-info/NOTICES").decode(), text)
 
 
+def try_wheel_libraries(made, tally):
+    """Checks that the wheel contains the libraries of bin/ for both levels."""
+    with zipfile.ZipFile(next(path for name, path in made.items() if name.endswith(".whl"))) as archive:
+        for name, place in wheel.PLACES.items():
+            tally.holds(archive.read(place) == data_of(os.path.join(TOP, "bin", name)), f"{place} of the wheel isn't bin/{name}")
+
+
 def try_symbols(made, tally):
     """Checks that the binaries need no newer C library than the packages say, and no other library."""
     paths = {name: os.path.join(TOP, "bin", name) for name in BINARIES if not name.endswith(".a")}
@@ -282,8 +289,8 @@ def try_debs(made, root, folder, tally):
         tally.holds(status == 0, f"dpkg -i: {said}")
         try_link(root, f"/tmp/{debs[0]}", level, tally)
         tally.check("aec-proved --version", root.run("aec-proved --version"), (0, f"aec {version()}\n"))
-        status, said = root.run(f"for name in /usr/share/doc/*/PROVED; do {SUMS.format('$name')}; done")
-        tally.holds(status == 0 and said.count(": OK") >= 3, f"the sums of PROVED: {said}")
+        status, said = root.run(f"for name in /usr/share/doc/*/PROVED; do {SUMS.format('$name')} || exit 1; done")
+        tally.holds(status == 0 and said.count(": OK") >= 5, f"the sums of PROVED: {said}")
         if has_other:
             tally.check("a file of another package", data_of(other), b"libaec's client\n")
         else:
@@ -336,6 +343,7 @@ def main():
         try_notices(made, tally)
         try_builds(made, folder, tally)
         try_links_again(tally)
+        try_wheel_libraries(made, tally)
         try_symbols(made, tally)
         try_lintian(made, tally)
         root = package_roots.Root(folder)
