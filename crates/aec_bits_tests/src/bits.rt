@@ -3,5 +3,4 @@
 mod bits;
 mod codecs;
 mod devices;
-mod long_lists;
 mod windows;

@@ -3,4 +3,3 @@
 mod faults;
 mod parameters;
 mod stored;
-mod stored_lists;

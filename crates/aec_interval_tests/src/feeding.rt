@@ -1,218 +1,148 @@
 //! Samples that are fed to a `StreamCoder` in pieces.
 
-use crate::asserts::{holds, same};
-use crate::settings::{unprocessed, width, with_interval};
-use crate::shared::expect_bits;
-use crate::streams::MOST;
+use crate::asserts::same_at;
+use crate::settings::{FIVE_BITS, PLAIN_8, SIXTEEN_BITS, USUAL, WITH_128};
+use crate::shared::{MOST, expect_bits, list_of};
 use aec_bits::BitBuf;
 use aec_interval::StreamCoder;
 use aec_params::{Fault, Params, Settings};
-use std::alloc::Global;
-use std::process::Abort;
 use std::test::Fail;
 
-/// A piece to feed, the result, how many samples are then held (`None`: any number below an
-/// interval), and the number of bits so far.
-#[derive(Clone, Copy)]
-struct Call<'a> {
-    piece: &'a [u8],
-    answer: Result<(), Fault>,
-    held: Option<u64>,
-    bits: u64,
-}
+// A piece to feed; the result; how many samples are then held (`None`: any number below an
+// interval); the number of bits so far.
+type Call = (&'static [u8], Result<(), Fault>, Option<u64>, u64);
 
-/// Feeds the pieces one after the other, finishes, and checks each result and the bits.
-fn expect_calls(
-    rt: &impl Abort,
-    alloc: Global,
-    settings: Settings,
-    limit: u64,
-    calls: &[Call],
-    finish: Result<(), Fault>,
-    len: u64,
-    bytes: &[u8],
-) -> Result<(), Fail> {
-    let params = Params::new(settings)?;
-    let mut coder = StreamCoder::new(alloc, params, limit);
-    let mut out = BitBuf::new(alloc);
-    for call in calls {
-        same(rt, coder.feed(call.piece, &mut out), call.answer);
-        same(rt, out.len(), call.bits);
-        match call.held {
-            Some(held) => same(rt, coder.held(), held),
-            None => holds(rt, coder.held() < params.interval_len()),
-        }
-    }
-    same(rt, coder.finish(&mut out), finish);
-    expect_bits(rt, &out, len, bytes);
-    Ok(())
-}
+const MANY: Fault = Fault::TooManySamples { limit: 17 };
 
-fn taken(piece: &[u8], held: u64, bits: u64) -> Call<'_> {
-    Call {
-        piece,
-        answer: Ok(()),
-        held: Some(held),
-        bits,
-    }
-}
+const ONE: Fault = Fault::TooManySamples { limit: 1 };
 
-fn refused(piece: &[u8], fault: Fault, bits: u64) -> Call<'_> {
-    Call {
-        piece,
-        answer: Err(fault),
-        held: None,
-        bits,
-    }
-}
+const NONE: Fault = Fault::TooManySamples { limit: 0 };
 
-#[test]
-fn codes_each_interval_when_it_is_complete(rt: HostRuntime) -> Result<(), Fail> {
-    let alloc = rt.alloc();
-    let s = Settings::USUAL;
-    let begun = [
-        taken(&[], 0, 0),
-        taken(&[0; 5], 5, 0),
-        taken(&[], 5, 0),
-        taken(&[0; 12], 1, 14),
-    ];
-    let all = [0x00, 0x04, 0x00, 0x20];
-    expect_calls(&rt, alloc, s, 17, &begun, Ok(()), 27, &all)?;
-    expect_calls(&rt, alloc, s, 17, &[], Ok(()), 0, &[])?;
+const BAD: Fault = Fault::SampleRange { index: 1 };
+
+// A row: settings; the limit; the calls of `feed`; the result of `finish`; the number of bits and
+// the bits.
+const ROWS: [(Settings, u64, &[Call], Result<(), Fault>, u64, &[u8]); 8] = [
+    // Each interval is coded when it is complete.
+    (
+        USUAL,
+        17,
+        &[
+            (&[], Ok(()), Some(0), 0),
+            (&[0; 5], Ok(()), Some(5), 0),
+            (&[], Ok(()), Some(5), 0),
+            (&[0; 12], Ok(()), Some(1), 14),
+        ],
+        Ok(()),
+        27,
+        &[0x00, 0x04, 0x00, 0x20],
+    ),
+    (USUAL, 17, &[], Ok(()), 0, &[]),
     // Half a sample at the end is ignored.
-    let wide = width(16, false);
-    let halves = [taken(&[0], 0, 0), taken(&[0, 0], 1, 0)];
-    expect_calls(
-        &rt,
-        alloc,
-        wide,
+    (
+        SIXTEEN_BITS,
         1,
-        &halves,
+        &[(&[0], Ok(()), Some(0), 0), (&[0, 0], Ok(()), Some(1), 0)],
         Ok(()),
         22,
         &[0x00, 0x00, 0x04],
-    )
-}
-
-#[test]
-fn answers_a_refusal_for_good(rt: HostRuntime) -> Result<(), Fail> {
-    let alloc = rt.alloc();
-    let s = Settings::USUAL;
-    let many = Fault::TooManySamples { limit: 17 };
-    let past = [
-        taken(&[0; 5], 5, 0),
-        taken(&[0; 12], 1, 14),
-        refused(&[0], many, 14),
-        refused(&[], many, 14),
-        refused(&[0; 40], many, 14),
-    ];
-    expect_calls(&rt, alloc, s, 17, &past, Err(many), 14, &[0x00, 0x04])?;
+    ),
+    // A refusal is returned again.
+    (
+        USUAL,
+        17,
+        &[
+            (&[0; 5], Ok(()), Some(5), 0),
+            (&[0; 12], Ok(()), Some(1), 14),
+            (&[0], Err(MANY), None, 14),
+            (&[], Err(MANY), None, 14),
+            (&[0; 40], Err(MANY), None, 14),
+        ],
+        Err(MANY),
+        14,
+        &[0x00, 0x04],
+    ),
     // A sample past the limit is refused at its second byte, not at its first.
-    let one = Fault::TooManySamples { limit: 1 };
-    let halves = [
-        taken(&[0, 0, 0], 1, 0),
-        refused(&[0], one, 0),
-        refused(&[0], one, 0),
-    ];
-    expect_calls(&rt, alloc, width(16, false), 1, &halves, Err(one), 0, &[])?;
-    let none = Fault::TooManySamples { limit: 0 };
-    let empty = [taken(&[], 0, 0), refused(&[0], none, 0)];
-    expect_calls(&rt, alloc, s, 0, &empty, Err(none), 0, &[])?;
-    // The limit is judged before the range.
-    let bad = Fault::SampleRange { index: 1 };
-    let five = width(5, false);
-    expect_calls(
-        &rt,
-        alloc,
-        five,
+    (
+        SIXTEEN_BITS,
         1,
-        &[refused(&[0, 0x20], one, 0)],
-        Err(one),
+        &[
+            (&[0, 0, 0], Ok(()), Some(1), 0),
+            (&[0], Err(ONE), None, 0),
+            (&[0], Err(ONE), None, 0),
+        ],
+        Err(ONE),
         0,
         &[],
-    )?;
-    expect_calls(
-        &rt,
-        alloc,
-        five,
+    ),
+    (
+        USUAL,
+        0,
+        &[(&[], Ok(()), Some(0), 0), (&[0], Err(NONE), None, 0)],
+        Err(NONE),
+        0,
+        &[],
+    ),
+    // The limit is judged before the range.
+    (
+        FIVE_BITS,
+        1,
+        &[(&[0, 0x20], Err(ONE), None, 0)],
+        Err(ONE),
+        0,
+        &[],
+    ),
+    (
+        FIVE_BITS,
         2,
-        &[refused(&[0, 0x20, 0], bad, 0)],
-        Err(bad),
+        &[(&[0, 0x20, 0], Err(BAD), None, 0)],
+        Err(BAD),
         0,
         &[],
-    )
-}
+    ),
+];
 
-// A bad sample at each place of two pieces of 10 bytes. If an interval of 16 samples comes before
-// it, the code of these is the zero block's identifier, the reference sample and a run of two
-// blocks: 4, 5 and 2 bits.
 #[test]
-fn names_the_bad_sample_of_all_pieces(rt: HostRuntime) -> Result<(), Fail> {
-    let alloc = rt.alloc();
-    for place in 0..20usize {
-        let mut bytes = [0u8; 20];
-        bytes[place] = 0x20;
-        let fault = Fault::SampleRange {
-            index: place as u64,
-        };
-        let (first, second) = bytes.split_at(10);
-        let bits = if place < 16 { 0 } else { 11 };
-        let code: &[u8] = if place < 16 { &[] } else { &[0x00, 0x20] };
-        let five = width(5, false);
-        if place < 10 {
-            let calls = [refused(first, fault, 0), refused(second, fault, 0)];
-            expect_calls(&rt, alloc, five, MOST, &calls, Err(fault), bits, code)?;
-        } else {
-            let calls = [
-                taken(first, 10, 0),
-                refused(second, fault, bits),
-                refused(first, fault, bits),
-            ];
-            expect_calls(&rt, alloc, five, MOST, &calls, Err(fault), bits, code)?;
+fn codes_each_interval_when_it_is_complete(rt: HostRuntime) -> Result<(), Fail> {
+    for (row, (settings, limit, calls, finish, len, bytes)) in ROWS.iter().enumerate() {
+        let params = Params::new(*settings)?;
+        let mut coder = StreamCoder::new(rt.alloc(), params, *limit);
+        let mut out = BitBuf::new(rt.alloc());
+        for (piece, answer, held, bits) in *calls {
+            same_at(&rt, coder.feed(piece, &mut out), *answer, &row);
+            same_at(&rt, out.len(), *bits, &row);
+            let most = params.interval_len().saturating_sub(1);
+            let wanted = held.unwrap_or(coder.held().min(most));
+            same_at(&rt, coder.held(), wanted, &row);
         }
+        same_at(&rt, coder.finish(&mut out), *finish, &row);
+        expect_bits(&rt, rt.alloc(), &out, *len, bytes)?;
     }
     Ok(())
 }
 
-/// Codes the bytes in pieces of 1, 2, 3, 7 and 64 bytes, and checks the bits.
-fn expect_in_pieces(
-    rt: &impl Abort,
-    alloc: Global,
-    settings: Settings,
-    bytes: &[u8],
-    len: u64,
-    code: &[u8],
-) -> Result<(), Fail> {
-    for size in [1usize, 2, 3, 7, 64] {
-        let mut coder = StreamCoder::new(alloc, Params::new(settings)?, MOST);
-        let mut out = BitBuf::new(alloc);
-        for piece in bytes.chunks(size) {
-            coder.feed(piece, &mut out)?;
-        }
-        coder.finish(&mut out)?;
-        expect_bits(rt, &out, len, code);
-    }
-    Ok(())
-}
+// A row: settings; samples of one byte; the number of bits of their code, and the code.
+const STREAMS: [(Settings, &[(i64, usize)], u64, &[u8]); 2] = [
+    (PLAIN_8, &[(0, 48), (1, 1), (0, 7)], 20, &[0x00, 0x22, 0xF0]),
+    (WITH_128, &[(0, 520)], 22, &[0x00, 0x00, 0x84]),
+];
 
 #[test]
 fn codes_the_same_in_pieces_of_any_size(rt: HostRuntime) -> Result<(), Fail> {
-    let mut spike = [0u8; 56];
-    spike[48] = 1;
-    expect_in_pieces(
-        &rt,
-        rt.alloc(),
-        unprocessed(8),
-        &spike,
-        20,
-        &[0x00, 0x22, 0xF0],
-    )?;
-    expect_in_pieces(
-        &rt,
-        rt.alloc(),
-        with_interval(128),
-        &[0; 520],
-        22,
-        &[0x00, 0x00, 0x84],
-    )
+    for (settings, runs, len, code) in &STREAMS {
+        let mut bytes = Vec::new(rt.alloc());
+        for x in list_of(rt.alloc(), runs)?.iter() {
+            bytes.push((*x & 0xFF) as u8)?;
+        }
+        for size in [1usize, 2, 3, 7, 64] {
+            let mut coder = StreamCoder::new(rt.alloc(), Params::new(*settings)?, MOST);
+            let mut out = BitBuf::new(rt.alloc());
+            for piece in bytes.chunks(size) {
+                coder.feed(piece, &mut out)?;
+            }
+            coder.finish(&mut out)?;
+            expect_bits(&rt, rt.alloc(), &out, *len, code)?;
+        }
+    }
+    Ok(())
 }

@@ -7,22 +7,12 @@ mod asserts;
 #[cfg(test)]
 mod codecs;
 #[cfg(test)]
-mod coding;
-#[cfg(test)]
 mod feeding;
 #[cfg(test)]
-mod places;
-#[cfg(test)]
 mod reading;
-#[cfg(test)]
-mod refusals;
 #[cfg(test)]
 mod settings;
 #[cfg(test)]
 mod shared;
-#[cfg(test)]
-mod short_blocks;
-#[cfg(test)]
-mod skipping;
 #[cfg(test)]
 mod streams;

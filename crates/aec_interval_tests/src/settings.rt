@@ -2,40 +2,65 @@
 
 use aec_params::Settings;
 
-pub(crate) const fn width(bits: u32, signed: bool) -> Settings {
-    Settings {
-        bits,
-        signed,
-        ..Settings::USUAL
-    }
-}
+pub(crate) const USUAL: Settings = Settings::USUAL;
 
-pub(crate) const fn with_interval(interval: u32) -> Settings {
-    Settings {
-        interval,
-        ..Settings::USUAL
-    }
-}
+pub(crate) const PADDED: Settings = Settings {
+    pad: true,
+    ..Settings::USUAL
+};
 
-pub(crate) const fn unprocessed(interval: u32) -> Settings {
-    Settings {
-        preprocess: false,
-        ..with_interval(interval)
-    }
-}
+/// Blocks of ten samples, each an interval.
+pub(crate) const TEN: Settings = Settings {
+    block_size: 10,
+    even_blocks: true,
+    interval: 1,
+    ..Settings::USUAL
+};
 
-/// Returns settings with blocks of an even size, and intervals of `interval` blocks.
-pub(crate) const fn even_blocks(block_size: u32, interval: u32) -> Settings {
-    Settings {
-        block_size,
-        even_blocks: true,
-        ..with_interval(interval)
-    }
-}
+pub(crate) const WITH_64: Settings = Settings {
+    interval: 64,
+    ..Settings::USUAL
+};
 
-pub(crate) const fn padded() -> Settings {
-    Settings {
-        pad: true,
-        ..Settings::USUAL
-    }
-}
+pub(crate) const WITH_128: Settings = Settings {
+    interval: 128,
+    ..Settings::USUAL
+};
+
+pub(crate) const WITH_4096: Settings = Settings {
+    interval: 4096,
+    ..Settings::USUAL
+};
+
+pub(crate) const PLAIN: Settings = Settings {
+    preprocess: false,
+    ..Settings::USUAL
+};
+
+pub(crate) const PLAIN_8: Settings = Settings {
+    preprocess: false,
+    interval: 8,
+    ..Settings::USUAL
+};
+
+pub(crate) const PLAIN_64: Settings = Settings {
+    preprocess: false,
+    interval: 64,
+    ..Settings::USUAL
+};
+
+/// Unsigned samples of 5, 12 and 16 bits.
+pub(crate) const FIVE_BITS: Settings = Settings {
+    bits: 5,
+    ..Settings::USUAL
+};
+
+pub(crate) const TWELVE_BITS: Settings = Settings {
+    bits: 12,
+    ..Settings::USUAL
+};
+
+pub(crate) const SIXTEEN_BITS: Settings = Settings {
+    bits: 16,
+    ..Settings::USUAL
+};

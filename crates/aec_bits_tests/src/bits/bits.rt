@@ -1,8 +1,8 @@
-//! Lists of bits and their readers.
+//! Lists of bits and their readers, call by call, and splices compared with those of a plain list.
 
-ghost use Rattle.std.specs.Prelude.{◌<◌, ◌≤◌, ◌^◌, length};
+ghost use Rattle.std.specs.Prelude.{◌≤◌, length};
 
-use crate::asserts::{holds, holds_at, same, same_at};
+use crate::asserts::{holds_at, same, same_at};
 use aec_bits::{BitBuf, BitReader};
 use aec_params::Fault;
 use std::alloc::Global;
@@ -26,21 +26,129 @@ pub(crate) fn bits(alloc: Global, list: &[bool]) -> Result<BitBuf, Fault> {
     Ok(buf)
 }
 
-pub(crate) fn bits_in(alloc: Global, bytes: &[u8]) -> Result<BitBuf, Fault> {
-    BitBuf::from_bytes(alloc, bytes)
+/// A call that changes a list of bits.
+#[derive(Clone, Copy, Debug)]
+enum Change {
+    Reserve(u64),
+    /// Pushes 5 in three bits.
+    PushFive,
+    PushFs(u64),
+    Append(&'static [bool]),
+    AppendBytes(&'static [u8]),
+    Splice(u64, u64, &'static [bool]),
+    Truncate(u64),
+    Pad,
 }
 
-/// Appends a number, but has no `ensures`: the many bits of a literal stay out of the tests'
-/// proofs.
-fn push(buf: &mut BitBuf, value: u64, width: u32) -> Result<(), Fault>
-    requires width { width ≤ 64 }
-    requires fits { value < 2 ^ width }
-{
-    buf.push_bits(value, width)
+fn make(alloc: Global, buf: &mut BitBuf, change: Change) -> Result<(), Fault> {
+    let len = buf.len();
+    match change {
+        Change::Reserve(bits) => buf.reserve(bits),
+        Change::PushFive => buf.push_bits(5, 3),
+        Change::PushFs(v) => buf.push_fs(v),
+        Change::Append(list) => buf.append(&bits(alloc, list)?),
+        Change::AppendBytes(bytes) => buf.append_bytes(bytes),
+        Change::Splice(start, stop, list) => {
+            let stop = stop.min(len);
+            buf.splice(start.min(stop), stop, &bits(alloc, list)?)
+        }
+        Change::Truncate(kept) => {
+            buf.truncate(kept.min(len));
+            Ok(())
+        }
+        Change::Pad => buf.pad_to_byte(),
+    }
 }
 
-fn push_fs(buf: &mut BitBuf, v: u64) -> Result<(), Fault> {
-    buf.push_fs(v)
+// A row: a call on the list that the row before leaves; the number of bits after it, and the bytes
+// that they fill. The first list is empty.
+const CHANGES: [(Change, u64, &[u8]); 14] = [
+    (Change::Append(&[true, false, true]), 3, &[0xA0]),
+    (Change::Pad, 8, &[0xA0]),
+    (Change::Truncate(0), 0, &[]),
+    (Change::Splice(0, 0, &[true, false, true]), 3, &[0xA0]),
+    (Change::Truncate(0), 0, &[]),
+    (Change::Reserve(100), 0, &[]),
+    (Change::PushFive, 3, &[0xA0]),
+    (Change::PushFs(4), 8, &[0xA1]),
+    (Change::Append(&[true, true]), 10, &[0xA1, 0xC0]),
+    (
+        Change::Splice(2, 7, &[false, true, true, false]),
+        9,
+        &[0x9B, 0x80],
+    ),
+    (Change::Truncate(5), 5, &[0x98]),
+    (Change::AppendBytes(&[0x42]), 13, &[0x9A, 0x10]),
+    (Change::Truncate(5), 5, &[0x98]),
+    (Change::Pad, 8, &[0x98]),
+];
+
+#[test]
+fn builds_and_edits(rt: HostRuntime) -> Result<(), Fail> {
+    let mut buf = BitBuf::new(rt.alloc());
+    for (change, len, wanted) in &CHANGES {
+        make(rt.alloc(), &mut buf, *change)?;
+        same_at(&rt, buf.len(), *len, change);
+        same_at(&rt, bytes(rt.alloc(), &buf)?.as_slice(), *wanted, change);
+    }
+    Ok(())
+}
+
+#[test]
+fn refuses_more_than_a_list_holds(rt: HostRuntime) {
+    for change in [Change::Reserve((1 << 62) + 1), Change::PushFs(u64::MAX)] {
+        let mut buf = BitBuf::new(rt.alloc());
+        let answer = make(rt.alloc(), &mut buf, change);
+        same_at(&rt, answer, Err(Fault::Memory), &change);
+        same_at(&rt, buf.len(), 0, &change);
+    }
+}
+
+/// A call of a reader: of `read` with these bits, of `read_fs`, `skip_to_byte` or `rest_is_zero`.
+#[derive(Clone, Copy, Debug)]
+enum Reading {
+    Number(u32),
+    Fs,
+    Skip,
+    RestIsZero,
+}
+
+/// Returns the number that is read, 0 after a skip, or 1 if the rest is zero.
+fn read(reader: &mut BitReader, call: Reading) -> Result<u64, Fault> {
+    match call {
+        Reading::Number(width) => reader.read(width.min(64)),
+        Reading::Fs => reader.read_fs(),
+        Reading::Skip => {
+            reader.skip_to_byte();
+            Ok(0)
+        }
+        Reading::RestIsZero => Ok(u64::from(reader.rest_is_zero())),
+    }
+}
+
+// A row: a call on a reader of 1001 1000, where the row before leaves it; its result; the position
+// after it.
+const READS: [(Reading, Result<u64, Fault>, u64); 9] = [
+    (Reading::Number(3), Ok(4), 3),
+    (Reading::Fs, Ok(0), 4),
+    (Reading::Fs, Ok(0), 5),
+    (Reading::RestIsZero, Ok(1), 5),
+    (Reading::Fs, Err(Fault::Truncated { bit: 5 }), 5),
+    (Reading::Skip, Ok(0), 8),
+    (Reading::Number(1), Err(Fault::Truncated { bit: 8 }), 8),
+    (Reading::Skip, Ok(0), 8),
+    (Reading::RestIsZero, Ok(1), 8),
+];
+
+#[test]
+fn reads_and_stays(rt: HostRuntime) -> Result<(), Fail> {
+    let buf = BitBuf::from_bytes(rt.alloc(), &[0x98])?;
+    let mut reader = BitReader::new(&buf);
+    for (call, wanted, end) in &READS {
+        same_at(&rt, read(&mut reader, *call), *wanted, call);
+        same_at(&rt, reader.pos(), *end, call);
+    }
+    Ok(())
 }
 
 /// Returns whether the bits equal those of a slice.
@@ -87,138 +195,6 @@ fn splices(
     Ok(are(&buf, &want))
 }
 
-#[test]
-fn builds_and_edits(rt: HostRuntime) -> Result<(), Fail> {
-    let alloc = rt.alloc();
-    let mut buf = BitBuf::new(alloc);
-    buf.reserve(100)?;
-    push(&mut buf, 5, 3)?;
-    push_fs(&mut buf, 4)?;
-    buf.append(&bits(alloc, &[true, true])?)?;
-    same(&rt, bytes(alloc, &buf)?.as_slice(), [0xA1, 0xC0].as_slice());
-    holds(&rt, buf.len() == 10);
-    buf.splice(2, 7, &bits(alloc, &[false, true, true, false])?)?;
-    same(&rt, bytes(alloc, &buf)?.as_slice(), [0x9B, 0x80].as_slice());
-    holds(&rt, buf.len() == 9);
-    buf.truncate(5);
-    buf.pad_to_byte()?;
-    same(&rt, bytes(alloc, &buf)?.as_slice(), [0x98].as_slice());
-    same(&rt, buf.len(), 8);
-    buf.pad_to_byte()?;
-    same(&rt, buf.len(), 8);
-    Ok(())
-}
-
-#[test]
-fn grows_where_nothing_was_reserved(rt: HostRuntime) -> Result<(), Fail> {
-    let alloc = rt.alloc();
-    let mut buf = BitBuf::new(alloc);
-    buf.append(&bits(alloc, &[true, false, true])?)?;
-    buf.pad_to_byte()?;
-    same(&rt, bytes(alloc, &buf)?.as_slice(), [0xA0].as_slice());
-    same(&rt, buf.len(), 8);
-    let mut other = BitBuf::new(alloc);
-    other.splice(0, 0, &buf)?;
-    same(&rt, bytes(alloc, &other)?.as_slice(), [0xA0].as_slice());
-    Ok(())
-}
-
-#[test]
-fn reads_and_stays(rt: HostRuntime) -> Result<(), Fail> {
-    let buf = bits_in(rt.alloc(), &[0x98])?;
-    let mut reader = BitReader::new(&buf);
-    same(&rt, reader.read(3), Ok(4));
-    same(&rt, reader.read_fs(), Ok(0));
-    same(&rt, reader.read_fs(), Ok(0));
-    holds(&rt, reader.rest_is_zero());
-    same(&rt, reader.read_fs(), Err(Fault::Truncated { bit: 5 }));
-    same(&rt, reader.pos(), 5);
-    reader.skip_to_byte();
-    same(&rt, reader.pos(), 8);
-    same(&rt, reader.read(1), Err(Fault::Truncated { bit: 8 }));
-    reader.skip_to_byte();
-    same(&rt, reader.pos(), 8);
-    holds(&rt, reader.rest_is_zero());
-    Ok(())
-}
-
-#[test]
-fn pushes_extreme_numbers(rt: HostRuntime) -> Result<(), Fail> {
-    let mut buf = BitBuf::new(rt.alloc());
-    push(&mut buf, 0, 0)?;
-    same(&rt, buf.len(), 0);
-    for value in [u64::MAX, 1, 1 << 63] {
-        push(&mut buf, value, 64)?;
-    }
-    for v in [0, 1, 63, 64, 1000] {
-        push_fs(&mut buf, v)?;
-    }
-    same(&rt, buf.len(), 192 + 1128 + 5);
-    let mut reader = BitReader::new(&buf);
-    same(&rt, reader.read(0), Ok(0));
-    for value in [u64::MAX, 1, 1 << 63] {
-        same(&rt, reader.read(64), Ok(value));
-    }
-    for v in [0, 1, 63, 64, 1000] {
-        same(&rt, reader.read_fs(), Ok(v));
-    }
-    same(&rt, reader.read_fs(), Err(Fault::Truncated { bit: 1325 }));
-    Ok(())
-}
-
-#[test]
-fn gives_bytes_back(rt: HostRuntime) -> Result<(), Fail> {
-    let alloc = rt.alloc();
-    let mut given = Vec::new(alloc);
-    for i in 0..21u64 {
-        let buf = bits_in(alloc, &given)?;
-        same(&rt, buf.len(), 8 * i);
-        same_at(&rt, bytes(alloc, &buf)?.as_slice(), given.as_slice(), &i);
-        given.push((i * 37 % 256) as u8)?;
-    }
-    Ok(())
-}
-
-/// Returns `len` bytes with a period of 251.
-pub(crate) fn sample_bytes(alloc: Global, len: usize) -> Result<Vec<u8>, Fault> {
-    let mut bytes = Vec::new(alloc);
-    for i in 0..len {
-        bytes.push((i % 251 * 37 % 256) as u8)?;
-    }
-    Ok(bytes)
-}
-
-// Appends `count` bytes to `front` bits, and checks that the bits of each byte follow these bits.
-fn expect_appended<R: Abort>(
-    rt: &R,
-    alloc: Global,
-    front: usize,
-    count: usize,
-) -> Result<(), Fail> {
-    let mut want = sample_list(alloc, front, 3)?;
-    let mut buf = bits(alloc, &want)?;
-    let more = sample_bytes(alloc, count)?;
-    buf.append_bytes(&more)?;
-    for byte in more.iter() {
-        for place in 0..8u32 {
-            want.push(*byte << place >= 128)?;
-        }
-    }
-    holds_at(rt, are(&buf, &want), &(&front, &count));
-    Ok(())
-}
-
-#[test]
-fn appends_bytes_anywhere(rt: HostRuntime) -> Result<(), Fail> {
-    let alloc = rt.alloc();
-    for front in [0, 1, 7, 8, 9, 56, 63, 64, 65, 128] {
-        for count in [0, 1, 7, 8, 9, 63, 64, 65] {
-            expect_appended(&rt, alloc, front, count)?;
-        }
-    }
-    Ok(())
-}
-
 // Checks a splice if `places` (start, stop, number of new bits) are in order and within the list.
 fn expect_splice<R: Abort>(
     rt: &R,
@@ -253,9 +229,18 @@ fn splices_as_a_list(rt: HostRuntime) -> Result<(), Fail> {
 }
 
 #[test]
-fn refuses_more_than_a_list_holds(rt: HostRuntime) {
+fn a_million_zeros_and_a_one(rt: HostRuntime) -> Result<(), Fail> {
     let mut buf = BitBuf::new(rt.alloc());
-    same(&rt, buf.reserve((1 << 62) + 1), Err(Fault::Memory));
-    same(&rt, push_fs(&mut buf, u64::MAX), Err(Fault::Memory));
-    same(&rt, buf.len(), 0);
+    buf.push_fs(1_000_000)?;
+    buf.push_fs(1_000_000)?;
+    same(&rt, buf.len(), 2_000_002);
+    let mut reader = BitReader::new(&buf);
+    for wanted in [
+        Ok(1_000_000),
+        Ok(1_000_000),
+        Err(Fault::Truncated { bit: 2_000_002 }),
+    ] {
+        same(&rt, reader.read_fs(), wanted);
+    }
+    Ok(())
 }

