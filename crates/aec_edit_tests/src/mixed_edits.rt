@@ -2,7 +2,7 @@
 //! list that was edited in the same way.
 
 use crate::asserts::{holds, holds_at, same, same_at};
-use crate::plain_lists::{Row, expect_edit};
+use crate::plain_lists::{Row, edit_both, intervals_of};
 use crate::steps::{counts, range, start_of, stream};
 use crate::workspaces::workspace;
 use aec_bits::WriteSink;
@@ -162,16 +162,12 @@ const ROWS: [Row; 11] = [
     },
 ];
 
-/// Returns the next pseudorandom number.
-fn next(seed: &mut u64) -> u64 {
+/// Returns the next pseudorandom number below the bound.
+fn below(seed: &mut u64, bound: u64) -> u64 {
     *seed = seed
         .wrapping_mul(6_364_136_223_846_793_005)
         .wrapping_add(1_442_695_040_888_963_407);
-    *seed >> 31
-}
-
-fn below(seed: &mut u64, bound: u64) -> u64 {
-    next(seed).checked_rem(bound).unwrap_or(0)
+    (*seed >> 31).checked_rem(bound).unwrap_or(0)
 }
 
 /// Returns `len` values: all equal, near each other, or any. In one case of eight the last value is
@@ -278,7 +274,7 @@ fn expect_code<R: Abort>(
     list: &[i64],
 ) -> Result<(), Fail> {
     let count = list.len() as u64;
-    let intervals = row.intervals_of(count);
+    let intervals = intervals_of(row, count);
     let (bits, bytes) = code_of(alloc, params, list, count)?;
     same(rt, counts(work), (count, intervals, bits));
     holds(rt, stream(alloc, work)? == bytes);
@@ -290,44 +286,30 @@ fn expect_code<R: Abort>(
     Ok(())
 }
 
-/// Applies a first edit and two hundred more, and compares each with that of a plain list. Checks
-/// that there are enough of each kind, applied and refused.
+/// Applies a first edit and two hundred more to a workspace and to a plain list, and compares them
+/// after each. Checks that each kind, applied and refused, occurs at least ten times, and nothing
+/// else.
 fn expect_edits<R: Abort>(rt: &R, alloc: Global, row: &Row) -> Result<(), Fail> {
     let params = Params::new(row.settings)?;
     let mut work = workspace(alloc, params, 0, row.limit);
     let mut list = Vec::new(alloc);
     let mut seed = 1;
-    let mut tally = 0u64;
+    let mut kinds = vec![in alloc; 0u32; 9]?;
     let mut edit = Edit::Append {
         values: Samples::new(vec![in alloc; row.low; row.start as usize]?),
     };
     for _ in 0..201 {
-        let became = expect_edit(rt, alloc, row, &mut work, &mut list, &edit)?;
-        tally = tally.saturating_add(became);
+        let kind = edit_both(alloc, &mut work, &mut list, &edit)?;
+        if let Some(times) = kinds.get_mut(kind) {
+            *times = times.saturating_add(1);
+        }
         expect_code(rt, alloc, &params, row, &work, &list)?;
         edit = some_edit(alloc, &mut seed, row, list.len() as u64)?;
     }
     holds(rt, range(&mut work, alloc, 0, list.len() as u64)? == list);
-    expect_each_kind(rt, tally);
+    holds_at(rt, kinds.pop() == Some(0), &kinds);
+    holds_at(rt, kinds.iter().all(|times| *times >= 10), &kinds);
     Ok(())
-}
-
-/// Checks that there are at least ten of each kind: refused for a value, as too many, as out of
-/// range; applied.
-fn expect_each_kind(rt: &impl Abort, tally: u64) {
-    let [
-        bad,
-        many,
-        outside,
-        removed,
-        inserted,
-        cut,
-        appended,
-        overwritten,
-    ] = tally.to_be_bytes();
-    holds_at(rt, bad >= 10 && many >= 10 && outside >= 10, &tally);
-    holds_at(rt, removed >= 10 && inserted >= 10 && cut >= 10, &tally);
-    holds_at(rt, appended >= 10 && overwritten >= 10, &tally);
 }
 
 #[test]

@@ -1,14 +1,12 @@
 //! Workspaces with the codec of octets, four in an interval: a stream is the bytes of its samples.
 
 use crate::asserts::same;
-use crate::steps::{apply, calls, counts, expect_run, expect_steps, expect_stop, reserve};
+use crate::steps::expect_steps;
 use aec_bits::laws::Octets;
 use aec_bits::{Codec, Sink, WriteSink};
 use aec_edit::{Outcome, Workspace, write_edited};
 use aec_params::{Edit, Fault, Samples};
 use std::alloc::{AllocError, Global};
-use std::io;
-use std::io::Write;
 use std::test::Fail;
 
 /// Returns an empty workspace whose codec's count begins at `calls`.
@@ -208,8 +206,6 @@ fn octets_answer_step_by_step(rt: HostRuntime) -> Result<(), Fail> {
     let alloc = rt.alloc();
     for (calls, limit, table) in TABLES {
         expect_steps(&rt, alloc, &mut workspace(alloc, calls, limit), table)?;
-        expect_run(&rt, alloc, &mut workspace(alloc, calls, limit), table)?;
-        expect_stop(&rt, alloc, &mut workspace(alloc, calls, limit), table)?;
     }
     Ok(())
 }
@@ -252,47 +248,5 @@ fn writes_what_edits_leave(rt: HostRuntime) -> Result<(), Fail> {
         sink.into_inner().as_slice(),
         [255, 0, 0, 0, 0, 7].as_slice(),
     );
-    Ok(())
-}
-
-/// A writer that takes no bytes.
-#[derive(Drop)]
-struct Full;
-
-impl Write for Full {
-    fn write(&mut self, _buf: &[u8]) -> io::Result<usize> {
-        Ok(0)
-    }
-
-    fn flush(&mut self) -> io::Result<()> {
-        Ok(())
-    }
-}
-
-#[test]
-fn a_failing_sink_is_named(rt: HostRuntime) -> Result<(), Fail> {
-    let alloc = rt.alloc();
-    let mut sink = WriteSink::new(Full);
-    let edited = write_edited(
-        alloc,
-        Octets::new(alloc, 0),
-        8,
-        &[zeros(alloc, 1)?],
-        &mut sink,
-    );
-    same(&rt, edited.err(), Some(Fault::Write));
-    same(&rt, sink.failures(), 1);
-    Ok(())
-}
-
-#[test]
-fn room_is_taken_beforehand(rt: HostRuntime) -> Result<(), Fail> {
-    let alloc = rt.alloc();
-    let mut work = workspace(alloc, 0, 8);
-    same(&rt, reserve(&mut work, 64, 2), Ok(()));
-    same(&rt, reserve(&mut work, u64::MAX, 0), Err(Fault::Memory));
-    same(&rt, reserve(&mut work, 0, u64::MAX), Err(Fault::Memory));
-    same(&rt, (counts(&work), calls(&work)), ((0, 0, 0), 0));
-    same(&rt, apply(&mut work, &zeros(alloc, 5)?), Ok(2));
     Ok(())
 }

@@ -26,14 +26,6 @@ pub(crate) fn range<C: Codec>(
     work.range(alloc, first, len)
 }
 
-pub(crate) fn reserve<C: Codec>(
-    work: &mut Workspace<C>,
-    bits: u64,
-    intervals: u64,
-) -> Result<(), Fault> {
-    work.reserve(bits, intervals)
-}
-
 pub(crate) fn stream<C: Codec>(alloc: Global, work: &Workspace<C>) -> Result<Vec<u8>, Fault> {
     let mut sink = WriteSink::new(Vec::new(alloc));
     work.write_to(&mut sink)?;
@@ -205,16 +197,6 @@ fn edits_of(alloc: Global, table: &str) -> Result<(Vec<Edit>, String), Fail> {
     Ok((edits, answers))
 }
 
-// Returns the stream after a row's step, as the row spells it.
-fn stream_after(row: &str) -> &str {
-    cell(cell(cell(row).1).1).0
-}
-
-// Returns the same for a table's last row.
-fn last_stream(table: &str) -> &str {
-    stream_after(table.lines().last().unwrap_or(""))
-}
-
 // Applies edits as one run, and returns the outcomes, one a line. The first line is an outcome that
 // was in the list before.
 fn run_text<C: Codec>(
@@ -239,17 +221,7 @@ fn run_text<C: Codec>(
     Ok(text)
 }
 
-// Returns how many intervals edits with these results have coded.
-fn coded_by(answers: &str) -> u64 {
-    let mut coded = 0u64;
-    for answer in answers.lines() {
-        coded = coded.saturating_add(answer.parse::<u64>().unwrap_or(0));
-    }
-    coded
-}
-
-/// Checks the edits of a table in one run. The calls rise by the number of intervals that they
-/// code.
+/// Checks the edits of a table in one run.
 pub(crate) fn expect_run<R: Abort, C: Codec>(
     rt: &R,
     alloc: Global,
@@ -257,66 +229,21 @@ pub(crate) fn expect_run<R: Abort, C: Codec>(
     table: &str,
 ) -> Result<(), Fail> {
     let (edits, answers) = edits_of(alloc, table)?;
-    let before = calls(work);
     let text = run_text(alloc, work, &edits)?;
-    same(rt, text, format!(in alloc; "77\n{answers}")?);
-    let after = before.saturating_add(coded_by(&answers));
-    same_at(rt, calls(work), after, &table);
-    same_at(
-        rt,
-        stream(alloc, work)?,
-        spelled(alloc, last_stream(table))?,
-        &table,
-    );
+    same_at(rt, text, format!(in alloc; "77\n{answers}")?, &table);
     Ok(())
 }
 
-// Applies edits up to the first one that is refused. Returns its place among them and its fault, or
-// `made` if all are applied.
-fn stop_text<C: Codec>(
-    alloc: Global,
-    work: &mut Workspace<C>,
-    edits: &[Edit],
-) -> Result<String, Fail> {
-    match work.run_until_refused(edits) {
-        Ok(()) => Ok(String::from_str(alloc, "made")?),
-        Err(stop) => Ok(format!(in alloc; "{} {}", stop.place, stop.fault)?),
-    }
-}
-
-// Returns the same text for the expected results.
-fn first_refusal(alloc: Global, answers: &str) -> Result<String, Fail> {
-    for (place, answer) in answers.lines().enumerate() {
-        if answer.parse::<u64>().is_err() {
-            return Ok(format!(in alloc; "{place} {answer}")?);
-        }
-    }
-    Ok(String::from_str(alloc, "made")?)
-}
-
-// Returns whether a row is a range, or an edit that is applied.
-fn is_made(row: &str) -> bool {
-    let (step, rest) = cell(row);
-    step.starts_with("range ") || cell(rest).0.trim().parse::<u64>().is_ok()
-}
-
-// Returns the stream before a table's first refused edit, as a row spells it.
-fn stream_before_refusal(table: &str) -> &str {
-    let mut rows = table.lines().take_while(|row| is_made(row));
-    stream_after(rows.last().unwrap_or(""))
-}
-
-/// Checks the edits of a table, up to the first one that is refused.
-pub(crate) fn expect_stop<R: Abort, C: Codec>(
-    rt: &R,
+/// Applies edits up to the first one that is refused. Returns its place among them and its fault,
+/// or `made` if all are applied.
+pub(crate) fn stop_text<C: Codec>(
     alloc: Global,
     work: &mut Workspace<C>,
     table: &str,
-) -> Result<(), Fail> {
-    let (edits, answers) = edits_of(alloc, table)?;
-    let text = stop_text(alloc, work, &edits)?;
-    same_at(rt, text, first_refusal(alloc, &answers)?, &table);
-    let bytes = spelled(alloc, stream_before_refusal(table))?;
-    same_at(rt, stream(alloc, work)?, bytes, &table);
-    Ok(())
+) -> Result<String, Fail> {
+    let (edits, _) = edits_of(alloc, table)?;
+    match work.run_until_refused(&edits) {
+        Ok(()) => Ok(String::from_str(alloc, "made")?),
+        Err(stop) => Ok(format!(in alloc; "{} {}", stop.place, stop.fault)?),
+    }
 }

@@ -1,7 +1,7 @@
 //! Workspaces with `AecCodec`, step by step.
 
-use crate::asserts::same;
-use crate::steps::{calls, counts, expect_run, expect_steps, expect_stop};
+use crate::asserts::{same, same_at};
+use crate::steps::{calls, counts, expect_run, expect_steps, stop_text};
 use aec_edit::Workspace;
 use aec_interval::AecCodec;
 use aec_params::{Params, Settings};
@@ -166,24 +166,37 @@ fn workspaces_answer_step_by_step(rt: HostRuntime) -> Result<(), Fail> {
     let alloc = rt.alloc();
     let params = Params::new(Settings::USUAL)?;
     for (calls, limit, table) in TABLES {
-        expect_steps(
-            &rt,
-            alloc,
-            &mut workspace(alloc, params, calls, limit),
-            table,
-        )?;
-        expect_run(
-            &rt,
-            alloc,
-            &mut workspace(alloc, params, calls, limit),
-            table,
-        )?;
-        expect_stop(
-            &rt,
-            alloc,
-            &mut workspace(alloc, params, calls, limit),
-            table,
-        )?;
+        let mut work = workspace(alloc, params, calls, limit);
+        expect_steps(&rt, alloc, &mut work, table)?;
+        let mut work = workspace(alloc, params, calls, limit);
+        expect_run(&rt, alloc, &mut work, table)?;
+    }
+    Ok(())
+}
+
+// How a run ends that stops at the first refused edit, and how many samples and bits it leaves.
+const STOPS: [(&str, &str, u64, u64); 3] = [
+    ("append 0*48\noverwrite 20 1", "made", 48, 53),
+    (
+        "append 0*48\noverwrite 47 0 0\ntruncate 0",
+        "1 position outside the 48 samples",
+        48,
+        42,
+    ),
+    ("append 0*17", "0 coder calls are spent", 0, 0),
+];
+
+#[test]
+fn a_run_stops_at_a_refused_edit(rt: HostRuntime) -> Result<(), Fail> {
+    let alloc = rt.alloc();
+    let params = Params::new(Settings::USUAL)?;
+    for (table, wanted, count, bits) in STOPS {
+        let calls = if count == 0 { u64::MAX - 1 } else { 0 };
+        let mut work = workspace(alloc, params, calls, 48);
+        let text = stop_text(alloc, &mut work, table)?;
+        same_at(&rt, text.as_str(), wanted, &table);
+        let (found, _, found_bits) = counts(&work);
+        same_at(&rt, (found, found_bits), (count, bits), &table);
     }
     Ok(())
 }
