@@ -1,104 +1,166 @@
 //! Coding, decoding and ranges of bytes in memory.
 
-use crate::asserts::{same, same_at};
+use crate::asserts::same_at;
 use aec_engine::{decode_bytes, encode_bytes, range_bytes};
 use aec_params::{Fault, Limits, Params, Settings};
 use std::alloc::Global;
-use std::process::Abort;
 use std::test::Fail;
 
-const RAMP: [u8; 8] = [0, 1, 2, 3, 4, 5, 6, 7];
+/// A call, with what it is given beside bytes and limits.
+#[derive(Clone, Copy, Debug)]
+enum Call {
+    Encode,
+    Decode { count: Option<u64> },
+    Range { first: u64, len: u64 },
+}
 
-// The code of the ramp, from the examples of FORMAT.md.
-const RAMP_CODED: [u8; 4] = [0x20, 0x09, 0x24, 0x92];
-
-// Calls `decode_bytes`, and keeps its clauses out of the tests' proofs.
-fn decoded(
+fn made(
     alloc: Global,
     params: &Params,
     limits: Limits,
-    count: Option<u64>,
+    call: Call,
     bytes: &[u8],
 ) -> Result<Vec<u8>, Fault> {
-    decode_bytes(alloc, params, limits, count, bytes)
+    match call {
+        Call::Encode => encode_bytes(alloc, params, limits, bytes),
+        Call::Decode { count } => decode_bytes(alloc, params, limits, count, bytes),
+        Call::Range { first, len } => range_bytes(alloc, params, limits, None, first, len, bytes),
+    }
 }
 
-// Checks that the ramp's code with this count is decoded as the ramp's first `len` samples.
-fn expect_front(
-    rt: &impl Abort,
-    alloc: Global,
-    params: &Params,
-    count: Option<u64>,
-    len: usize,
-) -> Result<(), Fail> {
-    let limits = Limits::new(8, 8).ok_or("limits")?;
-    let bytes = decoded(alloc, params, limits, count, &RAMP_CODED)?;
-    same_at(rt, Some(bytes.as_slice()), RAMP.get(..len), &count);
-    Ok(())
-}
+// The bytes 0 to 7, and their code, from the examples of FORMAT.md.
+const RAMP: &[u8] = &[0, 1, 2, 3, 4, 5, 6, 7];
+
+const RAMP_CODED: &[u8] = &[0x20, 0x09, 0x24, 0x92];
+
+const ALL: Call = Call::Decode { count: None };
+
+const OUTSIDE: Result<&[u8], Fault> = Err(Fault::OutOfRange { count: 8 });
+
+// A row: bits per sample; the limits of samples and of bytes; a call and its bytes; its result.
+const ROWS: [(u32, (u64, u64), Call, &[u8], Result<&[u8], Fault>); 17] = [
+    (8, (8, 8), Call::Encode, RAMP, Ok(RAMP_CODED)),
+    (8, (8, 8), ALL, RAMP_CODED, Ok(RAMP)),
+    (
+        8,
+        (8, 8),
+        Call::Decode { count: Some(8) },
+        RAMP_CODED,
+        Ok(RAMP),
+    ),
+    (
+        8,
+        (8, 8),
+        Call::Decode { count: Some(3) },
+        RAMP_CODED,
+        Ok(&[0, 1, 2]),
+    ),
+    (
+        8,
+        (8, 8),
+        Call::Decode { count: Some(0) },
+        RAMP_CODED,
+        Ok(&[]),
+    ),
+    (
+        5,
+        (2, 3),
+        Call::Encode,
+        &[31, 32],
+        Err(Fault::SampleRange { index: 1 }),
+    ),
+    (
+        5,
+        (2, 3),
+        Call::Encode,
+        &[31, 31, 32],
+        Err(Fault::TooManySamples { limit: 2 }),
+    ),
+    (
+        5,
+        (2, 3),
+        Call::Encode,
+        &[32, 0, 0],
+        Err(Fault::SampleRange { index: 0 }),
+    ),
+    (
+        8,
+        (2, 3),
+        ALL,
+        RAMP_CODED,
+        Err(Fault::StreamTooLong { limit: 3 }),
+    ),
+    (
+        8,
+        (2, 3),
+        Call::Decode { count: Some(3) },
+        &[],
+        Err(Fault::TooManySamples { limit: 2 }),
+    ),
+    (
+        8,
+        (2, 3),
+        Call::Decode { count: Some(1) },
+        &[0x20],
+        Err(Fault::Truncated { bit: 0 }),
+    ),
+    (
+        8,
+        (8, 4),
+        Call::Range { first: 0, len: 8 },
+        RAMP_CODED,
+        Ok(RAMP),
+    ),
+    (
+        8,
+        (8, 4),
+        Call::Range { first: 2, len: 3 },
+        RAMP_CODED,
+        Ok(&[2, 3, 4]),
+    ),
+    (
+        8,
+        (8, 4),
+        Call::Range { first: 7, len: 1 },
+        RAMP_CODED,
+        Ok(&[7]),
+    ),
+    (
+        8,
+        (8, 4),
+        Call::Range { first: 8, len: 0 },
+        RAMP_CODED,
+        Ok(&[]),
+    ),
+    (
+        8,
+        (8, 4),
+        Call::Range { first: 6, len: 3 },
+        RAMP_CODED,
+        OUTSIDE,
+    ),
+    (
+        8,
+        (8, 4),
+        Call::Range { first: 9, len: 0 },
+        RAMP_CODED,
+        OUTSIDE,
+    ),
+];
 
 #[test]
 fn bytes_are_coded_and_decoded(rt: HostRuntime) -> Result<(), Fail> {
-    let params = Params::new(Settings::USUAL)?;
-    let limits = Limits::new(8, 8).ok_or("limits")?;
-    let coded = encode_bytes(rt.alloc(), &params, limits, &RAMP)?;
-    same(&rt, coded.as_slice(), RAMP_CODED.as_slice());
-    for (count, len) in [(None, 8), (Some(8), 8), (Some(3), 3), (Some(0), 0)] {
-        expect_front(&rt, rt.alloc(), &params, count, len)?;
-    }
-    Ok(())
-}
-
-#[test]
-fn bytes_are_refused(rt: HostRuntime) -> Result<(), Fail> {
-    let five_bits = Params::new(Settings {
-        bits: 5,
-        ..Settings::USUAL
-    })?;
-    let params = Params::new(Settings::USUAL)?;
-    let limits = Limits::new(2, 3).ok_or("limits")?;
-    let coding = [
-        ([31, 32].as_slice(), Fault::SampleRange { index: 1 }),
-        ([31, 31, 32].as_slice(), Fault::TooManySamples { limit: 2 }),
-        ([32, 0, 0].as_slice(), Fault::SampleRange { index: 0 }),
-    ];
-    for (bytes, fault) in coding {
-        let refusal = encode_bytes(rt.alloc(), &five_bits, limits, bytes).err();
-        same_at(&rt, refusal, Some(fault), &bytes);
-    }
-    let decoding = [
-        (
-            RAMP_CODED.as_slice(),
-            None,
-            Fault::StreamTooLong { limit: 3 },
-        ),
-        (b"".as_slice(), Some(3), Fault::TooManySamples { limit: 2 }),
-        (b"\x20".as_slice(), Some(1), Fault::Truncated { bit: 0 }),
-    ];
-    for (coded, count, fault) in decoding {
-        let refusal = decoded(rt.alloc(), &params, limits, count, coded).err();
-        same_at(&rt, refusal, Some(fault), &coded);
-    }
-    Ok(())
-}
-
-// Returns a range of the ramp, from its code. The limit is the length of the code, 4 bytes.
-fn cut(alloc: Global, first: u64, len: u64) -> Result<Vec<u8>, Fault> {
-    let params = Params::new(Settings::USUAL)?;
-    let limits = Limits::new(8, 4).unwrap();
-    range_bytes(alloc, &params, limits, None, first, len, &RAMP_CODED)
-}
-
-#[test]
-fn ranges_are_cut_out_of_bytes(rt: HostRuntime) -> Result<(), Fail> {
-    for (first, len) in [(0, 8), (2, 3), (7, 1), (8, 0)] {
-        let bytes = cut(rt.alloc(), first, len)?;
-        let wanted = RAMP.get(first as usize..(first + len) as usize);
-        same_at(&rt, Some(bytes.as_slice()), wanted, &first);
-    }
-    for (first, len) in [(6, 3), (9, 0)] {
-        let refusal = cut(rt.alloc(), first, len).err();
-        same_at(&rt, refusal, Some(Fault::OutOfRange { count: 8 }), &first);
+    for row in &ROWS {
+        let (bits, most, call, bytes, wanted) = *row;
+        let params = Params::new(Settings {
+            bits,
+            ..Settings::USUAL
+        })?;
+        let limits = Limits::new(most.0, most.1).ok_or("limits")?;
+        match made(rt.alloc(), &params, limits, call, bytes) {
+            Ok(found) => same_at(&rt, Ok(found.as_slice()), wanted, row),
+            Err(fault) => same_at(&rt, Err(fault), wanted, row),
+        }
     }
     Ok(())
 }

@@ -42,23 +42,26 @@ fn counted<R: Abort>(rt: &R, alloc: Global, text: &str, calls: u64) -> Result<Ve
     Ok(sink.bytes)
 }
 
+// A row: a script, and the codec's calls.
+const COUNTED: [(&str, u64); 7] = [
+    ("overwrite 20 1", 4),
+    ("", 3),
+    ("overwrite 15 1 2\noverwrite 20 1", 6),
+    ("append 1", 4),
+    ("truncate 40\ntruncate 16", 4),
+    ("insert 16 0 0 0 0 0 0 0 0 0 0 0 0 0 0 0 0\ninsert 20 0", 8),
+    ("remove 16 16\nremove 0 1", 5),
+];
+
 #[test]
 fn calls_of_a_script_are_counted(rt: HostRuntime) -> Result<(), Fail> {
-    let bytes = counted(&rt, rt.alloc(), "overwrite 20 1", 4)?;
-    same(
-        &rt,
-        bytes.strip_prefix(b"old"),
-        Some(ONE_CHANGED.as_slice()),
-    );
-    for (text, calls) in [
-        ("", 3),
-        ("overwrite 15 1 2\noverwrite 20 1", 6),
-        ("append 1", 4),
-        ("truncate 40\ntruncate 16", 4),
-        ("insert 16 0 0 0 0 0 0 0 0 0 0 0 0 0 0 0 0\ninsert 20 0", 8),
-        ("remove 16 16\nremove 0 1", 5),
-    ] {
-        let _bytes = counted(&rt, rt.alloc(), text, calls)?;
+    for (text, calls) in &COUNTED {
+        let bytes = counted(&rt, rt.alloc(), text, *calls)?;
+        let written = bytes.strip_prefix(b"old");
+        if *text == "overwrite 20 1" {
+            same(&rt, written, Some(ONE_CHANGED.as_slice()));
+        }
+        same_at(&rt, written.is_some(), true, text);
     }
     Ok(())
 }
@@ -85,26 +88,41 @@ fn carried<R: Abort>(
     Ok(carry_out(work, &script).err())
 }
 
+// A row: a script on the workspace that the row before leaves; why it is refused, if it is. An edit
+// that doesn't fit is refused for that, and an edit that codes nothing is applied.
+const CARRIED: [(&str, Option<EditFault>); 3] = [
+    (
+        "overwrite 20 1\n\nremove 0 16\ninsert 4 0\noverwrite 0 256",
+        Some(EditFault::Line {
+            line: 4,
+            fault: Fault::Spent,
+        }),
+    ),
+    (
+        "insert 33 0",
+        Some(EditFault::Line {
+            line: 1,
+            fault: Fault::OutOfRange { count: 32 },
+        }),
+    ),
+    ("truncate 16", None),
+];
+
 #[test]
 fn an_edit_without_calls_is_named_by_its_line(rt: HostRuntime) -> Result<(), Fail> {
-    let alloc = rt.alloc();
-    let mut work = with_one_call(alloc)?;
-    let text = "overwrite 20 1\n\nremove 0 16\ninsert 4 0\noverwrite 0 256";
-    let fault = Fault::Spent;
-    let line = Some(EditFault::Line { line: 4, fault });
-    same(&rt, carried(&rt, alloc, &mut work, text)?, line);
-    let mut sink = WriteSink::new(Vec::new(alloc));
+    let mut work = with_one_call(rt.alloc())?;
+    for (text, wanted) in &CARRIED {
+        same_at(
+            &rt,
+            carried(&rt, rt.alloc(), &mut work, text)?,
+            *wanted,
+            text,
+        );
+    }
+    let mut sink = WriteSink::new(Vec::new(rt.alloc()));
     work.write_to(&mut sink)?;
-    same(
-        &rt,
-        sink.into_inner().as_slice(),
-        [0x10, 0x0C, 0x30, 0x80, 0x02].as_slice(),
-    );
+    let bytes = [0x10, 0x0C, 0x30, 0x80];
+    same(&rt, sink.into_inner().as_slice(), bytes.as_slice());
     same(&rt, work.calls(), u64::MAX);
-    // An edit that doesn't fit is refused for that, and an edit that codes nothing is applied.
-    let fault = Fault::OutOfRange { count: 32 };
-    let line = Some(EditFault::Line { line: 1, fault });
-    same(&rt, carried(&rt, alloc, &mut work, "insert 33 0")?, line);
-    same(&rt, carried(&rt, alloc, &mut work, "truncate 16")?, None);
     Ok(())
 }

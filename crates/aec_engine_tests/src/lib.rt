@@ -16,4 +16,6 @@ mod edits;
 #[cfg(test)]
 mod endless;
 #[cfg(test)]
+mod failing_edits;
+#[cfg(test)]
 mod scripts;

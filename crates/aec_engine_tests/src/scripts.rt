@@ -1,9 +1,9 @@
 //! Scripts, and the edits that their lines ask for.
 
-use crate::asserts::{holds, same, same_at};
+use crate::asserts::{same, same_at};
 use aec_engine::{Script, script};
 use aec_params::{Edit, Fault};
-use std::alloc::{AllocError, Global};
+use std::alloc::Global;
 use std::fmt::Write;
 use std::test::Fail;
 
@@ -175,45 +175,35 @@ fn the_first_bad_line_is_named(rt: HostRuntime) -> Result<(), Fail> {
     Ok(())
 }
 
-#[test]
-fn empty_lines_are_counted(rt: HostRuntime) -> Result<(), Fail> {
-    let mut text = vec![in rt.alloc(); b'\n'; 65536]?;
-    text.extend_from_slice(b"append x")?;
-    let refusal = script(rt.alloc(), &text).err();
-    same(&rt, refusal, Some(Fault::Script { line: 65537 }));
-    Ok(())
-}
-
-fn repeated(alloc: Global, text: &[u8], times: usize) -> Result<Vec<u8>, AllocError> {
-    let mut bytes = Vec::new(alloc);
-    for _ in 0..times {
-        bytes.extend_from_slice(text)?;
-    }
-    Ok(bytes)
-}
+// A text, how often it is repeated, what comes before and after, and the number of edits and of the
+// last one's line; or, if there are no edits, the line that is refused.
+const LONG: [(&str, &str, usize, &str, usize, u64); 3] = [
+    ("", "\n", 65536, "append x", 0, 65537),
+    ("append", " -7", 100_000, "", 1, 1),
+    ("", "truncate 0\n", 1_000_000, "", 1_000_000, 1_000_000),
+];
 
 #[test]
-fn long_lines_are_read(rt: HostRuntime) -> Result<(), Fail> {
-    let mut line = Vec::new(rt.alloc());
-    line.extend_from_slice(b"append")?;
-    line.extend_from_slice(&repeated(rt.alloc(), b" -7", 100_000)?)?;
-    let read = read(rt.alloc(), &line)?;
-    same(&rt, read.lines.as_slice(), [1u64].as_slice());
-    match read.edits.first() {
-        Some(Edit::Append { values }) => {
-            same(&rt, values.as_slice().len(), 100_000);
-            holds(&rt, values.as_slice().iter().all(|x| *x == -7));
+fn long_scripts_are_read(rt: HostRuntime) -> Result<(), Fail> {
+    for (front, text, times, end, edits, line) in &LONG {
+        let mut bytes = front.as_bytes().to_vec(rt.alloc())?;
+        for _ in 0..*times {
+            bytes.extend_from_slice(text.as_bytes())?;
         }
-        _ => panic!(rt; "no append"),
+        bytes.extend_from_slice(end.as_bytes())?;
+        match read(rt.alloc(), &bytes) {
+            Ok(script) => {
+                same_at(&rt, script.edits.len(), *edits, text);
+                same_at(&rt, script.lines.last(), Some(line), text);
+                if let Some(Edit::Append { values }) = script.edits.first() {
+                    same(&rt, values.as_slice().len(), 100_000);
+                }
+            }
+            Err(fault) => {
+                same_at(&rt, fault, Fault::Script { line: *line }, text);
+                same_at(&rt, *edits, 0, text);
+            }
+        }
     }
-    Ok(())
-}
-
-#[test]
-fn many_lines_are_read(rt: HostRuntime) -> Result<(), Fail> {
-    let text = repeated(rt.alloc(), b"truncate 0\n", 1_000_000)?;
-    let many = read(rt.alloc(), &text)?;
-    same(&rt, many.edits.len(), 1_000_000);
-    same(&rt, many.lines.last(), Some(&1_000_000));
     Ok(())
 }
