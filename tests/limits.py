@@ -30,6 +30,7 @@ USE = re.compile(r"\s*(pub |pub\(crate\) |ghost )*use ")
 
 # Exceptions: the file, the start of the line or the name, and why.
 ALLOWED = {
+    ("crates/aec_block_tests/src/pairs.rt", "judges_the_members_of_pairs"): "rows of a table",
     ("crates/aec_interval/specs/CutLaws.antt", "CutsMakeNoDifference"): "one record, with a sentence for each member",
     ("crates/aec_params/specs/EditLaws.antt", "MovesByLength"): "one record, with a sentence for each member",
     ("crates/aec_edit/src/workspace.rt", "ghost written:"): "the formatter puts it on one line",
