@@ -61,6 +61,7 @@ NAMED = {
 REFUSED_BY_TESTS = [
     "aec_bits_tests/reads_whole_samples",
     "aec_bits_tests/builds_and_edits",
+    "aec_bits_tests/splices_as_a_list",
     "aec_bits_tests/codes_octets_and_back",
     "aec_block_tests/chooses_and_writes_the_shortest",
     "aec_block_tests/writes_runs",

@@ -200,7 +200,7 @@ const REFUSED: [((u64, u64), &str, &[u8], Option<u64>, Fault, u64); 21] = [
         Fault::OutOfRange { count: 9 },
         3,
     ),
-    // Scripts are refused before streams, and counts before both.
+    // A script is refused before its stream is judged; a count above the limit is refused.
     (
         AMPLE,
         "append 1\n\ntruncate x\nappend 256",

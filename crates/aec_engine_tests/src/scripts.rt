@@ -175,17 +175,26 @@ fn the_first_bad_line_is_named(rt: HostRuntime) -> Result<(), Fail> {
     Ok(())
 }
 
-// A text, how often it is repeated, what comes before and after, and the number of edits and of the
-// last one's line; or, if there are no edits, the line that is refused.
-const LONG: [(&str, &str, usize, &str, usize, u64); 3] = [
-    ("", "\n", 65536, "append x", 0, 65537),
-    ("append", " -7", 100_000, "", 1, 1),
-    ("", "truncate 0\n", 1_000_000, "", 1_000_000, 1_000_000),
+// What comes before a text, the text, how often it is repeated, and what comes after it; then the
+// number of edits, of the last one's line and of the values that the first one appends; or, if
+// there are no edits, the line that is refused.
+const LONG: [(&str, &str, usize, &str, usize, u64, usize); 3] = [
+    ("", "\n", 65536, "append x", 0, 65537, 0),
+    ("append", " -7", 100_000, "", 1, 1, 100_000),
+    ("", "truncate 0\n", 1_000_000, "", 1_000_000, 1_000_000, 0),
 ];
+
+/// Returns how many values an edit appends.
+fn appended(edit: Option<&Edit>) -> usize {
+    match edit {
+        Some(Edit::Append { values }) => values.as_slice().len(),
+        _ => 0,
+    }
+}
 
 #[test]
 fn long_scripts_are_read(rt: HostRuntime) -> Result<(), Fail> {
-    for (front, text, times, end, edits, line) in &LONG {
+    for (front, text, times, end, edits, line, values) in &LONG {
         let mut bytes = front.as_bytes().to_vec(rt.alloc())?;
         for _ in 0..*times {
             bytes.extend_from_slice(text.as_bytes())?;
@@ -195,9 +204,7 @@ fn long_scripts_are_read(rt: HostRuntime) -> Result<(), Fail> {
             Ok(script) => {
                 same_at(&rt, script.edits.len(), *edits, text);
                 same_at(&rt, script.lines.last(), Some(line), text);
-                if let Some(Edit::Append { values }) = script.edits.first() {
-                    same(&rt, values.as_slice().len(), 100_000);
-                }
+                same_at(&rt, appended(script.edits.first()), *values, text);
             }
             Err(fault) => {
                 same_at(&rt, fault, Fault::Script { line: *line }, text);

@@ -49,3 +49,14 @@ fn codes_octets_and_back(rt: HostRuntime) -> Result<(), Fail> {
     }
     Ok(())
 }
+
+#[test]
+fn spent_calls_change_nothing(rt: HostRuntime) -> Result<(), Fail> {
+    let mut codec = Octets::new(rt.alloc(), u64::MAX);
+    let mut buf = bits(rt.alloc(), &[true, false])?;
+    same(&rt, codec.code(&[1], &mut buf), Err(Fault::Spent));
+    same(&rt, buf.len(), 2);
+    same(&rt, bytes(rt.alloc(), &buf)?.as_slice(), [0x80].as_slice());
+    same(&rt, codec.calls(), u64::MAX);
+    Ok(())
+}
