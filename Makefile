@@ -11,7 +11,7 @@ VERSION := $(shell cat VERSION)
 PYTHON ?= python3
 # Only as an argument of make: some systems have an environment variable CPU, with other values.
 ifneq ($(origin CPU),command line)
-CPU := $(shell $(PYTHON) python/aecp/levels.py)
+CPU := $(shell AECP_LEVEL= $(PYTHON) python/aecp/levels.py)
 else ifeq ($(filter x86-64-v2 x86-64-v3,$(CPU)),)
 $(error CPU is x86-64-v2 or x86-64-v3, not $(CPU))
 endif
@@ -164,7 +164,7 @@ test-library:
 
 # Header, libraries, aecp(3), files for pkg-config and CMake, Python module, command `aecp` with aecp(1). The module goes where `python3`
 # looks for modules, with its own copy of the library. If the library for x86-64-v3 is built, it is installed too: the loader chooses it
-# by its folder, from glibc 2.33 on, and the module by the processor.
+# by its folder, from glibc 2.33 on, and the module by the processor. Else one that is there, of an earlier build, is removed.
 hwcaps = glibc-hwcaps/x86-64-v3
 PYTHON_DIR ?= $(shell $(PYTHON) -c 'import sysconfig; print(sysconfig.get_path("purelib"))')
 LIBDIR ?= $(PREFIX)/lib
@@ -182,7 +182,8 @@ install-c:
 	install -m 755 bin/libaecp.so $(DESTDIR)$(LIBDIR)/libaecp.so.0
 	ln -sf libaecp.so.0 $(DESTDIR)$(LIBDIR)/libaecp.so
 	if [ -e bin/x86-64-v3/libaecp.so ]; then \
-	    install -D -m 755 bin/x86-64-v3/libaecp.so $(DESTDIR)$(LIBDIR)/$(hwcaps)/libaecp.so.0; fi
+	    install -D -m 755 bin/x86-64-v3/libaecp.so $(DESTDIR)$(LIBDIR)/$(hwcaps)/libaecp.so.0; \
+	else rm -f $(DESTDIR)$(LIBDIR)/$(hwcaps)/libaecp.so.0; fi
 	sed 's|@PREFIX@|$(PC_PREFIX)|; s|@LIBDIR@|$(patsubst $(PREFIX)/%,$${prefix}/%,$(LIBDIR))|; s|@VERSION@|$(VERSION)|' include/aecp.pc.in \
 	    > $(DESTDIR)$(LIBDIR)/pkgconfig/aecp.pc
 	install -d $(DESTDIR)$(LIBDIR)/cmake/aecp $(share)/man/man3
@@ -196,7 +197,8 @@ install-python:
 	install -m 644 python/aecp/*.py python/aecp/py.typed $(DESTDIR)$(PYTHON_DIR)/aecp
 	install -m 755 bin/libaecp.so $(DESTDIR)$(PYTHON_DIR)/aecp/libaecp.so
 	if [ -e bin/x86-64-v3/libaecp.so ]; then \
-	    install -D -m 755 bin/x86-64-v3/libaecp.so $(DESTDIR)$(PYTHON_DIR)/aecp/x86-64-v3/libaecp.so; fi
+	    install -D -m 755 bin/x86-64-v3/libaecp.so $(DESTDIR)$(PYTHON_DIR)/aecp/x86-64-v3/libaecp.so; \
+	else rm -f $(DESTDIR)$(PYTHON_DIR)/aecp/x86-64-v3/libaecp.so; fi
 	printf '#!/usr/bin/env python3\nfrom aecp.cli import main\n\nmain()\n' > $(DESTDIR)$(PREFIX)/bin/aecp
 	chmod 755 $(DESTDIR)$(PREFIX)/bin/aecp
 	install -m 644 man/aecp.1 $(share)/man/man1/aecp.1

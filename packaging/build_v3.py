@@ -1,7 +1,7 @@
 #!/usr/bin/env python3
 """Builds for x86-64-v3 what bin/ has for x86-64-v2: build_v3.py program|library
 
-Proves nothing anew but the topmost crate, and refuses unless the files in bin/ were proved from the crates as they are now: so both are
+Proves only the topmost crate again, and refuses unless the files in bin/ were proved from the crates as they are now: so both are
 the same proved text. The gate never builds this level.
 
 `rt` reads the level from a file BUILD.bazel alone, and `rt ci` refuses a checkout that has one anywhere. So this script copies the crates
@@ -29,7 +29,7 @@ import sources
 BUILD_FILE = """load("@rattle//bazel/rattle:crate.bzl", "rattle_crate")
 rattle_crate(name = "{name}", cpu = "{cpu}", deps = {deps}{kind})
 """
-# The program's own status if the processor lacks a feature of the level. It is built then.
+# The program's own status if the processor lacks a feature of the level. The file is built all the same.
 LACKS_FEATURE = 127
 # How many lines of the checker are shown if it fails.
 LINES = 20

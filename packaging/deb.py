@@ -152,7 +152,7 @@ def libc_of(top, name):
 
 
 def both_levels(top, root):
-    """Puts both programs into a folder, and a link to the plain one in their place. The postinst lets it lead to the other."""
+    """Writes both programs to a folder, and a link to the plain one in their place. The postinst changes the link to the other program."""
     command, folder = (os.path.join(root, "usr", name, "aec-proved") for name in ("bin", "lib"))
     for level, path in ((stage.PLAIN, command), (stage.V3, os.path.join(top, "bin", stage.V3, "aec"))):
         stage.write(os.path.join(folder, level, "aec-proved"), stage.read(path), 0o755)

@@ -207,6 +207,11 @@ def try_install(it, tally):
     for place, path in (("lib/libaecp.so.0", "libaecp.so"), (f"lib/glibc-hwcaps/{V3}/libaecp.so.0", f"{V3}/libaecp.so"),
                         ("python/aecp/libaecp.so", "libaecp.so"), (f"python/aecp/{V3}/libaecp.so", f"{V3}/libaecp.so")):  # fmt: skip
         tally.holds(it.read(f"../both/usr/{place}") == it.read(f"bin/{path}"), f"{place} isn't bin/{path}")
+    os.rename(it.path(f"bin/{V3}/libaecp.so"), it.path("away"))
+    tally.check("make install-library for one level", it.make("install-library", *places), (0, ""))
+    os.rename(it.path("away"), it.path(f"bin/{V3}/libaecp.so"))
+    for place in (f"lib/glibc-hwcaps/{V3}/libaecp.so.0", f"python/aecp/{V3}/libaecp.so"):
+        tally.check(f"the {place} that was there", it.read(f"../both/usr/{place}"), None)
     tally.check("make uninstall-library", it.make("uninstall-library", *places), (0, ""))
     left = [os.path.join(at, name) for at, folders, names in os.walk(f"{it.folder}/both") for name in names + folders if "hwcaps" in name]
     tally.check("what uninstall-library leaves", left, [])

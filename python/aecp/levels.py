@@ -1,4 +1,5 @@
-"""The level of the processor, which decides which of two built libraries the module loads. As a program, prints the level."""
+"""The level of the processor, or the one that AECP_LEVEL names: it decides which of two built libraries the module loads. As a program,
+prints it."""
 
 from __future__ import annotations
 
