@@ -103,7 +103,7 @@ figures:
 	@python3 tools/figures.py
 
 # Tries the deliberately wrong function bodies that the gate leaves out. The checker must refuse each. With CHANGED=COMMIT it tries
-# only those of the crates that differ from this commit.
+# only those of the crates that differ from this commit. For each crate whose bodies were all refused it leaves a record in bin/.
 CHANGED ?=
 wrong-bodies: bin/aec
 	python3 tests/wrong_bodies.py $(if $(CHANGED),--changed $(CHANGED))
@@ -213,6 +213,12 @@ uninstall-library:
 	rm -rf $(DESTDIR)$(LIBDIR)/cmake/aecp $(DESTDIR)$(PYTHON_DIR)/aecp $(info)
 	-rmdir $(DESTDIR)$(LIBDIR)/cmake 2> /dev/null
 	rmdir $(DESTDIR)$(LIBDIR)/$(hwcaps) $(DESTDIR)$(LIBDIR)/glibc-hwcaps 2> /dev/null || true
+
+# Fails unless this checkout may be released: all binaries are proved at one commit without changes, the gate has passed there, and
+# `make wrong-bodies` has seen each wrong body refused. Prints what is missing.
+.PHONY: release-check
+release-check:
+	@$(PYTHON) packaging/release.py
 
 # Packages of what `make levels` has built, in dist/: a tarball, Debian packages and a wheel. UNPROVED=1 packs
 # them, for a try, without checking that they were proved; then the file PROVED of each package says that nothing is proved.

@@ -1,8 +1,9 @@
 #!/usr/bin/env python3
 """Runs the gate, and prints what each crate and each must-fail edit costs: gate_times.py [COMMAND WORD..]
 
-The command is `rt ci --anew` if none is given. While it runs, this script looks at the checkers that
-it has started, five times a second. At the end it prints the processor seconds of each crate's proof,
+The command is `rt ci` if none is given, with `--anew` if the kit's `rt help` names this flag; without
+the flag, `rt ci` always begins from nothing. While it runs, this script looks at the checkers that it
+has started, five times a second. At the end it prints the processor seconds of each crate's proof,
 of its tests, of the proof that its must-fail edits begin with, and of each edit; when each began, and
 how long it took; and the sums. What a checker does after the last look isn't counted, nor a process
 that ends before the first. Ends with the command's status. Needs Linux.
@@ -145,8 +146,14 @@ def sums(costs):
     return lines + [f"in all {sum(cost.sum() for cost in costs.values()) / 60:.1f} processor minutes"]
 
 
+def gate_from_nothing():
+    """Returns the command that runs the gate from nothing with the present kit."""
+    told = subprocess.run(["rt", "help"], capture_output=True, text=True)
+    return ["rt", "ci"] + ["--anew"] * ("--anew" in told.stdout + told.stderr)
+
+
 def main():
-    with subprocess.Popen(sys.argv[1:] or ["rt", "ci", "--anew"], cwd=TOP) as started:
+    with subprocess.Popen(sys.argv[1:] or gate_from_nothing(), cwd=TOP) as started:
         watch = Watch(started.pid)
         while started.poll() is None:
             watch.look()

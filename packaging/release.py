@@ -1,0 +1,48 @@
+#!/usr/bin/env python3
+"""Checks that the packages of `make dist` may be released: release.py
+
+Fails, and prints what is missing, unless all of these hold:
+
+- the checkout is a commit without changes;
+- the binaries that `make dist` packs were proved and built at this commit, by one kit;
+- the gate has passed at this commit, on this machine;
+- the checker has refused every wrong body at this state of the crates (tests/wrong_bodies.py).
+"""
+
+import os
+import re
+import subprocess
+import sys
+
+sys.dont_write_bytecode = True
+
+import dist
+import proved
+
+
+def faults() -> list[str]:
+    """Returns what is missing."""
+    found = []
+    if not re.fullmatch("[0-9a-f]+", proved.commit()):
+        found.append(f"the checkout is at commit {proved.commit()}")
+    try:
+        proved.kit_of(list(dist.BINARIES.values()))
+    except (proved.NotProved, OSError) as fault:
+        found.append(str(fault))
+    if not re.search(r"\b0 failed\b", proved.gate()):
+        found.append(f"the gate: {proved.gate()}")
+    script = os.path.join(proved.TOP, "tests", "wrong_bodies.py")
+    tried = subprocess.run([sys.executable, script, "--untried"], capture_output=True, text=True)
+    if tried.returncode:
+        found.append((tried.stdout + tried.stderr).strip())
+    return found
+
+
+def main() -> int:
+    found = faults()
+    print("\n".join(found) or "all is proved, and every wrong body was refused")
+    return 1 if found else 0
+
+
+if __name__ == "__main__":
+    sys.exit(main())
