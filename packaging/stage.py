@@ -1,4 +1,4 @@
-"""Puts the contents of each package below a folder."""
+"""Copies the contents of each package below a folder."""
 
 import os
 import re

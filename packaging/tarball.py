@@ -31,7 +31,7 @@ def add(archive, path, name, moment):
 
 
 def fill(top, folder, version, proved):
-    """Puts everything below a folder."""
+    """Copies everything below a folder."""
     stage.program(top, folder, "", "aec")
     stage.library(top, folder, "", "lib", "${pcfiledir}/../..")
     better = f"{stage.V3}/aec"

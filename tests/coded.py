@@ -48,7 +48,6 @@ def some_stored(settings, samples, chance):
 
 
 def try_case(seed, number, program, tally):
-    """Tests one case of random samples."""
     chance = random.Random(f"{seed} {number}")
     settings, before = some_settings(chance), tally.failed
     samples = some_samples(settings, chance)

@@ -67,7 +67,6 @@ def fronts_and_turned_bits(stream):
 
 
 def try_turned(program, examples):
-    """Tests the damaged examples. Returns the tally."""
     tally = Tally()
     for worked in examples:
         for stream in fronts_and_turned_bits(worked.stream):
@@ -90,7 +89,6 @@ def some_range(wanted, chance):
 
 
 def try_damaged(seed, number, program, tally, answers):
-    """Tests one random stream."""
     chance = random.Random(f"{seed} {number}")
     damaged = some_damaged(chance)
     settings, stream, before = damaged.settings, damaged.stream, tally.failed
@@ -121,7 +119,7 @@ def try_all(path, seed, numbers, tally):
     for its_tally, its_answers in on_each_core(try_part, path, numbers, seed):
         tally.add(its_tally)
         answers += its_answers
-    print("the damaged streams are read as: " + ", ".join(f"{text} {times}" for text, times in answers.most_common()))
+    print("results of the damaged streams: " + ", ".join(f"{text} {times}" for text, times in answers.most_common()))
     if len(numbers) >= 1000:
         tally.check("kinds of answers", len(answers), 5)
 

@@ -47,7 +47,6 @@ def some_samples(settings, chance):
 
 
 def turned(stream, chance, bits):
-    """Returns the stream with so many bits turned, at random places."""
     out = bytearray(stream)
     for _ in range(bits if out else 0):
         place = chance.randrange(8 * len(out))
@@ -56,7 +55,6 @@ def turned(stream, chance, bits):
 
 
 def random_bytes(chance):
-    """Returns random bytes, sometimes with few ones."""
     data = chance.randbytes(chance.randint(0, 60))
     for _ in range(chance.randrange(4)):
         data = bytes(a & b for a, b in zip(data, chance.randbytes(len(data))))
@@ -93,7 +91,6 @@ def damage(settings, samples, whole, chance):
 
 
 def some_damaged(chance):
-    """Returns a damaged stream of random samples."""
     settings = some_settings(chance)
     samples = some_samples(settings, chance)
     whole = foreign_writer.stream(samples, settings, chance)

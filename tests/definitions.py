@@ -31,7 +31,6 @@ def spec_files(crate):
 
 
 def headings(page):
-    """Returns the text of each heading of a page."""
     return re.findall(r"(?m)^##+ (.*)", text_of(page))
 
 

@@ -38,14 +38,12 @@ NO_EDITS = b"# nothing\n"
 
 
 def prepare(program, job, old=None):
-    """Writes the files of a job."""
     program.write("source", job.source)
     program.write("script", job.script or NO_EDITS)
     program.write("dest", old)
 
 
 def end(run):
-    """Waits for a run. Returns its status and all that it prints."""
     try:
         printed = run.communicate(timeout=SECONDS)[0].decode()
     except subprocess.TimeoutExpired:
@@ -320,7 +318,6 @@ def try_numbers(program, tally):
 
 
 def try_words_that_are_no_text(program, tally):
-    """Tests a name, an option and a value that aren't UTF-8."""
     words = [[b"\xe9", "dest"], ["source", b"\xe9"], ["source", "dest", b"-\x80"], ["--edit", b"\xed\xa0\x80", "source", "dest"]]
     words += [["-d", "--count", b"48\xff", "source", "dest"], ["--help", b"\xc3"], [b"\xe9"]]
     for given in words:

@@ -36,7 +36,6 @@ def made(target, folder, *words):
 
 
 def helped_options(program):
-    """Returns the options that --help lists."""
     text = subprocess.run([program, "--help"], capture_output=True, text=True).stdout
     found = set()
     for line in text.splitlines():
@@ -46,7 +45,6 @@ def helped_options(program):
 
 
 def files_below(folder):
-    """Returns the paths of all files below a folder."""
     return [os.path.join(at, name) for at, _, names in os.walk(folder) for name in names]
 
 
@@ -63,7 +61,6 @@ def try_links(folder, tally):
 
 
 def version():
-    """Returns the version of the file VERSION."""
     with open(os.path.join(TOP, "VERSION"), encoding="utf-8") as file:
         return file.read().strip()
 

@@ -34,12 +34,10 @@ SEED = 1
 
 
 def zeros(chance):
-    """Returns 16-bit samples that are all zero."""
     return bytes(2 * SAMPLES)
 
 
 def patches(chance):
-    """Returns 16-bit samples: 16 of a detector and 16 zeros in turn."""
     samples = bytearray(detector(chance)[: 2 * SAMPLES])
     for place in range(0, len(samples), 64):
         samples[place + 32 : place + 64] = bytes(32)
@@ -125,7 +123,6 @@ def on_each(cells, count, path):
 
 
 def print_measured(instructions, branches):
-    """Prints the rows of MEASURED, then those of MISPREDICTED."""
     for (kind, block_size, interval), (coding, decoding) in instructions.items():
         print(f'    ("{kind}", {block_size}, {interval}): ({coding:.1f}, {decoding:.1f}),')
     for (kind, block_size, interval), count in branches.items():
@@ -133,7 +130,6 @@ def print_measured(instructions, branches):
 
 
 def compare(instructions, branches):
-    """Checks each count against the one that was measured."""
     tally = Tally()
     for (kind, block_size, interval), counts in instructions.items():
         for job, count, measured in zip(("coding", "decoding"), counts, MEASURED[kind, block_size, interval]):

@@ -168,7 +168,6 @@ def agrees(read, *wanted):
 
 
 def try_case(case, chance, ours, theirs, tally):
-    """Tests both programs on one case."""
     settings = case.settings
     options, their_options = settings.options(), settings._replace(even_blocks=False).options()
     samples = KINDS[case.kind](settings.least(), settings.most(), settings.block_size, chance)

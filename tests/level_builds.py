@@ -97,7 +97,6 @@ class Checkout:
             file.write(text)
 
     def read(self, name):
-        """Returns the bytes of a file, None if there is none."""
         if not os.path.exists(self.path(name)):
             return None
         with open(self.path(name), "rb") as file:
@@ -112,7 +111,6 @@ class Checkout:
         return done.returncode, done.stdout + done.stderr
 
     def calls(self):
-        """Returns the calls of rt for the other level, and forgets all."""
         path = os.path.join(self.folder, "calls")
         if not os.path.exists(path):
             return []
@@ -128,7 +126,6 @@ class Checkout:
 
 
 def try_both(it, tally):
-    """Builds both levels of the program and of the library, twice."""
     for _ in range(2):
         status, said = it.make("all", "library", f"CPU={V3}")
         tally.holds(status == 0, f"make all library: {said}")
@@ -197,7 +194,6 @@ def try_stale(it, tally):
 
 
 def try_install(it, tally):
-    """Installs the program for each level, and the libraries for both."""
     for level, path in ((PLAIN, "bin/aec"), (V3, f"bin/{V3}/aec")):
         status, said = it.make("install", f"DESTDIR={it.folder}/{level}", "PREFIX=/usr", f"CPU={level}")
         tally.check(f"make install CPU={level}", (status, said), (0, f"installing {path} for {level} as /usr/bin/aec\n"))

@@ -48,7 +48,6 @@ def scripts_of_gate():
 
 
 def commands(plain, other, is_short):
-    """Returns the words of each script that is run."""
     all_of_gate = [[name, other] for name in scripts_of_gate()]
     kept = [it for it in all_of_gate if it[0] == "coded.py"] if is_short else all_of_gate
     return [*kept, ["two_programs.py", plain, other, "--cases", str(CASES[is_short])]]

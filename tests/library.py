@@ -309,7 +309,6 @@ def words():
 
 
 def module(library):
-    """Returns the Python module, loaded without numpy."""
     os.environ["AECP_LIBRARY"] = os.path.join(library, "libaecp.so")
     sys.path.insert(0, os.path.join(TOP, "python"))
     sys.modules["numpy"] = None
@@ -319,7 +318,6 @@ def module(library):
 
 
 def build_in_c(asked, path, source):
-    """Builds a program with the library."""
     words = ["-I", os.path.join(TOP, "include"), "-o", path, source, os.path.join(asked.library, "libaecp.a"), "-pthread"]
     subprocess.run(["cc", "-O1", "-Wall", "-Werror", *words], check=True)
 
@@ -332,7 +330,6 @@ def built(asked, folder, name):
 
 
 def try_handles(path, tally):
-    """Runs the C program library_handles, by itself and under valgrind."""
     judges = [[], ["valgrind", "-q", "--leak-check=full", "--error-exitcode=9"]]
     for judge in judges if shutil.which("valgrind") else judges[:1]:
         ended = subprocess.run([*judge, path], capture_output=True, text=True)

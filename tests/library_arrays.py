@@ -39,7 +39,6 @@ def options_of(dtype, bits):
 
 
 def drawn_array(dtype, bits):
-    """Returns a walk of 3,000 samples of so many bits."""
     steps = numpy.random.default_rng(bits).integers(-3, 4, 3000).cumsum()
     least = -(1 << bits - 1) if dtype.kind == "i" else 0
     return ((steps - least) % (1 << bits) + least).astype(dtype)
@@ -130,7 +129,6 @@ def try_entry_point(tally):
 
 
 def try_page(folder, tally):
-    """Runs the Python of LIBRARY.md, one block after the other."""
     with open(os.path.join(TOP, "docs", "LIBRARY.md"), encoding="utf-8") as file:
         blocks = re.findall(r"```python\n(.*?)```", file.read(), re.S)
     tally.check("the page's Python", Program(sys.executable, folder).run("-c", "".join(blocks)), (0, ""))

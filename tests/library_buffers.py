@@ -11,7 +11,6 @@ EIGHT, CODED = bytes(range(8)), bytes.fromhex("20092492")
 
 
 def kinds_of(data):
-    """Returns the bytes in each kind of buffer."""
     return {
         "bytes": data,
         "bytearray": bytearray(data),

@@ -41,7 +41,6 @@ target_link_libraries(uses_aecp aecp::aecp)
 
 
 def ran(*words, **more):
-    """Runs a command. Returns its status and all that it prints."""
     ended = subprocess.run(words, capture_output=True, text=True, **more)
     return ended.returncode, ended.stdout + ended.stderr
 
@@ -110,7 +109,6 @@ def try_pkg_config(libdir, version, folder, tally):
 
 
 def try_install(lib, version, tally):
-    """Tests an installation with its libraries in this folder of the prefix."""
     with tempfile.TemporaryDirectory() as folder:
         prefix = os.path.join(folder, "prefix")
         places = [f"PREFIX={prefix}", f"LIBDIR={prefix}/{lib}", f"PYTHON_DIR={prefix}/python"]

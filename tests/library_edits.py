@@ -66,7 +66,6 @@ def try_kinds(aecp, tally):
 
 
 def try_pieces(aecp, seed, number, tally):
-    """Feeds samples in pieces of random lengths."""
     chance = random.Random(f"pieces {seed} {number}")
     settings = some_settings(chance)
     stored = settings.stored(some_samples(settings, chance))
@@ -100,7 +99,6 @@ def try_refused_pieces(aecp, tally):
 
 
 def left_of(decoder):
-    """Returns the stored samples that a decoder still has, by intervals."""
     return list(iter(decoder.next_bytes, b""))
 
 

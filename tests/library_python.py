@@ -108,7 +108,6 @@ def try_types(tally):
 
 
 def some_slice(chance, count):
-    """Returns a random slice, with a step or without."""
     ends = [None, *range(-count - 2, count + 3)]
     step = chance.choice([None, None, None, 1, 2, 3, -1, -2, -3])
     return slice(chance.choice(ends), chance.choice(ends), step)

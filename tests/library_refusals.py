@@ -11,7 +11,6 @@ TAKEN = "samples must be bytes, or an array of uint16 (options.dtype), not "
 
 
 def check_refused(tally, call, text):
-    """Checks that a call raises TypeError with this text."""
     said = raised(call)
     tally.check(f"refused: {text}", (type(said).__name__, str(said)), ("TypeError", text))
 
@@ -42,7 +41,6 @@ def try_integers(aecp, tally):
 
 
 def try_bytes(aecp, tally):
-    """Checks that buffers of bytes are stored samples, whatever the width."""
     data, wide = bytes(range(64)), aecp.Options(24, three_byte=True)
     for options in (aecp.Options(8), aecp.Options(16, msb_first=True), aecp.Options(32, signed=True), wide):
         same = [bytearray(data), array.array("b", data), (ctypes.c_ubyte * 64)(*data), (ctypes.c_char * 64)(*data)]
@@ -51,7 +49,6 @@ def try_bytes(aecp, tally):
 
 
 def try_buffers(aecp, tally):
-    """Checks that buffers of anything else are refused."""
     options, numbers = aecp.Options(16), [1, 2, 3, 4]
     wrong = [("float32", array.array("f", [1.5])), ("float32", array.array("f")), ("float64", memoryview(array.array("d", [1.5])))]
     wrong += [("int16", array.array("h", numbers)), ("uint32", array.array("I", numbers)), ("uint64", array.array("Q", numbers))]

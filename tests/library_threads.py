@@ -48,7 +48,6 @@ def in_threads(work, pausing=False):
 
 
 def drawn(seed, count):
-    """Returns `count` random samples of 16 bits."""
     return random.Random(seed).choices(range(1 << 16), k=count)
 
 
@@ -84,7 +83,6 @@ def try_short_calls(aecp, tally):
 
 
 def try_closing(aecp, tally):
-    """Tests threads that append while one thread closes the workspace."""
     with aecp.Workspace(aecp.Options(16, interval=2), range(THREADS * ROUNDS)) as work:
 
         def close(number):
@@ -139,7 +137,6 @@ def try_pops(aecp, tally):
 
 
 def try_removals(aecp, tally):
-    """Checks that threads that remove samples by value remove exactly these samples."""
     removed = THREADS * CALLS
     with aecp.Workspace(aecp.Options(16), range(2 * removed)) as work:
 

@@ -56,7 +56,6 @@ int main(void) {
 
 
 def try_readme(include, archive, folder, tally):
-    """Checks that README's C codes all of its 4,096 samples."""
     with open(os.path.join(TOP, "README.md"), encoding="utf-8") as file:
         head, code = re.search(r"```c\n(#include <aecp.h>\n)(.*?)```", file.read(), re.S).groups()
     source, path = os.path.join(folder, "readme.c"), os.path.join(folder, "readme")

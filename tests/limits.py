@@ -6,7 +6,7 @@ limit; what is wrong with the pages that are written by hand (page_limits.py: te
 have many words; copies of a file that differ; and each exception that nothing needs. The last line counts the files that keep the limits,
 and the failures. Ends with status 1 if something failed.
 
-Exempt are what the formatter puts on one line (`use`, attributes) and the rows of a table within a text.
+Exempt are what the formatter writes on one line (`use`, attributes) and the rows of a table within a text.
 """
 
 import os
@@ -33,7 +33,7 @@ ALLOWED = {
     ("crates/aec_block_tests/src/pairs.rt", "judges_the_members_of_pairs"): "rows of a table",
     ("crates/aec_interval/specs/CutLaws.antt", "CutsMakeNoDifference"): "one record, with a sentence for each member",
     ("crates/aec_params/specs/EditLaws.antt", "MovesByLength"): "one record, with a sentence for each member",
-    ("crates/aec_edit/src/workspace.rt", "ghost written:"): "the formatter puts it on one line",
+    ("crates/aec_edit/src/workspace.rt", "ghost written:"): "the formatter writes it on one line",
     ("crates/aec_block/proofs/reading/pairs/read_long_pairs/Answers.antt", "loop-i-preserved"): "one record, a line for each member",
     ("crates/aec_edit/proofs/workspace/Workspace/code_fresh/Answers.antt", "loop-left-preserved"): "one record, a line for each member",
     (

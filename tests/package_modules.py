@@ -98,7 +98,6 @@ def venv(python, folder, *words):
 
 
 def files_of(python):
-    """Returns the files of an environment, without those that Python has compiled."""
     top = os.path.dirname(os.path.dirname(python))
     found = {os.path.relpath(os.path.join(at, name), top) for at, _, names in os.walk(top) for name in names}
     return {it for it in found if "__pycache__" not in it}
@@ -132,7 +131,6 @@ def try_library(python, tally):
 
 
 def try_archive(command, folder, tally):
-    """Keeps and checks a file by the command."""
     path = os.path.join(folder, "durations.raw")
     shutil.copy(os.path.join(TOP, "examples", "durations.raw"), path)
     for words in (["keep", path, "-n", "16"], ["check", path + ".aec"]):
@@ -157,7 +155,6 @@ def try_arrays(python, wheel, folder, tally):
 
 
 def try_types(python, folder, tally):
-    """Checks a typed caller of the installed module with mypy."""
     mypy = shutil.which("mypy") or shutil.which("mypy", path="/usr/bin")
     if not mypy:
         tally.skip("mypy", "a typed caller of the module")

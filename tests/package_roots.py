@@ -28,13 +28,12 @@ def chroot_words():
 
 
 def needed_files(path):
-    """Returns the shared libraries of a program, and its loader."""
     table = subprocess.run(["ldd", path], capture_output=True, text=True).stdout
     return re.findall(r"(/\S+)", table)
 
 
 def copy_in(root, path):
-    """Puts a file of this system into a root, at the same path."""
+    """Copies a file of this system into a root, at the same path."""
     place = root + path
     if not os.path.exists(place):
         os.makedirs(os.path.dirname(place), exist_ok=True)
@@ -89,7 +88,6 @@ class Root:
         os.makedirs(self.inside("tmp"), exist_ok=True)
 
     def inside(self, path):
-        """Returns where a file of the root is on this system."""
         return os.path.join(self.path, path.lstrip("/"))
 
     def run(self, script):
@@ -103,7 +101,6 @@ class Root:
         return done.returncode, done.stdout + done.stderr
 
     def copy(self, path, place):
-        """Puts a file or a folder into the root."""
         to = self.inside(place)
         os.makedirs(os.path.dirname(to), exist_ok=True)
         if os.path.isdir(path):
@@ -112,7 +109,6 @@ class Root:
             shutil.copy2(path, to)
 
     def set_processor(self, flags):
-        """Writes /proc/cpuinfo of the root, for a processor with these flags."""
         os.makedirs(self.inside("proc"), exist_ok=True)
         with open(self.inside("proc/cpuinfo"), "w", encoding="ascii") as file:
             file.write(f"flags\t\t: {flags}\n")

@@ -61,7 +61,6 @@ class Checks(Tally):
             self.holds(False, f"{name} must be here")
 
     def has(self, name, what):
-        """Returns whether a program is on the path."""
         if shutil.which(name):
             return True
         self.skip(name, what)
@@ -117,7 +116,6 @@ def try_builds(made, folder, tally):
 
 
 def try_links_again(tally):
-    """Checks that linking the library again writes the same bytes."""
     archive = os.path.join(TOP, "crates/aec_c/out/libaec_c.a")
     if not (os.path.exists(archive) and tally.has("rt", "linking the library again")):
         print("skipped, since make library wasn't run here: linking the library again")
@@ -144,7 +142,6 @@ def try_notices(made, tally):
 
 
 def try_wheel_libraries(made, tally):
-    """Checks that the wheel contains the libraries of bin/ for both levels."""
     with zipfile.ZipFile(next(path for name, path in made.items() if name.endswith(".whl"))) as archive:
         for name, place in wheel.PLACES.items():
             tally.holds(archive.read(place) == data_of(os.path.join(TOP, "bin", name)), f"{place} of the wheel isn't bin/{name}")
@@ -171,7 +168,6 @@ def commands_of(page):
 
 
 def try_commands(root, page, name, tally):
-    """Runs README's commands in a root, with the installed examples."""
     top = "" if root.words else root.path
     script = f"""set -e
 export PATH="{top}/opt/aec/bin:$PATH"
@@ -235,7 +231,6 @@ def try_tarball(made, root, folder, tally):
 
 
 def c_example():
-    """Returns the program of docs/LIBRARY.md."""
     with open(os.path.join(TOP, "docs", "LIBRARY.md"), encoding="utf-8") as file:
         return re.search(r"(?s)```c\n(#include <aecp.h>.*?)```", file.read())[1]
 

@@ -82,7 +82,6 @@ def too_long(found):
 
 
 def notes(top):
-    """Returns what should be looked at again."""
     return [f"look again: {line}" for line in too_long(dict(pages(top)))]
 
 
@@ -118,20 +117,17 @@ def told_twice(found):
 
 
 def joined_items(path, text):
-    """Yields the items of lists that begin within a line."""
     text = re.sub(r"(?ms)^ *```.*?^ *```$", "", text)
     for item in re.findall(r"(?m)\S -$|\S - (?:[A-Za-z*]|\[|``).{,30}", re.sub(r"`[^`]*`", "``", text)):
         yield f"{path}: an item within a line: {item}"
 
 
 def headings(text):
-    """Returns the names of a page's headings in links."""
     names = re.findall(r"(?m)^#+ (.*)", re.sub(r"(?ms)^```.*?^```$", "", text))
     return {re.sub(r"[^\w -]", "", name.lower()).replace(" ", "-") for name in names}
 
 
 def lost_links(top, path, text):
-    """Yields the links of a page that lead nowhere."""
     for link in re.findall(r"\]\(([^)\s]+)\)", text):
         file, _, heading = link.partition("#")
         target = os.path.normpath(os.path.join(top, os.path.dirname(path), file)) if file else os.path.join(top, path)
@@ -146,7 +142,6 @@ def lost_links(top, path, text):
 
 
 def wrongs(top):
-    """Returns what is wrong, and the number of pages."""
     found = dict(pages(top))
     wrong, needed = [], set()
     for path, text in found.items():

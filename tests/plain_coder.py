@@ -20,7 +20,6 @@ def run_number(blocks, reaches_end):
 
 
 def interval_bits(samples, settings):
-    """Returns the code of one interval."""
     blocks, place, text = blocks_of(samples, settings), 0, ""
     while place < len(blocks):
         end = min(place - place % 64 + 64, len(blocks))
@@ -36,7 +35,6 @@ def interval_bits(samples, settings):
 
 
 def stream(samples, settings):
-    """Returns the bytes of the code of the samples."""
     size = settings.interval_len()
     intervals = (samples[first : first + size] for first in range(0, len(samples), size))
     return bytes_of_bits("".join(interval_bits(interval, settings) for interval in intervals))

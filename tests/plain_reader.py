@@ -26,7 +26,6 @@ class Bits:
         self.at = 0
 
     def binary(self, width):
-        """Returns the number that the next bits write."""
         text = self.text[self.at : self.at + width]
         if len(text) < width:
             raise End
@@ -34,7 +33,6 @@ class Bits:
         return int(text, 2) if width else 0
 
     def fundamental(self):
-        """Returns the number of the next fundamental sequence."""
         one = self.text.find("1", self.at)
         if one < 0:
             raise End
@@ -145,7 +143,6 @@ def next_samples(bits, settings, place, before):
 
 
 def reading(stream, settings, count=None):
-    """Returns the samples of a stream, with or without their count."""
     too_many = Fault(f"more than {MOST_SAMPLES} samples")
     if count is not None and count > MOST_SAMPLES:
         raise too_many

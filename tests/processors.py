@@ -74,13 +74,11 @@ def texts():
 
 
 def level_by_shell(path):
-    """Returns what the shell function of the packages prints for a file."""
     done = subprocess.run(["sh", "-euc", stage.level_function(TOP) + 'level_of "$1"', "sh", path], capture_output=True, text=True)
     return done.stdout.strip() or done.stderr
 
 
 def try_texts(folder, tally):
-    """Tests the choice by the flags, in Python and in the shell."""
     path = os.path.join(folder, "cpuinfo")
     for name, text, level in texts():
         with open(path, "w", encoding="ascii") as file:
@@ -137,7 +135,6 @@ def on_processor(qemu, name, program):
 
 
 def try_processors(paths, folder, tally):
-    """Runs both programs on older processors."""
     qemu = shutil.which("qemu-x86_64-static") or shutil.which("qemu-x86_64")
     if not qemu:
         print("skipped, since there is no qemu-x86_64-static: older processors", flush=True)

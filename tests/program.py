@@ -21,7 +21,6 @@ class Program:
         return os.path.join(self.folder, name)
 
     def write(self, name, data):
-        """Writes a file, or removes it if `data` is None."""
         if data is not None:
             with open(self.file(name), "wb") as file:
                 file.write(data)
@@ -29,7 +28,6 @@ class Program:
             os.remove(self.file(name))
 
     def read(self, name):
-        """Returns what a file holds, None if there is none."""
         if not os.path.exists(self.file(name)):
             return None
         with open(self.file(name), "rb") as file:
@@ -110,7 +108,6 @@ class Tally:
         self.holds(got == wanted, f"{what}: {short(got)} in place of {short(wanted)}")
 
     def add(self, other):
-        """Adds the counts of another tally."""
         self.passed, self.failed = self.passed + other.passed, self.failed + other.failed
 
     def print(self, skipped=0, reason=""):
@@ -125,7 +122,6 @@ def short(it):
 
 
 def raised(call):
-    """Returns the exception that a call raises, or None."""
     try:
         call()
     except Exception as fault:  # noqa: BLE001 - the caller checks which one it is

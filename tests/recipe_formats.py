@@ -152,7 +152,6 @@ def try_layouts(aec, tally):
 
 
 def packet(apid, sequence, field, secondary=b"", flags=3):
-    """Returns a space packet."""
     body = secondary + field
     identity = (0x800 if secondary else 0) | apid
     return struct.pack(">HHH", identity, flags << 14 | sequence, len(body) - 1) + body
@@ -253,7 +252,6 @@ def try_statuses(aec, script, tally):
 
 
 def try_without_h5py(aec, script, tally):
-    """Checks what h5_szip.py prints without h5py, and aecp_szip.py without aecp."""
     said = "h5_szip.py: No module named 'h5py': python3-h5py has it for /usr/bin/python3\n"
     answer = script.run(HDF5, "show", "none.h5", "d", env=hiding(aec.folder, "h5py"))
     tally.check("without h5py", answer, (1, said))

@@ -80,12 +80,10 @@ class Read:
         self.decimal = eccodes.codes_get_long(handle, "decimalScaleFactor")
 
     def places(self):
-        """Returns the points that have a value."""
         values = enumerate(self.values)
         return [i for i, x in values if not (self.has_bitmap and x == MISSING)]
 
     def least(self):
-        """Returns the least sample."""
         return -1 << self.bits - 1 if self.flags & SIGNED else 0
 
     def unsigned(self, sample, words):
@@ -95,7 +93,6 @@ class Read:
         return sample % (1 << bits)
 
     def value(self, number):
-        """Returns the value of a number."""
         return (self.reference + number * 2.0**self.binary) / 10.0**self.decimal
 
     def numbers(self):
@@ -104,7 +101,6 @@ class Read:
         return 1 << self.bits - 1 if is_odd else 1 << self.bits
 
     def takes_value(self, value):
-        """Returns whether a value is that of such a number."""
         return value < self.value(self.numbers() - 0.5)
 
     def agrees(self, value, number):

@@ -76,7 +76,6 @@ def drawn_file(chance, path):
 
 
 def drawn_value(chance, dtype):
-    """Returns a value of a type, as text."""
     if dtype.kind == "f":
         return chance.choice(["0", "-1.5", "1e4", "-inf", "nan", "0.1"])
     limits = numpy.iinfo(dtype)

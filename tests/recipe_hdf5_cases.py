@@ -13,7 +13,6 @@ HDF5 = os.path.join(EXAMPLES, "h5_szip.py")
 
 
 def made_set(path, elements, chunks, option=("nn", 8), mode="w"):
-    """Writes a file with a data set d."""
     with h5py.File(path, mode) as file:
         keys = {"compression": "szip", "compression_opts": option}
         file.create_dataset("d", data=elements, chunks=chunks, **keys)
@@ -47,7 +46,6 @@ def try_masks(aec, tally):
 
 
 def is_read(path, elements):
-    """Returns whether HDF5 reads these elements of d."""
     try:
         with h5py.File(path, "r") as file:
             return file["d"][...].tobytes() == elements.tobytes()
@@ -155,7 +153,6 @@ def try_precision(aec, tally):
 
 
 def try_types(aec, tally):
-    """Checks types that aren't read or edited."""
     path = aec.file("types.h5")
     bfloat = h5py.h5t.IEEE_F32LE.copy()
     bfloat.set_fields(23, 15, 8, 0, 15)
@@ -190,7 +187,6 @@ def made_bad(path):
 
 
 def try_refusals(aec, tally):
-    """Checks what the script refuses, and that the file is then unchanged."""
     path = aec.file("bad.h5")
     made_bad(path)
     before = aec.read("bad.h5")
@@ -232,7 +228,6 @@ def try_refusals(aec, tally):
 
 
 def try_command_lines(aec, script, tally):
-    """Checks the status and the text of runs."""
     made_bad(aec.file("bad.h5"))
     before = aec.read("bad.h5")
     aec.write("none.h5", b"no data")

@@ -14,7 +14,6 @@ GRIB = os.path.join(EXAMPLES, "grib_ccsds.py")
 
 
 def section(number, body):
-    """Returns a section of a message."""
     return struct.pack(">IB", len(body) + 5, number) + body
 
 
@@ -47,7 +46,6 @@ def drawn_settings(chance, bits):
 
 
 def drawn_samples(chance, settings, count):
-    """Returns a random walk within the range of the settings."""
     x, samples = settings.least(), []
     for _ in range(count):
         x = min(max(x + chance.randint(-9, 10), settings.least()), settings.most())
@@ -89,7 +87,7 @@ def try_message(number, chance, aec, tally):
 
 
 def try_fit(what, stream, paths, aec, tally):
-    """Puts streams that don't fit a message: cut ones, and one with a byte more."""
+    """Tries to store streams that don't fit a message: cut ones, and one with a byte more."""
     aec.write("o", b"old")
     for name, other in (("cut", stream[:-1]), ("none", b""), ("longer", stream + b"\0")):
         aec.write("s", other)
@@ -99,8 +97,6 @@ def try_fit(what, stream, paths, aec, tally):
 
 
 def bad_messages(good, settings):
-    """Returns messages that are refused, and the text of each refusal."""
-
     def made(stream=b"", flags=8, **more):
         return message(stream, 8, settings, flags, **more)
 
@@ -125,7 +121,6 @@ def bad_messages(good, settings):
 
 
 def try_bad_messages(aec, script, tally):
-    """Checks the text of each refusal, and that OUT is then unchanged."""
     settings = Settings(bits=8, block_size=8, interval=2)
     good = message(bytes.fromhex("20 09 24 92"), 8, settings, 8)
     source, out = aec.file("m"), aec.file("out")

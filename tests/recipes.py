@@ -47,7 +47,6 @@ def begun(python, name, asked, environment=None):
 
 
 def add_test(running, tally):
-    """Waits for a test, prints its output, and adds its counts."""
     said, name = running.communicate()[0], os.path.basename(running.args[1])
     print(f"{name}: {said}", end="", flush=True)
     counts = re.findall(r"^(\d+) passed, (\d+) failed", said, re.M)
@@ -96,7 +95,7 @@ def wanted_words(line):
 
 
 def prepare_page(aec):
-    """Puts examples/, `aec` and `aecp` where the commands of the page find them. Returns the
+    """Copies examples/, `aec` and `aecp` to where the commands of the page find them. Returns the
     environment for the commands."""
     bin_folder = aec.file("bin")
     os.mkdir(bin_folder)

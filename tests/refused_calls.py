@@ -55,7 +55,6 @@ def rise(old, new):
 
 
 def raised(line, by):
-    """Returns the line with these numbers added to its counters."""
     calls, reads = (number + more for number, more in zip(counters(line), by))
     return line._replace(left=COUNTERS.sub(f"calls {calls}, reads {reads},", line.left))
 

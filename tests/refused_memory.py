@@ -130,7 +130,6 @@ def try_run(path, library, run):
 
 
 def refuse_all_in_turn(path, tally):
-    """Refuses each growth of all runs in turn, and prints a table."""
     print("| Run | Growths | Runs |\n|---|---|---|")
     with tempfile.TemporaryDirectory() as folder, ProcessPoolExecutor() as pool:
         rows = pool.map(partial(try_run, path, build(folder)), RUNS)

@@ -96,7 +96,6 @@ def print_skipped(tally, number):
 
 
 def build(folder):
-    """Builds the library. Returns its path."""
     source, library = os.path.join(folder, "refusing.c"), os.path.join(folder, "refusing.so")
     with open(source, "w", encoding="utf-8") as file:
         file.write(LIBRARY)

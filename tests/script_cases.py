@@ -56,7 +56,6 @@ def value_written(x, chance):
 
 
 def line_of(name, numbers, chance):
-    """Returns a line of a script, with random blanks."""
     blank = lambda least: "".join(chance.choice(" \t") for _ in range(chance.choice([least, 1, 1, 2])))
     return "".join([blank(0), name] + [blank(1) + number for number in numbers] + [blank(0)]).encode()
 
@@ -90,7 +89,6 @@ def fitting_line(settings, count, chance):
 
 
 def misfit_line(settings, count, chance):
-    """Returns a line whose edit doesn't fit so many samples."""
     wrong = chance.choice([settings.least() - 1, settings.most() + 1, 2**63 - 1, -(2**63)])
     values = [chance.randint(settings.least(), settings.most()) for _ in range(chance.randrange(4))]
     mixed = values + [wrong] + values

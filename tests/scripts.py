@@ -33,7 +33,6 @@ def try_example(example, program, tally):
 
 
 def try_shared_names(program, tally):
-    """Uses one file as two of SCRIPT, SOURCE and DEST."""
     both = bytes.fromhex("23 FF FF")  # as a script a comment, as a stream eight times 31 by sample splitting
     program.write("both", both)
     tally.check("SCRIPT is SOURCE: answer", program.run("--edit", "both", "--count", "8", "both", "dest"), said(None))
@@ -86,7 +85,7 @@ def try_long_scripts(program, tally):
 
 def try_overwrites(program, tally):
     """Tests leading overwrites, which the program makes in the order of their places: in other orders, some of the same samples,
-    with a refused one among them, and more than the program puts in order."""
+    with a refused one among them, and more than the program sorts."""
     many = 20_000
     orders = {
         "descending": range(many - 1, -1, -1),
@@ -156,7 +155,6 @@ def listed_options(lines, pattern):
 
 
 def try_options(program, tally):
-    """Compares the options that --help, the manual page and docs/COMMAND.md list."""
     status, text = program.run("--help")
     tally.check("--help: status", status, 0)
     helped = listed_options(text.splitlines(), r" +--?\w[\w-]*(, --\w[\w-]*)?")

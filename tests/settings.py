@@ -45,7 +45,6 @@ class Settings(NamedTuple):
         return cls(block_size=block_size, even_blocks=block_size not in STANDARD_BLOCK_SIZES, **more)
 
     def options(self):
-        """Returns the words that a program takes for them."""
         flags = {
             "-s": self.signed,
             "-N": not self.preprocess,
@@ -71,7 +70,6 @@ class Settings(NamedTuple):
         return self.block_size * self.interval
 
     def storage(self):
-        """Returns the number of bytes of a stored sample."""
         if self.bits <= 8:
             return 1
         if self.bits <= 16:

@@ -10,7 +10,6 @@ from plain_reader import identifier_length
 
 
 def fs(number):
-    """Returns the fundamental sequence of a number."""
     return "0" * number + "1"
 
 

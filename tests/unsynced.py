@@ -48,7 +48,6 @@ ALL = 2**31 - 1
 
 
 def build(folder):
-    """Builds the library. Returns its path."""
     source, library = os.path.join(folder, "unsynced.c"), os.path.join(folder, "unsynced.so")
     with open(source, "w", encoding="utf-8") as file:
         file.write(LIBRARY)

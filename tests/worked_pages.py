@@ -22,18 +22,15 @@ EXAMPLE = re.compile(r"^- (?:without options|`(-[^`]*)`)(?: with `([^`]*)`)?: `(
 
 
 def part_of(page, heading):
-    """Returns the text below a heading of a page."""
     with open(os.path.join(TOP, page), encoding="utf-8") as file:
         return file.read().split(f"\n## {heading}\n", 1)[1].split("\n## ", 1)[0]
 
 
 def commands_of(text):
-    """Returns the first commands of a part."""
     return re.search(r"```sh\n(.*?)```", text, re.S).group(1)
 
 
 def try_examples(program, tally):
-    """Checks the bytes that DEST gets in each example."""
     part = part_of("docs/COMMAND.md", "Examples")
     examples = EXAMPLE.findall(part)
     tally.check("examples of COMMAND", len(examples), part.count("\n- "))

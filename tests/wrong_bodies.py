@@ -100,7 +100,6 @@ def changed_since(commit, crates):
 
 
 def all_asked(crates):
-    """Returns all edits of each of the crates that has edits."""
     found = {crate: other_edits_of(crate) for crate in crates}
     return {crate: edits for crate, edits in found.items() if edits}
 
@@ -290,7 +289,6 @@ def checks_at_once():
 
 
 def summary(ends, left):
-    """Returns the last lines of the run."""
     failed = [name for name, is_well in ends.items() if not is_well]
     counts = f"{len(ends) - len(failed)} passed, {len(failed)} failed"
     if STOP.is_set():

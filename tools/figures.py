@@ -3,7 +3,9 @@
 
 These are the numbers of tracked files, of words written by hand and of generated words, by their
 kind, of public functions, and of must-fail edits. Of source files only the words of comments are
-counted. tools/gate_times.py prints how long the gate takes.
+counted. Of pages, what a script writes into them counts as generated; the tables of docs/SURFACE.md
+aren't counted, since tests/surface.py compares them with the sources. tools/gate_times.py prints how
+long the gate takes.
 """
 
 import ast
@@ -14,6 +16,10 @@ import sys
 
 from must_fail import edits_of
 from sources import TOP, all_crates, text_of
+
+sys.path.insert(0, os.path.join(TOP, "tests"))
+
+from page_limits import LISTS, WRITTEN
 
 # Pages that a script writes whole.
 GENERATED = re.compile(r"docs/theorems/.*\.md|man/aecp?\.1|bench/tables\.md")
@@ -36,8 +42,7 @@ def comments(pattern):
 # A kind of text: its name, its paths, and what returns its prose. A path is of the first kind that fits.
 KINDS = [
     ("generated", GENERATED, str),
-    ("pages", re.compile(r"(?!crates/).*\.(md|1|3)"), str),
-    ("pages of crates, with the lists that a script writes", re.compile(r"crates/.*\.md"), str),
+    ("pages", re.compile(r".*\.(md|1|3)"), str),
     ("comments of code", re.compile(r".*\.rt"), comments(SLASHES)),
     ("comments of definitions", re.compile(r"crates/\w+/specs/.*\.antt"), comments(DASHES)),
     ("comments of proofs", re.compile(r".*\.antt"), comments(DASHES)),
@@ -57,13 +62,24 @@ def tracked_files():
     return [path for path in paths if os.path.isfile(os.path.join(TOP, path))]
 
 
+def words_in(text):
+    return len(re.findall(r"\w[\w'-]*", text))
+
+
 def words_by_kind(paths):
     """Returns for each kind how many words its files contain."""
     found = {name: 0 for name, _, _ in KINDS}
     for path in paths:
         kind = next((kind for kind in KINDS if kind[1].fullmatch(path)), None)
         if kind and not LEFT_OUT.fullmatch(path):
-            found[kind[0]] += len(re.findall(r"\w[\w'-]*", kind[2](text_of(path))))
+            text = text_of(path)
+            if path == LISTS:
+                text = re.sub(r"(?m)^\|.*", "", text)
+            found[kind[0]] += words_in(kind[2](text))
+            if kind[0] == "pages":
+                written = sum(words_in(part[0]) for part in WRITTEN.finditer(text))
+                found["pages"] -= written
+                found["generated"] += written
     return found
 
 

@@ -1,5 +1,5 @@
 #!/usr/bin/env python3
-"""Puts the version of the file VERSION into each file that has to contain it: version.py [--check]
+"""Writes the version of the file VERSION into each file that has to contain it: version.py [--check]
 
 The file VERSION is the one place where a version is changed. Makefile, tools/man.py, packaging/ and the tests read it. Files that
 cannot read it, such as sources and headers, contain a copy, and PLACES lists these copies. `make version` writes the copies, the

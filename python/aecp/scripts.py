@@ -277,7 +277,7 @@ def difference(before: bytes, after: bytes, change: Change, options: Options) ->
 
 
 def lines_of(name: str, first: int, data: bytes, store: Store) -> Iterator[bytes]:
-    """Yields the lines that put stored samples at a place, with at most A_LINE values each."""
+    """Yields the lines that write stored samples at a place, with at most A_LINE values each."""
     size = A_LINE * store.width
     for part in range(0, len(data), size):
         values = " ".join(map(str, store.values_of(data[part : part + size])))

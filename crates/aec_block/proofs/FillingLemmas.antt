@@ -67,7 +67,7 @@ front : (reference : Option ℕ) (items values : List ℕ) → HasReferencePlace
 front None items values place = refl
 front (Some r) items values place = ap (λ l. take 1 l ++ values) place
 
--- values put after the reference place fill the block, whatever follows them
+-- values written after the reference place fill the block, whatever follows them
 refilled : (n first : ℕ) (reference inside : Option ℕ) (items shown values behind : List ℕ) → HasBegun n reference inside items → shown ≡ items
     → first ≡ length (placed_values reference []) → first ≤ n → length values ≡ n - first
     → refill (length items) items (take first shown ++ (values ++ behind)) ≡ placed_values reference values

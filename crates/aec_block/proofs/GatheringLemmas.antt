@@ -65,7 +65,7 @@ gathered-done limit before false = refl
 
 -- ---- the members of pairs
 
--- a value put at a place, if it is below the limit
+-- a value written at a place, if it is below the limit
 abbrev pub value_put : ℕ → List ℕ → ℕ → ℕ → List ℕ
 value_put limit values i v = if nat_lt v limit then set values i v else values
 
@@ -109,7 +109,7 @@ pair_placed limit placed before between values i first second kept is_kept first
     rw first_put (kept_members-put limit placed before (2 * i) kept there (kept_zero placed i first kept is_kept)) in
     rw second_put (kept_members-put limit placed between (2 * i + 1) second between_there (λ there start. absurd (omega arith)))
 
--- after the members of one more pair were put in place
+-- after the members of one more pair were written
 pub members_gathered-put : (limit : ℕ) (before between values : List ℕ) (i : ℕ) (fit first_fits second_fits placed : Bool) (first second kept number : ℕ)
     → 2 * i + 1 < length before
     → first ≡ (pair_with_number number).first → second ≡ (pair_with_number number).second → kept ≡ (if placed then 0 else first)

@@ -80,7 +80,7 @@ held-at s [] i within held = absurd (omega arith)
 held-at s (x ∷ xs) zero within held = held.0
 held-at s (x ∷ xs) (suc i) within held = held-at s xs i (omega arith) held.1
 
--- one more sample in a loop that puts offsets
+-- one more sample in a loop that writes offsets
 pub offsets-more : (s : Settings) (xs : List ℤ) (i : ℕ) (values : List ℕ) (k : ℕ) → i < length xs → k ≡ sample_offset s (get_or xs i (pos 0))
     → (take i values ≡ map (sample_offset s) (take i xs)) × (length xs ≡ length values)
     → (take (i + 1) (slice_set values i k) ≡ map (sample_offset s) (take (i + 1) xs)) × (length xs ≡ length (slice_set values i k))

@@ -22,7 +22,7 @@ unmaps_to-behind s p q values old new to = record { so_far = unmaps-behind s p v
 length-mid : (at : ℕ) (samples : List ℤ) → length (mid_of at (length samples - at) samples) ≡ length samples - at
 length-mid at samples = omega (arith, length-take (length samples - at) (drop at samples), length-drop at samples)
 
--- one more part of the values, whose samples are put at its place
+-- one more part of the values, whose samples are written at its place
 pub part_more : (s : Settings) (p q r : ℤ) (values others all : List ℕ) (samples part : List ℤ) (at k n : ℕ) → values ++ others ≡ all → n ≡ at + k
     → at + k ≤ length samples → length part ≡ k → UnmapsTo s p q values [] (take at samples) → UnmapsTo s q r others [] part
     → UnmapsTo s p r all [] (take n (put_mid at k samples part))

@@ -8,7 +8,7 @@ use Rattle.aec_params.specs.BlockShapes.{HasReferencePlace}
 abbrev pub most_values : ℕ
 most_values = 64
 
--- the block of a reference, if there is one, and of values with the one in the reference place
+-- the block of these values, of which the first is in the reference place if there is a reference
 abbrev pub block_with : Option ℕ → List ℕ → Block
 block_with reference values = record { reference = reference; values = values }
 

@@ -101,7 +101,7 @@ impl Block {
     }
 
     // bare: it returns the length of a field
-    /// Returns the number of values, with the one in the reference place.
+    /// Returns the number of values, including the one in the reference place.
     pub fn len(&self) -> usize
         ensures value { result ≡ length self.now.values }
         ensures sound { IsSound self.now }
@@ -110,7 +110,7 @@ impl Block {
     }
 
     // bare: it returns a field
-    /// Returns the values, with the one in the reference place.
+    /// Returns the values, including the one in the reference place.
     pub fn values(&self) -> &[u32]
         ensures value { result.now ≡ self.now.values }
         ensures sound { IsSound self.now }
@@ -176,7 +176,7 @@ impl<'a> BlockRef<'a> {
         BlockRef { reference, values }
     }
 
-    /// Returns the values, with the one in the reference place.
+    /// Returns the values, including the one in the reference place.
     #[inline(always)]
     pub(crate) fn values(&self) -> &'a [u32]
         ensures value { result.now ≡ self.now.values }

@@ -128,7 +128,7 @@ module _ (s : Settings) (caps : Caps) (n front : ℕ) (bytes before after : List
   in_most : length (take front bytes ++ drop front bytes) ≤ most.bytes
   in_most = subst (λ b. length b ≤ 2 ^ 40) (sym whole) short
 
-  -- what decoding the first `front` bytes puts into a buffer, decoding all bytes puts there too
+  -- what decoding the first `front` bytes writes to a buffer, decoding all bytes writes there too
   pub fills_whole : FillsOne (OrMemory (IsDecoded s caps (Some n) (input_of (take front bytes) false))) before after (Ok len)
       → FillsOne (OrMemory (IsDecoded s most (Some n) (input_of bytes false))) before after (Ok len)
   fills_whole one =

@@ -46,7 +46,7 @@ module _ (s : Settings) (samples : List ℤ) (old : List ℕ) (size : ℕ) (is :
       ∙ sym (cond-false (nat_le (length bytes) (length old)) (done (length bytes)) (wants_room (length bytes))
       (lt-leb (length bytes) (length old) (omega (arith, bytes_are, long))))
 
--- the next interval was put into the buffer, and the reader is after it
+-- the next interval was written to the buffer, and the reader is after it
 pub puts_next : (before after : OpenReader) (old new : List ℕ) (reply : Reply) (samples : List ℤ) (q : Place) (size : ℕ)
     → size ≡ storage_len before.reader.place.settings * length samples → ReadsInterval before.reader.place samples q → after.reader.place ≡ q
     → size ≤ length old → new ≡ all_stored before.reader.place.settings samples ++ drop size old → reply ≡ done size

@@ -59,7 +59,7 @@ module _ {C : Type 0} (format_of : C → Format) (called read : C → ℕ) (seen
       coded.count mid.samples (coming format_of w fresh) coded.bits.list coded.starts.items got.format kept.format (kept.limit ∙ got.limit)
       (kept.samples ∙ got.samples) (fresh_coming format_of seen w got.format got.samples is) from_is codes.bits codes.starts (codes.count_is ∙ total_is)
 
-  -- the exchange was refused with `Memory` while samples were decoded, coded or put in place
+  -- the exchange was refused with `Memory` while samples were decoded, coded or moved
   pub not_exchanged : {w new : Contents C} {fresh : Fresh} {total needed : ℕ} {fault : Fault} (left : List ℤ)
       → IsOnlyRead format_of called read ends_for seen w → IsFreshFor n seen.samples (from_to first stop) to values fresh
       → KeepsSamples format_of called read (div_ceil total (format_of w.codec).most) (fresh.end - fresh.next) w new

@@ -1,4 +1,4 @@
--- What a buffer contains, from what is proved of the answer before its bytes are put there.
+-- What a buffer contains, from what is proved of the answer before its bytes are written there.
 use Rattle.std.proofs.Common.{◌≡◌, ℕ, ◌*◌, ◌<◌, ◌≤◌, Bool, false, Option, None, Some, Result, Ok, Err, ℤ, List, ◌++◌, length, drop, refl, sym, ap, ◌∙◌, subst, arith, inl, inr}
 use Rattle.std.specs.Prelude.{nat_le}
 use Rattle.std.proofs.lemmas.Bool.{cond-true, cond-false, le-leb, lt-leb}
@@ -57,7 +57,7 @@ fills_not p s first len size before xs a range told is long =
           (lt-leb (length bytes) (length before) (omega (arith, same))));
     }
 
--- the range is put at the front of the buffer
+-- the range is written to the front of the buffer
 pub fills_front : (p : Place) (s : Settings) (first len size : ℕ) (before after : List ℕ) (xs : List ℤ) → IsAllowed p.settings → HasRange p first len
     → AreSamplesOf p xs → size ≡ len * storage_len s → size ≤ length before → after ≡ all_stored s (samples_from first len xs) ++ drop size before
     → FillsOne (StoresPart s first len xs) before after (Ok size)

@@ -1,4 +1,4 @@
--- The second reading into a buffer: the bytes of a range of samples are put there, one part after
+-- The second reading into a buffer: bytes of a range of samples are written there, one part after
 -- the other.
 use Rattle.std.proofs.Common.{◌≡◌, ℕ, ◌+◌, ◌-◌, ◌*◌, ◌%◌, ◌≤◌, true, false, Some, Ok, ℤ, List, [], ◌∷◌, ◌++◌, length, take, drop, refl, sym, ap, ap₂, ◌∙◌, subst, arith, append-nil, append_assoc, ◌⊎◌}
 use Rattle.std.proofs.KnownBytes.{Appends-nil}
@@ -31,7 +31,7 @@ pub length-all_stored : (s : Settings) (xs : List ℤ) → length (all_stored s 
 length-all_stored s [] = omega arith
 length-all_stored s (x ∷ xs) = omega (arith, length-append (stored_bytes s x) (all_stored s xs), length-stored_bytes s x, length-all_stored s xs)
 
--- ---- bytes put after others
+-- ---- bytes written after others
 
 pub puts_behind : (s : Settings) (at end : ℕ) (before after : List ℕ) (part : List ℤ) → at ≤ length before
     → after ≡ take at before ++ (all_stored s part ++ drop (at + storage_len s * length part) before) → end ≡ at + storage_len s * length part
@@ -63,7 +63,7 @@ length-behind s at before after part within is =
 pub taken_none : (now : List ℕ) → take 0 now ≡ []
 taken_none now = nil_from_length (take 0 now) (length-take 0 now ∙ omega arith)
 
--- ---- what was put so far, and what is to come
+-- ---- what was written so far, and what is to come
 
 -- bits are read as samples whose range has `size` bytes
 abbrev pub HasSize : Place → Settings → ℕ → ℕ → ℕ → Type 0

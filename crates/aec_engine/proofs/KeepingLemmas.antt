@@ -1,4 +1,4 @@
--- The front of a stream, whose bytes are kept, and the rest of it, which is put after them.
+-- The front of a stream, whose bytes are kept, and the rest of it, which is written after them.
 use Rattle.std.proofs.Common.{◌≡◌, ℕ, ◌+◌, ◌*◌, ◌-◌, ◌%◌, ◌<◌, ◌≤◌, ◌^◌, max, Bool, true, false, Option, None, Some, Result, Ok, ℤ, List, [], ◌++◌, length, take, drop, refl, sym, ap, ap₂, ◌∙◌, subst, arith, ⊎_elim}
 use Rattle.std.specs.List.{AllByRecursion}
 use Rattle.std.specs.Int.{div_ceil}

@@ -1,4 +1,4 @@
--- What a buffer contains after the kept bytes and the bytes of the rest were put into it.
+-- What a buffer contains after the kept bytes and the bytes of the rest were written to it.
 use Rattle.std.proofs.Common.{◌≡◌, ℕ, ◌+◌, ◌*◌, ◌-◌, ◌<◌, ◌≤◌, Bool, None, Some, Option, Result, Ok, Err, ℤ, List, [], ◌++◌, length, take, drop, append-nil, append_assoc, refl, sym, ap, ap₂, ◌∙◌, subst, arith}
 use Rattle.std.specs.Prelude.{nat_le, IfOk, IfErr}
 use Rattle.std.proofs.lemmas.Bool.{cond-true, cond-false, le-leb, lt-leb}
@@ -80,7 +80,7 @@ module _ (p : Place) (s : Settings) (kept left size : ℕ) (bytes before : List 
   pub kept_not : length before < size → FillsOne (IsOnly (bytes ++ rest)) before before (Ok size)
   kept_not long = only_not (bytes ++ rest) before size both_len long
 
-  -- both parts are put at the front of the buffer
+  -- both parts are written to the front of the buffer
   pub kept_front : (mid after : List ℕ) (k : ℕ) → size ≤ length before → mid ≡ bytes ++ drop (length bytes) before → k ≡ size - length bytes
       → after ≡ take (length bytes) mid ++ (rest ++ drop k (drop (length bytes) mid)) → FillsOne (IsOnly (bytes ++ rest)) before after (Ok size)
   kept_front mid after k short first many second =

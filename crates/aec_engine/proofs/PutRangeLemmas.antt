@@ -1,4 +1,4 @@
--- The second reading: the bytes of a range of samples are put piece by piece.
+-- The second reading: the bytes of a range of samples are passed to `put` piece by piece.
 use Rattle.std.proofs.Common.{◌≡◌, ℕ, zero, suc, ◌+◌, ◌-◌, ◌%◌, ◌<◌, ◌≤◌, ◌^◌, min, true, false, Option, Some, None, Result, Ok, Err, OnOk, OnErr, ℤ, List, [], ◌∷◌, ◌++◌, length, take, drop, refl, sym, ap, ap₂, ◌∙◌, subst, arith, append-nil, append_assoc, ◌⊎◌, ⊎_elim}
 use Rattle.std.specs.Io.KnownBytes.{Appends, Keeps}
 use Rattle.std.proofs.KnownBytes.{Appends-nil, Appends-trans}
@@ -55,7 +55,7 @@ samples_from-most skip left ys = length-take left (drop skip ys) ∙ ap (min lef
 pub all_stored-append : (s : Settings) (xs ys : List ℤ) → all_stored s (xs ++ ys) ≡ all_stored s xs ++ all_stored s ys
 all_stored-append s xs ys = flat_map-append (stored_bytes s) xs ys
 
--- ---- what was put so far
+-- ---- what was written so far
 
 pub record PutsSoFar (start p : Place) (s : Settings) (first len skip left : ℕ) (before after : Option (List ℕ)) (waiting : List ℕ) : Type 0 where
   pub samples : List ℤ
@@ -235,7 +235,7 @@ all_read start p s first len skip left before after waiting xs a so_far done giv
     (bits_are_read_in_one_way start.settings start.count start.limit start.bits a).one_reading so_far.samples xs
     (subst (λ (p : Place). IsReading p.settings p.count p.limit p.bits so_far.samples) so_far.same whole) given.reading
 
--- if no samples are left to put, or none to read, the whole range was taken
+-- if no samples are left to write, or none to read, the whole range was taken
 range_taken : (start p : Place) (s : Settings) (first len skip left : ℕ) (before after : Option (List ℕ)) (waiting : List ℕ) (xs : List ℤ)
     → IsAllowed start.settings → (so_far : PutsSoFar start p s first len skip left before after waiting) → (left ≡ 0) ⊎ (is_wanted_at p ≡ false)
     → AreSamplesOf start xs → samples_from first len so_far.samples ≡ samples_from first len xs

@@ -1,4 +1,4 @@
--- What a buffer contains after a range was put into it.
+-- What a buffer contains after a range was written to it.
 use Rattle.std.proofs.Common.{◌≡◌, ℕ, ◌+◌, ◌≤◌, Bool, false, Option, None, Some, Result, Err, ℤ, List, sym, ◌∙◌, subst, arith}
 use Rattle.aec_params.specs.declared.settings.Settings.{Settings}
 use Rattle.aec_params.specs.declared.fault.Fault.{Fault}

@@ -1,4 +1,4 @@
--- Bits that are read once to count their samples, and again to put the bytes of some of them.
+-- Bits that are read once to count their samples, and again to write the bytes of some of them.
 use Rattle.std.proofs.Common.{◌≡◌, ◌≢◌, ℕ, ◌+◌, ◌*◌, ◌<◌, ◌≤◌, ◌^◌, Bool, false, Option, Some, IfSome, Result, Err, IfErr, ℤ, List, [], ◌++◌, length, refl, sym, ap, ◌∙◌, subst, arith, ⊎_elim}
 use Rattle.std.proofs.Math.Nat.{mul-le-mul_right, zero-mod}
 use Rattle.std.proofs.lemmas.Bool.{cases_lt}

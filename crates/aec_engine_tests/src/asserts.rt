@@ -6,12 +6,10 @@ ghost use Rattle.std.specs.Prelude.{◌≡◌, true};
 use std::fmt::Debug;
 use std::process::Abort;
 
-/// Checks that both are equal.
 pub(crate) fn same<T: Debug + Drop + PartialEq>(rt: &impl Abort, found: T, wanted: T) {
     assert_eq!(rt; found, wanted);
 }
 
-/// Checks that both are equal in this case.
 pub(crate) fn same_at<T: Debug + Drop + PartialEq, C: Debug>(
     rt: &impl Abort,
     found: T,
@@ -21,21 +19,18 @@ pub(crate) fn same_at<T: Debug + Drop + PartialEq, C: Debug>(
     assert_eq!(rt; found, wanted, "at {case:?}");
 }
 
-/// Checks the condition.
 pub(crate) fn holds(rt: &impl Abort, condition: bool)
     ensures it { condition ≡ true }
 {
     assert!(rt; condition);
 }
 
-/// Checks the condition in this case.
 pub(crate) fn holds_at<C: Debug>(rt: &impl Abort, condition: bool, case: &C)
     ensures it { condition ≡ true }
 {
     assert!(rt; condition, "at {case:?}");
 }
 
-/// Fails, and prints `what`.
 pub(crate) fn fails<C: Debug>(rt: &impl Abort, what: &C) {
     assert!(rt; false, "{what:?}");
 }

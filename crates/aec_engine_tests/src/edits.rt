@@ -78,7 +78,7 @@ const WRITTEN: [(&str, &[u8], Option<u64>, &[u8]); 21] = [
     ("truncate 0\r\nappend 7 7 7 7 7", &RAMP, None, &SEVENS),
     ("truncate 0", &RAMP, None, &[]),
     ("append 0 0 0 0 0 0 0 0", &[], None, &EIGHT_ZEROS),
-    // Samples are put in and taken out.
+    // Samples are inserted and removed.
     (
         "insert 16 0 0 0 0 0 0 0 0 0 0 0 0 0 0 0 0\n",
         &ZEROS,

@@ -1,4 +1,4 @@
--- Samples put after others: all of them are held (`IsHeld`).
+-- Samples appended to others: all of them are held (`IsHeld`).
 use Rattle.std.proofs.Common.{◌≡◌, ℕ, ◌+◌, ◌≤◌, ℤ, List, ◌++◌, length, take, sym, ap, ◌∙◌, subst, arith, append_assoc, length-append}
 use Rattle.std.specs.List.{AllByRecursion}
 use Rattle.std.proofs.lemmas.List.{take-take, take_at, length-take-le}

@@ -91,7 +91,7 @@ fn len_of(stream: &Stream) -> Result<u64, Fault> {
     Ok(all)
 }
 
-/// Checks what a stream is read as, in each way, and its number of samples by skipping.
+/// Checks the result of reading a stream in each way, and its number of samples by skipping.
 pub(crate) fn expect_read(
     rt: &impl Abort,
     stream: &Stream,

@@ -37,7 +37,7 @@ pieces_of-nil n h = rw (div_ceil-zero n h) refl
 pub pieces_of-step : {X : Type 0} (n : ℕ) (xs : List X) → 0 < n → 0 < length xs → pieces_of n xs ≡ take n xs ∷ pieces_of n (drop n xs)
 pieces_of-step n xs h l = rw (div_ceil-step (length xs) n h l, length-drop n xs) refl
 
--- a property that holds for no pieces, and stays true if a piece is put first, holds for all pieces
+-- a property that holds for no pieces, and stays true with a piece in front, holds for all
 pub by_pieces : {X : Type 0} (n : ℕ) (P : List X → List (List X) → Type 0) → 0 < n → P [] []
     → ((xs : List X) → 0 < length xs → P (drop n xs) (pieces_of n (drop n xs)) → P xs (take n xs ∷ pieces_of n (drop n xs)))
     → (xs : List X) → P xs (pieces_of n xs)

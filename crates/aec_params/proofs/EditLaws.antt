@@ -26,7 +26,7 @@ div-step n a h =
     let e = add-div_right a h in
     grind arith
 
--- the quotients from l to m, each once, with k put first, are those from k to m; l is k or k + 1
+-- the quotients from l to m, each once, with k in front, are those from k to m; l is k or k + 1
 one_more : (k l m : ℕ) (later : List ℕ) → l ≤ m → (l ≡ k) ⊎ (l ≡ k + 1)
     → dedup_from (λ i k. eqb i k) l later ≡ range_with_len l (suc (m - l))
     → cond (eqb l k) (dedup_from (λ i k. eqb i k) k later) (k ∷ dedup_from (λ i k. eqb i k) l later) ≡ range_with_len k (suc (m - k))
