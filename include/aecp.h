@@ -48,7 +48,7 @@ typedef struct {
     bool even_blocks;    /* see block_size; violates the standard (AEC_NOT_ENFORCE) */
 } aecp_options;
 
-/* Options to begin with: block_size 16, interval 128. Traps: the program `aec` has 8 and 2 if it isn't told others; `preprocess` is false
+/* Options to begin with: block_size 16, interval 128. Traps: the program `aec` has 8 and 2 without options; `preprocess` is false
  * in `aecp_options o = {0}`. */
 #define AECP_OPTIONS(n) {AECP_UINT32(n), 16, 128, false, false, false, true, false, false, false}
 

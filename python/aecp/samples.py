@@ -13,11 +13,11 @@ Samples = Union[int, Iterable[int]]
 TEXTS = (bytes, bytearray, memoryview, str)
 
 
-class Held:
+class Numbers:
     """Samples as numbers of 64 bits in one piece of memory, which it keeps alive."""
 
     def __init__(self, samples: Any) -> None:
-        self.samples: Any = held_in(samples)
+        self.samples: Any = numbers_in(samples)
         self.view = memoryview(self.samples)  # as long as it exists, the memory can't be freed or resized
         self.len = len(self.samples)
 
@@ -42,7 +42,7 @@ def several(samples: Any) -> Any:
     return samples
 
 
-def held_in(samples: Any) -> Any:
+def numbers_in(samples: Any) -> Any:
     """Returns a sample, or several, as an array('q'), or as a numpy array of the same numbers. Raises OverflowError if a number
     doesn't fit 64 bits, TypeError if one isn't a whole number."""
     if isinstance(samples, array):

@@ -12,7 +12,7 @@ from aecp.calls import number_of, place
 from aecp.faults import NO_ROOM, SAMPLE_RANGE, Fault, NotOpen, fault_of
 from aecp.library import LIBRARY, Handle, Reply, c_options, text_of
 from aecp.options import Options, whole
-from aecp.samples import Held, Samples, several
+from aecp.samples import Numbers, Samples, several
 
 SHOWN = 6  # samples that repr shows
 FIRST_ROOM = 1 << 16  # bytes of the first buffer for a stream
@@ -70,8 +70,8 @@ class Workspace(MutableSequence[int]):
     def append(self, samples: Samples) -> int:  # type: ignore[override]
         """Adds a sample, or several, after the last one. Returns the number of intervals coded. Raises SampleRefused, LimitPassed,
         NoMemory; OverflowError if a number doesn't fit 64 bits."""
-        held = Held(samples)
-        return self._call("aecp_append", held.at, held.len)
+        numbers = Numbers(samples)
+        return self._call("aecp_append", numbers.at, numbers.len)
 
     def truncate(self, count: int) -> int:
         """Keeps the first `count` samples. Returns the number of intervals coded. Raises RangeRefused, NoMemory."""
@@ -88,17 +88,17 @@ class Workspace(MutableSequence[int]):
     def overwrite(self, first: int, samples: Samples) -> int:
         """Writes samples over those from place `first` on. The length stays. Returns the number of intervals coded. Raises RangeRefused,
         SampleRefused, NoMemory; OverflowError if a number doesn't fit 64 bits."""
-        held = Held(samples)
-        return self._call("aecp_overwrite", place(first, "first"), held.at, held.len)
+        numbers = Numbers(samples)
+        return self._call("aecp_overwrite", place(first, "first"), numbers.at, numbers.len)
 
     def insert(self, first: int, samples: Samples) -> int:  # type: ignore[override]
         """Inserts a sample, or several, before place `first`. As in a list, a negative place counts from the end, and a place outside the
         samples means the nearer end. Returns the number of intervals coded. Raises what append raises."""
-        held, first = Held(samples), whole(first, "first")
+        numbers, first = Numbers(samples), whole(first, "first")
         with self._lock:
             count = len(self)
             first = max(first + count, 0) if first < 0 else min(first, count)
-            return self._call("aecp_insert", first, held.at, held.len)
+            return self._call("aecp_insert", first, numbers.at, numbers.len)
 
     def extend(self, samples: Iterable[int]) -> None:
         """Adds the samples of an iterable after the last one. Raises what append raises; TypeError for a single number."""
@@ -242,10 +242,10 @@ class Workspace(MutableSequence[int]):
         first, samples stay changed."""
         with self._lock:
             if not isinstance(key, slice):
-                held = Held([samples])
-                self._call("aecp_overwrite", self._place(key), held.at, held.len)
+                numbers = Numbers([samples])
+                self._call("aecp_overwrite", self._place(key), numbers.at, numbers.len)
                 return
-            new, (first, length, step) = Held(several(samples)), self._part(key)
+            new, (first, length, step) = Numbers(several(samples)), self._part(key)
             if step == 1:
                 self._replace(first, length, new)
                 return
@@ -254,7 +254,7 @@ class Workspace(MutableSequence[int]):
                 raise ValueError(f"a slice with steps of {len(part[::step])} samples can't become {new.len}")
             self._judge(new)
             part[::step] = array("q", new.samples)
-            self._call("aecp_overwrite", first, Held(part).at, len(part))
+            self._call("aecp_overwrite", first, Numbers(part).at, len(part))
 
     def __delitem__(self, key: Union[SupportsIndex, slice]) -> None:
         """Removes the sample at a place, or those of a slice."""
@@ -268,7 +268,7 @@ class Workspace(MutableSequence[int]):
                 return
             part = self.read(first, length)
             del part[::step]
-            self._replace(first, length, Held(part))
+            self._replace(first, length, Numbers(part))
 
     def _place(self, key: SupportsIndex) -> int:
         """Returns the place that an index names. Raises IndexError if there is none."""
@@ -285,7 +285,7 @@ class Workspace(MutableSequence[int]):
         least, most = min(places[0], places[-1]), max(places[0], places[-1])
         return least, most - least + 1, places.step
 
-    def _replace(self, first: int, length: int, new: Held) -> None:
+    def _replace(self, first: int, length: int, new: Numbers) -> None:
         """Replaces a part by any number of samples. Samples out of range are refused before anything is changed.
 
         Another number of samples takes up to two edits. If the second fails, the first is undone. That can fail too, if memory is too
@@ -297,7 +297,7 @@ class Workspace(MutableSequence[int]):
             return
         self._judge(new)
         same = min(length, new.len)
-        old = Held(self.read(first, same))
+        old = Numbers(self.read(first, same))
         edits: list[tuple[Any, ...]] = [("aecp_overwrite", first, new.at, same)] if same else []
         if new.len > length:
             more = new.len - length
@@ -314,7 +314,7 @@ class Workspace(MutableSequence[int]):
             self._call(*undo)
             raise
 
-    def _judge(self, new: Held) -> None:
+    def _judge(self, new: Numbers) -> None:
         """Raises SampleRefused for the first sample that is out of range."""
         least, most = self.options.least, self.options.most
         if new.len and not least <= new.least() <= new.most() <= most:
