@@ -24,6 +24,7 @@ decides that, and the kit. With `--untried` no edit is tried: the run prints eac
 a record of its present files and this kit, and ends with status 1 if there is one.
 """
 
+import functools
 import hashlib
 import os
 import re
@@ -149,11 +150,17 @@ def copy_of(crate, lines, top, source=TOP):
     return os.path.join(top, "crates", crate)
 
 
+@functools.cache
+def kit():
+    """Returns the kit's name."""
+    return subprocess.run(["rt", "version"], capture_output=True, check=True).stdout
+
+
 def sum_of(crate, lines, top=TOP):
     """Returns a sum of what decides, in a repository, whether the wrong bodies of a crate are
     refused, and of the kit's name."""
     crates = {crate, *below(crate, lines)}
-    found = hashlib.sha256(subprocess.run(["rt", "version"], capture_output=True).stdout)
+    found = hashlib.sha256(kit())
     for at, folders, names in os.walk(os.path.join(top, "crates")):
         folders[:] = sorted(name for name in folders if name != "out")
         for path in (os.path.join(at, name) for name in sorted(names)):
@@ -273,12 +280,12 @@ class Workers:
 
 def free_kib():
     """Returns the memory that is free on the machine and within the limit of its control group."""
-    found = [int(re.search(r"MemAvailable:\s+(\d+)", text_of("/proc/meminfo"))[1])]
+    free = int(re.search(r"MemAvailable:\s+(\d+)", text_of("/proc/meminfo"))[1])
     try:
         limit = text_of("/sys/fs/cgroup/memory.max").strip()
     except OSError:
-        limit = "max"
-    return min(found + [int(limit) // 1024] * limit.isdigit())
+        return free
+    return min(free, int(limit) // 1024) if limit.isdigit() else free
 
 
 def checks_at_once():
