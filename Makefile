@@ -231,7 +231,7 @@ dist:
 test-packages:
 	$(PYTHON) tests/packages.py
 
-# With `make contracts WORD..` the words are no targets. This stands last, so that it holds for words that name targets, too.
+# With `make contracts WORD..` the words are no targets. This is last, so that it holds for words that name targets, too.
 ifeq (contracts,$(firstword $(MAKECMDGOALS)))
 WORDS := $(wordlist 2,$(words $(MAKECMDGOALS)),$(MAKECMDGOALS))
 .PHONY: $(WORDS)

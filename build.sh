@@ -1,5 +1,5 @@
 #!/bin/sh
-# Proves and builds the program, with every library of the repository that it stands on, and leaves it in bin/aec. Prints
+# Proves and builds the program, with every library of the repository that it uses, and leaves it in bin/aec. Prints
 # one line a crate. What the checker says goes into a log, which is named where a crate fails. Run from the top of the
 # repository by `make`.
 set -u
@@ -12,7 +12,7 @@ if ! command -v rt > /dev/null; then
     exit 1
 fi
 
-# The crates that `aec` stands on, and `aec` itself, lowest first.
+# The crates that `aec` uses, and `aec` itself, lowest first.
 crates() {
     awk '
         /^[a-z]/ {

@@ -1,5 +1,5 @@
 #!/bin/sh
-# Proves and builds the library for C, with every crate that it stands on, and leaves bin/libaecp.a and bin/libaecp.so: the names
+# Proves and builds the library for C, with every crate that it uses, and leaves bin/libaecp.a and bin/libaecp.so: the names
 # that begin with aecp_ are all that they define for others, and the C library is all that they need. With the word --link only
 # the last step is made, on the archive that is there, or on the one that the variable ARCHIVE names; `--link FOLDER` leaves both files
 # there instead of in bin. Run from the top of the repository by `make library`.

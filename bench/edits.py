@@ -97,7 +97,7 @@ def cut(ours, options, folder, raw, first, length):
     coded, dest = os.path.join(folder, "coded"), os.path.join(folder, "dest")
     told = timed([ours, *options, "--range", f"{first}:{length}", "--count", str(SAMPLES), coded, dest], folder)
     if read(dest) != raw[2 * first : 2 * (first + length)]:
-        raise SystemExit("the range has not the samples that stand there")
+        raise SystemExit("the range has not the samples that are there")
     return told
 
 

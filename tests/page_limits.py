@@ -1,7 +1,7 @@
 """The limits of the pages that are written by hand, for limits.py: that no two pages say the same, and the number of words in each. Too
 many words are a reason to look at a page again, and no failure: no sentence should lose a word that its reader needs.
 
-Words are counted as `wc -w` does: whatever stands between blanks, also code, tables and marks of lists. Not counted is what a script
+Words are counted as `wc -w` does: whatever is between blanks, also code, tables and marks of lists. Not counted is what a script
 writes into a page, from a line `<!-- Written by .. -->` to a line `<!-- end -->` or the end of the page, and the tables of
 docs/SURFACE.md, which surface.py checks. The pages are those at the top
 and in docs/, README.md of examples/ and of each crate and package, and bench/steps.md. Not among them: docs/theorems/, bench/tables.md

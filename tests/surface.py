@@ -41,7 +41,7 @@ PROMISED = {
 }
 # What a type or trait is made of. If the first list has one of these, the type or trait may have no others.
 MADE_OF = ("field", "variant", "function")
-# In the second list, what stands in place of a type or module.
+# In the second list, what is in place of a type or module.
 ROOT = "the crate"
 
 

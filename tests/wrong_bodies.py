@@ -197,7 +197,7 @@ class Crate:
         return mean * len(self.left) / (self.workers + 1)
 
     def fail(self):
-        self.ends[f"{self.name} as it stands, which isn't proved"] = False
+        self.ends[f"{self.name}, which is not proved without edits"] = False
         self.left.clear()
 
     def is_proved(self):

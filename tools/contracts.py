@@ -21,7 +21,7 @@ With --check it prints only what is wrong. It fails in these cases:
 - A public function has no clause or no doc comment.
 - A public function has no must-fail edit, and no line `// bare: REASON` above its doc comment or
   above its `pub fn`. Laws need none.
-- A line `// bare:` stands above a law, above a function that isn't public, or above one that has
+- A line `// bare:` is above a law, above a function that isn't public, or above one that has
   a must-fail edit.
 - docs/PROOFS.md names a function or a clause that doesn't exist: in the part of a crate, after
   `Contract:` in an item, in the form `PATH` or `PATH: CLAUSE, CLAUSE`.
@@ -271,7 +271,7 @@ def wrongs_of(contract):
 
 
 def wrongs_of_bare(library):
-    """Yields a message if lines `bare` stand above no public function."""
+    """Yields a message if lines `bare` are above no public function."""
     public = [one for one in library.functions if one.is_public]
     read = sum(bool(library.texts[key(one)].bare) for one in public)
     every = [line for lines in library.lines.values() for line in lines if BARE.match(line)]

@@ -50,7 +50,7 @@ def read_changes(text):
         if word == "old" and old:
             return changes, f"this old text has no new one: {old}"
         if word == "new" and not (file and old):
-            return changes, "a new text stands before any file and old text"
+            return changes, "a new text comes before any file and old text"
         if word == "new" and rest == old:
             return changes, f"this new text is the old one: {old}"
         if word == "file":
