@@ -22,6 +22,7 @@ def options_of(settings):
 
 
 def walk(chance, count, most=4095):
+    """Returns samples that move in small steps."""
     x, out = most // 2, []
     for _ in range(count):
         x = min(max(x + chance.randint(-9, 9), 0), most)
@@ -30,6 +31,7 @@ def walk(chance, count, most=4095):
 
 
 def keep(path, settings, **how):
+    """Keeps a file. Returns the outcome."""
     keeping.leftovers_in.cache_clear()
     return keeping.keep(keeping.Keeping(options_of(settings), **how), keeping.Found(path, True))
 
@@ -68,6 +70,7 @@ def some_script(chance, settings, samples, lines=6):
 
 
 def edited(pair, script, allow_empty=False):
+    """Edits a pair under its lock, as the verb does."""
     with pair.locked():
         pair.mend()
         return editing.edit(pair, script, allow_empty)
@@ -97,6 +100,7 @@ def refusal(call):
 
 
 def command(folder, *words, given=None, **more):
+    """Runs the command. Returns its status, standard output and standard error."""
     ended = subprocess.run([sys.executable, "-m", "aecp", *words], cwd=folder, input=given, capture_output=True, check=False, **more)
     return ended.returncode, ended.stdout.decode(errors="replace"), ended.stderr.decode(errors="replace")
 

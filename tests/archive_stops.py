@@ -130,6 +130,7 @@ def try_each(tally, folder):
 
 
 def try_moments(tally, seed):
+    """Sends SIGKILL at random moments."""
     chance, trial = random.Random(f"moments {seed}"), Trial(None, "moments")
     times, stopped = {}, 0
     for number in range(RANDOM_STOPS):
@@ -287,4 +288,5 @@ def try_interrupt(tally, folder):
 
 
 def parts(seed):
+    """Returns the tests, each with its arguments after the tally."""
     return [(try_each,), (try_moments, seed), (try_full,), (try_full_disk,), (try_two,), (try_second_name,), (try_interrupt,)]

@@ -24,6 +24,7 @@ def write(folder, name, data):
 
 
 def try_names(tally, folder):
+    """Tests file names of every kind, in a folder and as arguments."""
     place = os.fsencode(tempfile.mkdtemp(dir=folder))
     data = USUAL.stored(walk(random.Random(3), 500))
     for name in ODD_NAMES:
@@ -173,6 +174,7 @@ def try_back(tally, folder):
 
 
 def try_edits(tally, folder):
+    """Tests edit, undo, log, diff, pixels and info."""
     place = tempfile.mkdtemp(dir=folder)
     samples = walk(random.Random(8), 600)
     kept_file(place, "a", samples)
@@ -296,6 +298,7 @@ def try_fit(tally, folder):
 
 
 def try_usage(tally, folder):
+    """Tests help, wrong words, a missing library, and too little memory."""
     for verb in ("keep", "back", "check", "edit", "undo", "log", "diff", "pixels", "info", "fit", "rescue", "view"):
         status, printed, said = command(folder, verb, "--help")
         tally.holds(status == 0 and printed.startswith(f"usage: aecp {verb}") and not said, f"{verb} --help: {status} {said}")
