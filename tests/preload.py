@@ -172,7 +172,8 @@ def try_eccodes(preloaded, tally):
             words = ["-r", "-s", f"packingType=grid_ccsds,bitsPerValue={bits}", "simple.grib"]
             plain = preloaded.run(False, "grib_set", *words, "theirs.grib")
             ended = preloaded.run(True, "grib_set", *words, "ours.grib")
-            tally.check(f"grib_set {path} {bits}", (ended.status, ended.err), (plain.status, plain.err))
+            answers = [(it.status, it.err) for it in (ended, plain)]
+            tally.check(f"grib_set {path} {bits}", *answers)
             if plain.status != 0:  # eccodes 2.28 refuses to repack some messages with 24 bits
                 continue
             coded += ended.taken[0]
