@@ -161,6 +161,7 @@ test-library:
 	python3 tests/library_python.py bin
 	python3 tests/library_builds.py
 	python3 tests/archive.py bin
+	python3 tests/preload.py bin
 
 # Header, libraries, aecp(3), files for pkg-config and CMake, Python module, command `aecp` with aecp(1). The module goes where `python3`
 # looks for modules, with its own copy of the library. If the library for x86-64-v3 is built, it is installed too: the loader chooses it

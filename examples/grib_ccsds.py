@@ -2,9 +2,11 @@
 """The coded stream of a GRIB2 message (data representation template 5.42), read and edited:
 
     grib_ccsds.py options FILE                  prints the options for aec, with --count
-    grib_ccsds.py values AEC FILE FIRST:LEN     prints LEN values from place FIRST on, a line each
-    grib_ccsds.py set AEC FILE PLACE VALUE OUT  writes the file with another value at a place; all
+    grib_ccsds.py values AEC FILE [FIRST:LEN]   prints a table of all values, or of LEN values from
+                                                place FIRST on, with latitudes and longitudes
+    grib_ccsds.py set AEC FILE TABLE OUT        writes the file with the values of a table; all
                                                 others stay as they are
+    grib_ccsds.py set AEC FILE PLACE VALUE OUT  writes the file with another value at one place
     grib_ccsds.py take FILE STREAM              writes the stream of section 7
     grib_ccsds.py put AEC FILE STREAM OUT       writes the file with another stream of the same
                                                 options and count
@@ -12,10 +14,19 @@
                                                 that keeps the count
 
 `--message N` takes message N of FILE, counted from 1, instead of the first. The other messages stay
-as they are. Places count from 0, without the points that a bitmap leaves out. The script needs only
-the standard library.
+as they are. Places count from 0, without the points that a bitmap leaves out.
+
+The first line of TABLE names its columns, separated by blanks, tabs or commas: `value`, and
+`place`, or `row` and `column`, or `latitude` and `longitude`. Rows and columns count from 0, as the
+message stores them. A latitude and a longitude select the nearest point. If there is a place, the
+other columns are ignored, so the table that `values` prints is a TABLE. Lines that begin with # are
+skipped. If a line is wrong, no file is written. The TABLE - is standard input.
+
+The script needs only the standard library. Latitudes and longitudes come from eccodes' Python where
+it is installed. Without it they are known for regular grids, and for Gaussian grids of the globe.
 """
 
+import math
 import struct
 from fractions import Fraction
 from typing import NamedTuple
@@ -30,6 +41,8 @@ from aec_runs import (
     whole_number,
     write_whole,
 )
+from grib_grid import grid_of
+from grib_tables import Change, changes_of, value_of
 
 # bits of ccsdsFlags
 SIGNED, THREE_BYTES, MSB_FIRST, PREPROCESS, RESTRICTED, PADDED, ANY_EVEN_BLOCK = (
@@ -97,9 +110,17 @@ class Packing(NamedTuple):
     bits: int
     is_signed: bool
 
+    def values(self, numbers):
+        """Returns the values of unsigned numbers X, each as the nearest float."""
+        scale = Fraction(10) ** self.decimal
+        least, step = self.reference / scale, Fraction(2) ** self.binary / scale
+        parts = math.lcm(least.denominator, step.denominator)
+        first, more = int(least * parts), int(step * parts)
+        return [(first + x * more) / parts for x in numbers]
+
     def value(self, x):
         """Returns the value of an unsigned number X, as the nearest float."""
-        return float((self.reference + x * Fraction(2) ** self.binary) / Fraction(10) ** self.decimal)
+        return self.values([x])[0]
 
     def nearest(self, value):
         """Returns the unsigned number with the nearest value. Refuses a value outside the range of
@@ -283,32 +304,71 @@ def options(file, *, message="1"):
     print(" ".join(coding_of(message_of(file, message)).counted_words()))
 
 
-def values(aec, file, part, *, message="1"):
-    """Prints the values of FIRST:LEN, a line each."""
+def values(aec, file, part=None, *, message="1"):
+    """Prints a table of the values of FIRST:LEN, or of all."""
+    read = message_of(file, message)
+    packing, count = packing_of(read), coding_of(read).count
+    first, length = (0, count) if part is None else part_of(part)
+    numbers = numbers_in(read, aec, first, length)
+    points = known_points(read, count)
+    print("place value" if points is None else "place latitude longitude value")
+    for place, value in enumerate(packing.values(numbers), first):
+        where = "" if points is None else "{:.6f} {:.6f} ".format(*points[place])
+        print(f"{place} {where}{value}")
+
+
+def part_of(part):
+    """Returns the two numbers of FIRST:LEN."""
     first, colon, length = part.partition(":")
     if not colon:
         raise WrongWords(f"{part} is no FIRST:LEN")
-    first, length = whole_number(first, "place"), whole_number(length, "number of values")
-    read = message_of(file, message)
-    packing = packing_of(read)
-    for x in numbers_in(read, aec, first, length):
-        print(packing.value(x))
+    return whole_number(first, "place"), whole_number(length, "number of values")
 
 
-def put_value(aec, file, place, value, out, *, message="1"):
-    """Writes a file with another value at a place, and prints the value before and after."""
-    place = whole_number(place, "place")
+def known_points(read, count):
+    """Returns the points of a message by place, or None if they aren't known."""
     try:
-        wanted = Fraction(value)
-    except (ValueError, ZeroDivisionError):
-        raise WrongWords(f"{value} is no value") from None
+        return grid_of(read, count).located()
+    except Refused:
+        return None
+
+
+def put_values(aec, file, *words, message="1"):
+    """Writes a file with other values at the places of a table, or at one place. Prints each value
+    before and after."""
+    if len(words) not in (2, 3):
+        raise WrongWords("set takes the words AEC FILE TABLE OUT, or AEC FILE PLACE VALUE OUT")
+    is_table, inputs = len(words) == 2, [file]
+    wanted = None if is_table else value_of(words[1], WrongWords)
+    place = None if is_table else whole_number(words[0], "place")
     read = message_of(file, message)
-    packing = packing_of(read)
-    x = packing.nearest(wanted)
-    before = numbers_in(read, aec, place, 1)[0]
-    data = edited(read, aec, b"overwrite %d %d\n" % (place, packing.sample(x)))
-    write_whole(out, data, file)
-    print(f"place {place}: {packing.value(before)} becomes {packing.value(x)}")
+    if is_table:
+        changes = changes_of(words[0], coding_of(read).count, lambda count: grid_of(read, count))
+        inputs += [] if words[0] == "-" else [words[0]]
+    else:
+        changes = [Change(place, wanted, "")]
+    data, lines = changed(read, aec, changes)
+    write_whole(words[-1], data, *inputs)
+    print("\n".join(lines))
+
+
+def changed(read, aec, changes):
+    """Returns the bytes of the file after all changes, and a line about each."""
+    packing, numbers = packing_of(read), {}  # the number that each place becomes
+    for change in changes:
+        try:
+            numbers[change.place] = packing.nearest(change.value)
+        except Refused as fault:
+            raise Refused(f"{change.line}{fault}") from fault
+    first, last = min(numbers), max(numbers)
+    before = numbers_in(read, aec, first, last - first + 1)
+    ordered = sorted(numbers)
+    script = "".join(f"overwrite {it} {packing.sample(numbers[it])}\n" for it in ordered)
+    lines = [
+        f"place {it}: {packing.value(before[it - first])} becomes {packing.value(numbers[it])}"
+        for it in ordered
+    ]
+    return edited(read, aec, script.encode()), lines
 
 
 def take(file, stream, *, message="1"):
@@ -333,5 +393,5 @@ def edit(aec, script, file, out, *, message="1"):
 
 if __name__ == "__main__":
     perform(
-        __doc__, options=options, values=values, set=put_value, take=take, put=put, edit=edit
+        __doc__, options=options, values=values, set=put_values, take=take, put=put, edit=edit
     )

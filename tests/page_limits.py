@@ -3,8 +3,8 @@ many words are a reason to look at a page again, and no failure: no sentence sho
 
 Words are counted as `wc -w` does: whatever is between blanks, also code, tables and marks of lists. Not counted is what a script
 writes into a page, from a line `<!-- Written by .. -->` to a line `<!-- end -->` or the end of the page, and the tables of
-docs/SURFACE.md, which surface.py checks. The pages are those at the top
-and in docs/, README.md of examples/ and of each crate and package, and bench/steps.md. Not among them: docs/theorems/, bench/tables.md
+docs/SURFACE.md, which surface.py checks. The pages are those at the top and in docs/, README.md of examples/ and its folders, and of
+each crate and package, and bench/steps.md. Not among them: docs/theorems/, bench/tables.md
 and LICENSE.
 
 A list item begins a line: ` - ` before a word within a line is an item that was joined to the one before it.
@@ -39,7 +39,7 @@ MOST = {
     "docs/SPEED.md": 1850,
 }
 ALL = 34500
-FOLDERS = ("*.md", "docs/*.md", "examples/*.md", "crates/*/README.md", "bench/steps.md")
+FOLDERS = ("*.md", "docs/*.md", "examples/*.md", "examples/*/README.md", "crates/*/README.md", "bench/steps.md")
 ALONE = ("python/README.md", "rust/*/README.md")
 RUN = 8
 WRITTEN = re.compile(r"(?ms)^<!-- Written by .*?(^<!-- end -->\n|\Z)")

@@ -19,6 +19,7 @@ from program import Program, Tally, asked_of
 from recipe_calls import called
 
 import grib_ccsds
+import grib_grid
 from aec_runs import bytes_of_sample, samples_of
 
 MISSING = 9999.0
@@ -51,6 +52,8 @@ def drawn_message(chance, bits):
     keys = {
         "Ni": columns,
         "Nj": rows,
+        "iDirectionIncrementInDegrees": 30 / (columns - 1),  # the sample's corners stay
+        "jDirectionIncrementInDegrees": 60 / (rows - 1),
         "packingType": "grid_ccsds",
         "bitsPerValue": bits,
         "ccsdsBlockSize": block_size,
@@ -65,15 +68,24 @@ def drawn_message(chance, bits):
     return eccodes.codes_get_message(handle)
 
 
+def points_of(handle):
+    """Returns the latitudes and longitudes that eccodes lists, to six digits."""
+    keys = ("latitudes", "longitudes")
+    pairs = zip(*(eccodes.codes_get_array(handle, key) for key in keys))
+    return [(round(float(north), 6), round(float(east), 6)) for north, east in pairs]
+
+
 class Read:
     """A message as eccodes reads it."""
 
     def __init__(self, data):
         handle = eccodes.codes_new_from_message(data)
         self.values = [float(x) for x in eccodes.codes_get_values(handle)]
+        self.where = points_of(handle)
         self.has_bitmap = eccodes.codes_get(handle, "bitmapPresent") == 1
         self.bits = eccodes.codes_get(handle, "bitsPerValue")
         self.count = eccodes.codes_get(handle, "numberOfValues")
+        self.columns = eccodes.codes_get(handle, "Ni")
         self.flags = eccodes.codes_get(handle, "ccsdsFlags")
         self.reference = eccodes.codes_get_double(handle, "referenceValue")
         self.binary = eccodes.codes_get_long(handle, "binaryScaleFactor")
@@ -140,6 +152,7 @@ def try_case(number, seed, aec, tally):
     after.values[changed] = read.values[changed]
     tally.holds(after.values == read.values, f"{what}: the other values")
     try_values(what, read, data, chance, aec, tally)
+    try_table(what, read, data, chance, aec, tally)
 
 
 def try_values(what, read, data, chance, aec, tally):
@@ -151,16 +164,20 @@ def try_values(what, read, data, chance, aec, tally):
     first = chance.randrange(read.count)
     length = chance.randint(1, read.count - first)
     status, said = called(grib_ccsds.values, aec.path, source, f"{first}:{length}", **more)
-    pairs = zip(map(float, said.split()), (read.values[i] for i in places[first:]))
+    lines = [line.split() for line in said.split("\n")[1:-1]]
+    pairs = ((float(it[-1]), read.values[i]) for it, i in zip(lines, places[first:]))
     near = [abs(a - b) <= 1e-12 * max(abs(b), 1) for a, b in pairs if read.takes_value(b)]
-    is_so = status == 0 and said.count("\n") == length and all(near)
-    tally.holds(is_so, f"{what}: values: {said}")
+    is_so = status == 0 and [int(it[0]) for it in lines] == [*range(first, first + length)]
+    tally.holds(is_so and all(near), f"{what}: values: {said}")
+    there = [(float(it[1]), float(it[2])) for it in lines if len(it) == 4]
+    is_so = there == [read.where[i] for i in places[first : first + length]]
+    tally.holds(is_so, f"{what}: latitudes and longitudes: {there[:3]}")
 
     least, most = read.value(0), read.value((1 << read.bits) - 1)
     step = read.value(1) - least
     x = chance.randrange(read.numbers())
     value = read.value(x) + chance.uniform(-0.4, 0.4) * step
-    answer = called(grib_ccsds.put_value, aec.path, source, str(first), repr(value), out, **more)
+    answer = called(grib_ccsds.put_values, aec.path, source, str(first), repr(value), out, **more)
     written = aec.read("out") or b""
     tally.holds(answer[0] == 0 and written.startswith(data + b"between"), f"{what}: set: {answer}")
     after, changed = Read(written[len(data) + 7 :]), places[first]
@@ -169,9 +186,56 @@ def try_values(what, read, data, chance, aec, tally):
     after.values[changed] = read.values[changed]
     tally.holds(after.values == read.values, f"{what}: set: the other values")
     for value in (least - 0.6 * step, most + 0.6 * step):
-        answer = called(grib_ccsds.put_value, aec.path, source, "0", repr(value), out, **more)
+        answer = called(grib_ccsds.put_values, aec.path, source, "0", repr(value), out, **more)
         is_so = answer[0] == 1 and "doesn't fit the packing" in answer[1]
         tally.holds(is_so, f"{what}: set {value}: {answer}")
+
+
+def try_table(what, read, data, chance, aec, tally):
+    """Tests `set` with tables of several values: by place, by row and column, and by latitude and
+    longitude."""
+    aec.write("message", data)
+    places, columns = read.places(), read.columns
+    drawn = sorted(chance.sample(range(read.count), min(read.count, 10)))
+    chosen = {place: read.value(chance.randrange(read.numbers())) for place in drawn}
+    for names in ("place value", "row,column,value", "latitude longitude value"):
+        lines = [names]
+        for place, value in chance.sample(sorted(chosen.items()), len(chosen)):
+            i = places[place]
+            ways = {
+                "place value": (place,),
+                "row,column,value": divmod(i, columns),
+                "latitude longitude value": read.where[i],
+            }
+            lines.append(" ".join(map(repr, (*ways[names], value))))
+        aec.write("table", "\n".join(lines).encode())
+        paths = (aec.path, aec.file("message"), aec.file("table"), aec.file("out"))
+        status, said = called(grib_ccsds.put_values, *paths)
+        is_so = status == 0 and said.count("\n") == len(chosen)
+        tally.holds(is_so, f"{what}: table by {names}: {said}")
+        after = Read(aec.read("out") or data)
+        wanted = list(read.values)
+        for place, value in chosen.items():
+            wanted[places[place]] = value
+        step = 2.0**read.binary / 10.0**read.decimal
+        pairs = zip(after.values, wanted)
+        near = [abs(a - b) <= max(1e-3 * step, 1e-12 * abs(b)) for a, b in pairs]
+        tally.holds(all(near), f"{what}: table by {names}: the values")
+
+
+def try_grids(aec, tally):
+    """Compares the points that the script finds without eccodes with those of eccodes."""
+    regular = ("regular_ll_sfc_grib2", "regular_ll_pl_grib2", "regular_gg_sfc_grib2")
+    reduced = ("reduced_gg_sfc_grib2", "reduced_gg_pl_80_grib2", "reduced_gg_pl_160_grib2")
+    for name in regular + reduced:
+        handle = eccodes.codes_grib_new_from_samples(name)
+        aec.write("message", eccodes.codes_get_message(handle))
+        section = grib_ccsds.message_of(aec.file("message"), "1").section(3)
+        wanted = points_of(handle)
+        found = grib_grid.own_points(section, grib_grid.rows_of(section)) or []
+        near = [max(abs(a - b) for a, b in zip(*pair)) < 2e-5 for pair in zip(found, wanted)]
+        is_so = len(found) == len(wanted) and all(near)
+        tally.holds(is_so, f"points of {name}: {found[:2]}, {wanted[:2]}")
 
 
 def main():
@@ -181,6 +245,7 @@ def main():
         aec = Program(asked.program, folder)
         for number in asked.numbers:
             try_case(number, asked.seed, aec, tally)
+        try_grids(aec, tally)
     tally.print()
     return 1 if tally.failed else 0
 

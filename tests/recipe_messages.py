@@ -10,6 +10,7 @@ from settings import Settings
 import grib_ccsds
 
 SIGN = 1 << 15  # of the two bytes of a scale factor
+HEAD = 16  # bytes of section 0
 GRIB = os.path.join(EXAMPLES, "grib_ccsds.py")
 
 
@@ -81,8 +82,8 @@ def try_message(number, chance, aec, tally):
     first, length = place, chance.randint(0, len(samples) - place)
     numbers = [x % (1 << settings.bits) for x in samples[first : first + length]]
     answer = called(grib_ccsds.values, aec.path, out, f"{first}:{length}")
-    wanted = "".join(f"{250 + x * 2.0 ** -9}\n" for x in numbers)
-    tally.check(f"{what}: values", answer, (0, wanted))
+    lines = "".join(f"{it} {250 + x * 2.0 ** -9}\n" for it, x in enumerate(numbers, first))
+    tally.check(f"{what}: values", answer, (0, f"place value\n{lines}"))
     try_fit(what, stream, (source, taken, out), aec, tally)
 
 
@@ -130,7 +131,7 @@ def try_bad_messages(aec, script, tally):
             (grib_ccsds.take, source, out),
             (grib_ccsds.put, aec.path, source, source, out),
             (grib_ccsds.values, aec.path, source, "0:1"),
-            (grib_ccsds.put_value, aec.path, source, "0", "250", out),
+            (grib_ccsds.put_values, aec.path, source, "0", "250", out),
             (grib_ccsds.edit, aec.path, source, source, out),
         ):
             aec.write("m", data)
@@ -155,6 +156,7 @@ def try_bad_messages(aec, script, tally):
     aec.write("script", b"overwrite 0 1")
     try_words(aec, script, tally)
     tally.check("FILE stays", aec.read("m"), good)
+    try_tables(aec, tally)
     try_several(aec, script, tally)
 
 
@@ -175,6 +177,8 @@ def try_words(aec, script, tally):
         (["values", aec.path, "m", "3"], 2, "3 is no FIRST:LEN"),
         (["values", aec.path, "m", "3:-1"], 2, "-1 is no number of values"),
         (["values", aec.path, "m", "7:2"], 1, "aec: position outside the 8 samples"),
+        (["set", aec.path, "m", "o"], 2, "set takes the words AEC FILE TABLE OUT, or AEC FILE"),
+        (["set", aec.path, "m", "none", "o"], 1, "none: No such file or directory"),
         (["set", aec.path, "m", "-1", "1", "o"], 2, "-1 is no place"),
         (["set", aec.path, "m", "0", "x", "o"], 2, "x is no value"),
         (["set", aec.path, "m", "8", "250", "o"], 1, "aec: position outside the 8 samples"),
@@ -187,6 +191,86 @@ def try_words(aec, script, tally):
     for words in (["--help"], ["edit", "--help"]):
         status, said = script.run(GRIB, *words)
         tally.holds(status == 0 and said.startswith("The coded stream"), f"help {words}: {said}")
+
+
+# Octets 15 to 72 of section 3, template 3.0: 4 columns from 10 degrees east to 25, 2 rows from 50
+# degrees north to 40, row by row from the north.
+SMALL_GRID = bytes(16) + struct.pack(">IIII", 4, 2, 0, 0xFFFFFFFF)
+CORNERS = 50000000, 10000000, 48, 40000000, 25000000
+SMALL_GRID += struct.pack(">IIBIIII", *CORNERS, 5000000, 10000000) + b"\0"
+
+
+def with_grid(data, grid, points, bitmap=b"\xff"):
+    """Returns a message with another section 3, of so many points, and another section 6."""
+    head = struct.pack(">BIBBH", 0, points, 0, 0, 0)
+    other = data.replace(section(3, bytes(67)), section(3, head + grid))
+    other = other.replace(section(6, b"\xff"), section(6, bitmap))
+    return other[:8] + struct.pack(">Q", len(other)) + other[HEAD:]
+
+
+def try_tables(aec, tally):
+    """Sets the values of tables in a message of 2 rows and 4 columns, with a bitmap and without,
+    and tries tables that are refused. Needs no eccodes."""
+    settings, out, table = Settings(bits=8, block_size=8, interval=2), aec.file("o"), aec.file("t")
+    stream = aec.answer(settings.options(), bytes(range(8)))
+    good = with_grid(message(stream, 8, settings, 8), SMALL_GRID, 8)
+    few = aec.answer(settings.options(), bytes(range(6)))
+    without_1_and_7 = b"\0\xbe"
+    masked = with_grid(message(few, 6, settings, 8), SMALL_GRID, 8, without_1_and_7)
+    plain = message(stream, 8, settings, 8)  # of no known grid
+    step = 2.0**-9
+
+    def changed(place):
+        return f"place {place}: {250 + place * step} becomes 250.0\n"
+
+    for data, text, wanted in (
+        (good, b"place value\n3 250\n0 250\n", f"{changed(0)}{changed(3)}"),
+        (good, b"# spikes\n\nrow,column,value\n1,2,250\n", changed(6)),
+        (good, b"Latitude;Longitude;Value\n41;-346;250\n", changed(5)),
+        (good, b"place latitude longitude value\n5 0 0 250\n", changed(5)),
+        (masked, b"row\tcolumn\tvalue\r\n1\t2\t250\r\n", changed(5)),
+        (masked, b"latitude longitude value\n60 24 250\n", changed(2)),
+        (plain, b"value place\n250 7\n", changed(7)),
+    ):
+        aec.write("m", data)
+        aec.write("t", text)
+        status, said = called(grib_ccsds.put_values, aec.path, aec.file("m"), table, out)
+        tally.holds(status == 0 and said.startswith(wanted), f"table {text}: {said}")
+    second = "line 2 of {t}: "
+    for data, text, wanted in (
+        (good, b"place value\n3 250\n8 250\n", "line 3 of {t}: position outside the 8 samples"),
+        (good, b"place value\n3 250\n\n3 250.1\n", "line 4 of {t}: place 3 is also that of line 2"),
+        (good, b"place value\n3 249.9\n", "line 2 of {t}: 249.9 doesn't fit the packing"),
+        (good, b"place value\n3 x\n", "line 2 of {t}: x is no value"),
+        (good, b"place value\n-3 250\n", "line 2 of {t}: -3 is no place"),
+        (good, b"place value\n3\n", "line 2 of {t} has 1 entries, not 2"),
+        (good, b"3 250\n", "the first line of {t} must name the columns"),
+        (good, b"row value\n3 250\n", "the first line of {t} must name the columns"),
+        (good, b"place value\n", "{t} has no values"),
+        (good, b"", "{t} has no values"),
+        (good, b"row column value\n0 4 250\n", "line 2 of {t}: there is no row 0 with a column 4"),
+        (good, b"row column value\n2 0 250\n", "line 2 of {t}: there is no row 2 with a column 0"),
+        (good, b"latitude longitude value\n91 0 250\n", f"{second}91 0 is no place"),
+        (masked, b"row column value\n0 1 250\n", f"{second}the bitmap says that this point"),
+        (masked, b"place value\n6 250\n", "line 2 of {t}: position outside the 6 samples"),
+        (plain, b"row column value\n0 0 250\n", f"{second}the points of this grid"),
+        (plain, b"latitude longitude value\n0 0 250\n", f"{second}where the points lie"),
+    ):
+        aec.write("m", data)
+        aec.write("t", text)
+        aec.write("o", b"old")
+        status, said = called(grib_ccsds.put_values, aec.path, aec.file("m"), table, out)
+        is_so = status == 1 and said.startswith(wanted.format(t=table)) and aec.read("o") == b"old"
+        tally.holds(is_so, f"table {text}: {said}")
+    answer = called(grib_ccsds.put_values, aec.path, aec.file("m"), table, table)
+    tally.check("a table as OUT: status", answer[0], 1)
+    aec.write("m", masked)
+    wanted = "".join(f"{it} {where} {250 + it * step}\n" for it, where in enumerate((
+        "50.000000 10.000000", "50.000000 20.000000", "50.000000 25.000000",
+        "40.000000 10.000000", "40.000000 15.000000", "40.000000 20.000000",
+    )))
+    answer = called(grib_ccsds.values, aec.path, aec.file("m"))
+    tally.check("values with a bitmap", answer, (0, f"place latitude longitude value\n{wanted}"))
 
 
 def try_several(aec, script, tally):

@@ -84,6 +84,8 @@ def missing_for(block):
         "hdf5-tools": ("h5diff", shutil.which("h5diff")),
         "parallel": ("parallel", shutil.which("parallel")),
         "libaecp.so": ("aecp ", os.path.exists(LIBRARY)),
+        "libaecp.so to preload": ("examples/preload", os.path.exists(LIBRARY)),
+        "libaec-dev": ("examples/preload", os.path.exists("/usr/include/libaec.h")),
     }
     return [name for name, (word, is_there) in needs.items() if word in block and not is_there]
 
@@ -95,16 +97,24 @@ def wanted_words(line):
 
 
 def prepare_page(aec):
-    """Copies examples/, `aec` and `aecp` to where the commands of the page find them. Returns the
-    environment for the commands."""
+    """Copies examples/, `aec`, `aecp` and libaecp to where the commands of the page find them.
+    Returns the environment for the commands."""
     bin_folder = aec.file("bin")
     os.mkdir(bin_folder)
     os.symlink(aec.path, os.path.join(bin_folder, "aec"))
     os.symlink(EXAMPLES, aec.file("examples"))
     aec.write("bin/aecp", f'#!/bin/sh\nexec "{sys.executable}" -m aecp "$@"\n'.encode())
     os.chmod(aec.file("bin/aecp"), 0o755)
-    path = f"{bin_folder}:{os.environ['PATH']}"
-    return {**os.environ, "PATH": path, "PYTHONPATH": os.path.join(TOP, "python"), "AECP_LIBRARY": LIBRARY}
+    for name in ("libaecp.so", "libaecp.so.0"):
+        os.symlink(LIBRARY, os.path.join(bin_folder, name))
+    return {
+        **os.environ,
+        "PATH": f"{bin_folder}:{os.environ['PATH']}",
+        "PYTHONPATH": os.path.join(TOP, "python"),
+        "AECP_LIBRARY": LIBRARY,
+        "LIBRARY_PATH": bin_folder,  # where cc looks for libraries
+        "LD_LIBRARY_PATH": bin_folder,
+    }
 
 
 def try_block(block, aec, environment, tally):

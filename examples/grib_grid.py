@@ -1,0 +1,197 @@
+"""Where the points of a GRIB2 field lie: latitude and longitude of each, in the order in which the
+message stores them. Uses eccodes' Python where it is installed; without it, only the standard
+library, which is enough for latitude/longitude grids and Gaussian grids of the whole globe."""
+
+import math
+from dataclasses import dataclass
+from functools import cached_property
+from typing import NamedTuple
+
+from aec_runs import Refused
+
+UNKNOWN = 0xFFFFFFFF
+EASTWARD = (0, 64)  # scanning modes: rows of points to the east, from the north or from the south
+REGULAR, GAUSSIAN = 0, 40  # grid definition templates 3.0 and 3.40
+NO_BITMAP = 255
+
+
+class Point(NamedTuple):
+    """A place of the earth, in degrees."""
+
+    latitude: float
+    longitude: float
+
+
+@dataclass
+class Grid:
+    """The points of a field, in the order in which the message stores them."""
+
+    row_lengths: list[int] | None  # of all points; None if the points lie in no rows
+    points: list[Point] | None  # None if they aren't known
+    places: dict[int, int]  # by the number of a point that has a value
+
+    def located(self):
+        """Returns the points that have a value, by place."""
+        self.require_points()
+        return [self.points[number] for number in self.places]
+
+    def require_points(self):
+        """Refuses a grid whose points aren't known."""
+        if self.points is None:
+            raise Refused("where the points lie isn't known for this grid: give places")
+
+    def place_in_row(self, row, column):
+        """Returns the place of a point, by its row and column."""
+        if self.row_lengths is None:
+            raise Refused("the points of this grid lie in no known rows: give places")
+        if row >= len(self.row_lengths) or column >= self.row_lengths[row]:
+            raise Refused(f"there is no row {row} with a column {column}")
+        return self.place_of(sum(self.row_lengths[:row]) + column)
+
+    def nearest(self, latitude, longitude):
+        """Returns the place of the point that is nearest on the sphere."""
+        self.require_points()
+        wanted = direction(Point(latitude, longitude))
+        near = max(range(len(self.points)), key=lambda it: dot(wanted, self.directions[it]))
+        return self.place_of(near)
+
+    @cached_property
+    def directions(self):
+        """Returns the unit vectors to all points."""
+        return [direction(it) for it in self.points]
+
+    def place_of(self, point):
+        """Returns the place of a point, by its number. Refuses a point that has no value."""
+        if point not in self.places:
+            raise Refused("the bitmap says that this point has no value")
+        return self.places[point]
+
+
+def direction(point):
+    """Returns the unit vector to a point."""
+    latitude, longitude = math.radians(point.latitude), math.radians(point.longitude)
+    level = math.cos(latitude)
+    return level * math.cos(longitude), level * math.sin(longitude), math.sin(latitude)
+
+
+def dot(one, other):
+    """Returns the product of two vectors, which is greater the nearer their points are."""
+    return one[0] * other[0] + one[1] * other[1] + one[2] * other[2]
+
+
+def number(data, octet, length):
+    """Returns the unsigned number that begins at an octet, counted from 1."""
+    return int.from_bytes(data[octet - 1 : octet - 1 + length], "big")
+
+
+def angle(section, octet):
+    """Returns the degrees that begin at an octet. The highest bit is the sign."""
+    value, basic, parts = number(section, octet, 4), number(section, 39, 4), number(section, 43, 4)
+    size = -(value & ~(1 << 31)) if value >> 31 else value
+    return size / 1e6 if basic in (0, UNKNOWN) or not parts else size * basic / parts
+
+
+def grid_of(message, count):
+    """Returns the grid of a message with `count` values."""
+    section = message.section(3)
+    points, rows = number(section, 7, 4), rows_of(section)
+    return Grid(rows, points_of(message, section, rows), places_of(message, points, count))
+
+
+def places_of(message, points, count):
+    """Returns the place of each point that has a value."""
+    section = message.section(6) if 6 in message.sections else bytes([0, 0, 0, 6, 6, NO_BITMAP])
+    if section[5] == NO_BITMAP:
+        return {it: it for it in range(count)}
+    if section[5] != 0:
+        raise Refused("the bitmap isn't in the message: give places")
+    bits = "".join(f"{byte:08b}" for byte in section[6:])
+    held = [it for it in range(min(points, len(bits))) if bits[it] == "1"]
+    if len(held) != count:
+        raise Refused(f"the bitmap has {len(held)} points with a value, the message {count}")
+    return {point: place for place, point in enumerate(held)}
+
+
+def rows_of(section):
+    """Returns the lengths of the rows of a grid of latitudes and longitudes; None for others."""
+    template, points = number(section, 13, 2), number(section, 7, 4)
+    if template not in (REGULAR, GAUSSIAN) or len(section) < 72 or section[71] not in EASTWARD:
+        return None
+    columns, rows, size = number(section, 31, 4), number(section, 35, 4), section[10]
+    if columns != UNKNOWN:
+        lengths = [columns] * (rows if columns * rows == points else 0)
+    else:
+        lengths = [number(section, 73 + size * row, size) for row in range(rows if size else 0)]
+    return lengths if lengths and sum(lengths) == points else None
+
+
+def points_of(message, section, rows):
+    """Returns all points of a message, or None if they aren't known."""
+    found = points_of_eccodes(message, rows)
+    if found is None and rows is not None:
+        found = own_points(section, rows)
+    return found if found is not None and len(found) == number(section, 7, 4) else None
+
+
+def points_of_eccodes(message, rows):
+    """Returns the points that eccodes knows; None without eccodes, and for scanning modes in which
+    eccodes doesn't list points as the message does."""
+    try:
+        import eccodes
+    except Exception:  # noqa: BLE001 - without its C library it isn't an ImportError
+        return None
+    handle = eccodes.codes_new_from_message(message.data[message.first : message.end])
+    try:
+        if rows is None and eccodes.codes_get(handle, "scanningMode") != 64:
+            return None
+        pairs = (eccodes.codes_get_array(handle, key) for key in ("latitudes", "longitudes"))
+        return [Point(float(north), float(east)) for north, east in zip(*pairs)]
+    except eccodes.CodesInternalError:
+        return None
+    finally:
+        eccodes.codes_release(handle)
+
+
+def own_points(section, rows):
+    """Returns the points of rows that this script can locate, else None."""
+    is_reduced = number(section, 31, 4) == UNKNOWN
+    south, east = angle(section, 56), angle(section, 60)
+    north, west = angle(section, 47), angle(section, 51)
+    if number(section, 13, 2) == GAUSSIAN:
+        latitudes = gaussian_latitudes(number(section, 68, 4))
+        if len(latitudes) != len(rows):
+            return None  # a part of the globe
+        latitudes = latitudes if north > south else latitudes[::-1]
+    elif is_reduced:
+        return None
+    else:
+        latitudes = spread(north, south, len(rows))
+    span = (east - west) % 360 or 360 * (east != west)
+    points = []
+    for latitude, length in zip(latitudes, rows):
+        longitudes = spread(west, west + (360 - 360 / length if is_reduced else span), length)
+        points += [Point(latitude, it % 360 if it >= 360 else it) for it in longitudes]
+    return points
+
+
+def spread(first, last, count):
+    """Returns numbers at equal distances."""
+    step = (last - first) / (count - 1) if count > 1 else 0
+    return [first + step * it for it in range(count)]
+
+
+def gaussian_latitudes(half):
+    """Returns the latitudes of 2 HALF rows, from north to south: zeros of a Legendre polynomial."""
+    degree, northern = 2 * half, []
+    for row in range(half):
+        x = math.cos(math.pi * (row + 0.75) / (degree + 0.5))
+        for _ in range(10):
+            before, value = 1.0, x
+            for k in range(2, degree + 1):
+                before, value = value, ((2 * k - 1) * x * value - (k - 1) * before) / k
+            step = value * (x * x - 1) / (degree * (x * value - before))
+            x -= step
+            if abs(step) < 1e-15:
+                break
+        northern.append(math.degrees(math.asin(x)))
+    return northern + [-it for it in reversed(northern)]
