@@ -120,11 +120,12 @@ class Cluster:
 
     def __init__(self, address: str) -> None:
         try:
-            from distributed import Client
+            import distributed
         except ImportError:
             raise Failed("--dask needs the Python module distributed") from None
         try:
-            self.client: Any = Client(address, timeout=20, set_as_default=False)
+            connect: Any = distributed.Client
+            self.client: Any = connect(address, timeout=20, set_as_default=False)
         except (OSError, ValueError, TypeError) as error:
             raise Failed(f"no dask scheduler at {address}: {error or type(error).__name__}") from None
         self.workers = max(1, sum(self.client.ncores().values()))
@@ -158,7 +159,8 @@ def pool_of(jobs: Optional[int], dask: Optional[str], items: int) -> Iterator[Po
             cluster.close()
         return
     workers = min(jobs or cores(), items)
-    yield Processes(workers) if workers > 1 else Here()
+    pool: Pool = Processes(workers) if workers > 1 else Here()
+    yield pool
 
 
 class Deal(Generic[T, R]):

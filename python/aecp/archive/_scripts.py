@@ -4,15 +4,11 @@ The library's call `edit` applies scripts. The check here only finds all bad lin
 
 from __future__ import annotations
 
-import csv
-import io
-import math
 import re
 import struct
 from collections.abc import Iterable, Iterator
 from typing import Callable, Literal, NamedTuple, Optional
 
-from aecp.archive._form import Refused
 from aecp.options import Options
 
 MOST_SAMPLES = 2**32
@@ -89,7 +85,9 @@ def judge(edit: Edit, count: int, options: Options) -> int:
     """Returns the number of samples after an edit of `count` samples. Raises BadLine if the edit doesn't fit."""
     first, end = edit.exchanged(count)
     if end > count:
-        what = f"the {len(edit.values)} samples from place {first} on reach" if end - first > 1 and first < count else f"place {first} is"
+        what = f"place {first} is"
+        if end - first > 1 and first < count:
+            what = f"the {len(edit.values)} samples from place {first} on reach"
         if edit.name == "remove":
             what = f"{edit.places[1]} samples from place {first} on reach"
         raise BadLine(f"{what} outside the {count} samples")
@@ -100,7 +98,8 @@ def judge(edit: Edit, count: int, options: Options) -> int:
     if edit.values and not least <= min(edit.values) <= max(edit.values) <= most:
         index = next(i for i, value in enumerate(edit.values) if not least <= value <= most)
         place = (count if edit.name == "append" else first) + index
-        raise BadLine(f"the value {edit.values[index]} for place {place} is out of range: {least} to {most}")
+        value = edit.values[index]
+        raise BadLine(f"the value {value} for place {place} is out of range: {least} to {most}")
     return left
 
 
@@ -145,15 +144,6 @@ class Store:
         return [int.from_bytes(part, self.byte_order, signed=self.signed) for part in parts]
 
 
-def edited(samples: bytearray, edits: list[Edit], options: Options) -> bytearray:
-    """Applies checked edits to stored samples, and returns these samples."""
-    store = Store(options)
-    for edit in edits:
-        first, end = edit.exchanged(len(samples) // store.width)
-        samples[first * store.width : end * store.width] = store.bytes_of(edit.values)
-    return samples
-
-
 def parts_of(edits: list[Edit], width: int) -> Optional[list[tuple[int, int]]]:
     """Returns the parts of the stored samples that overwrites may have changed: the first byte and the length of each, in order. Returns
     None if there are other edits, which may have moved samples."""
@@ -175,9 +165,11 @@ def all_parts(size: int, width: int) -> Iterator[tuple[int, int]]:
         yield first, SMALL_PART * width
 
 
-def differing_runs(before: bytes, after: bytes, width: int, parts: Optional[list[tuple[int, int]]] = None) -> Iterator[tuple[int, int]]:
-    """Yields the runs of samples that differ in two lists of the same length: the first place of each run, and the place after its last.
-    With `parts`, only these are compared."""
+def differing_runs(
+    before: bytes, after: bytes, width: int, parts: Optional[list[tuple[int, int]]] = None
+) -> Iterator[tuple[int, int]]:
+    """Yields the runs of samples that differ in two lists of the same length: the first place of
+    each run, and the place after its last. With `parts`, only these are compared."""
     begun = end = -1
     for first, length in all_parts(len(before), width) if parts is None else parts:
         for at in differing_places(before, after, first, length, width):
@@ -190,13 +182,18 @@ def differing_runs(before: bytes, after: bytes, width: int, parts: Optional[list
         yield begun, end
 
 
-def differing_places(before: bytes, after: bytes, first: int, length: int, width: int) -> Iterator[int]:
-    """Yields the places of samples that differ, in a part of the bytes. Halves that are equal are skipped."""
+def differing_places(
+    before: bytes, after: bytes, first: int, length: int, width: int
+) -> Iterator[int]:
+    """Yields the places of samples that differ, in a part of the bytes. Halves that are equal are
+    skipped."""
     ours, theirs = before[first : first + length], after[first : first + length]
     if ours == theirs:
         return
     if length <= LEAF * width:
-        yield from ((first + at) // width for at in range(0, len(ours), width) if ours[at : at + width] != theirs[at : at + width])
+        for at in range(0, len(ours), width):
+            if ours[at : at + width] != theirs[at : at + width]:
+                yield (first + at) // width
         return
     half = (length // width + 1) // 2 * width
     yield from differing_places(before, after, first, half, width)
@@ -204,8 +201,9 @@ def differing_places(before: bytes, after: bytes, first: int, length: int, width
 
 
 def longest(most: int, is_equal: Callable[[int, int], bool]) -> int:
-    """Returns how many samples are equal before the first that differs, at most `most`. `is_equal(first, last)` compares those from place
-    `first` on and before place `last`. All places count from the front, or all from the end."""
+    """Returns how many samples are equal before the first that differs, at most `most`.
+    `is_equal(first, last)` compares those from place `first` on and before place `last`. All places
+    count from the front, or all from the end."""
     count, step = 0, PART
     while count < most:
         step = min(step, most - count)
@@ -231,8 +229,8 @@ def equal_end(before: bytes, after: bytes, width: int, front: int) -> int:
     """Returns how many samples at the end are equal, without the front."""
 
     def is_equal(first: int, last: int) -> bool:
-        ours, theirs = (data[len(data) - last * width : len(data) - first * width] for data in (before, after))
-        return ours == theirs
+        ours = before[len(before) - last * width : len(before) - first * width]
+        return ours == after[len(after) - last * width : len(after) - first * width]
 
     return longest(min(len(before), len(after)) // width - front, is_equal)
 
@@ -247,7 +245,9 @@ class Change(NamedTuple):
     samples: int
 
 
-def change_of(before: bytes, after: bytes, width: int, parts: Optional[list[tuple[int, int]]] = None) -> Change:
+def change_of(
+    before: bytes, after: bytes, width: int, parts: Optional[list[tuple[int, int]]] = None
+) -> Change:
     """Returns the change that names fewer samples. With `parts`, only these are compared."""
     both = min(len(before), len(after))
     number = abs(len(before) - len(after)) // width
@@ -267,7 +267,8 @@ def change_of(before: bytes, after: bytes, width: int, parts: Optional[list[tupl
 
 
 def difference(before: bytes, after: bytes, change: Change, options: Options) -> Iterator[bytes]:
-    """Yields the lines of a script that makes the samples `after` from the samples `before`. `change` is how they differ."""
+    """Yields the lines of a script that makes the samples `after` from the samples `before`.
+    `change` is how they differ."""
     store = Store(options)
     width, front, end = store.width, change.front * store.width, change.end * store.width
     if change.runs is not None:
@@ -284,7 +285,7 @@ def difference(before: bytes, after: bytes, change: Change, options: Options) ->
 
 
 def lines_of(name: str, first: int, data: bytes, store: Store) -> Iterator[bytes]:
-    """Yields the lines that put stored samples at a place, with at most A_LINE values each."""
+    """Yields the lines that write stored samples at a place, with at most A_LINE values each."""
     size = A_LINE * store.width
     for part in range(0, len(data), size):
         values = " ".join(map(str, store.values_of(data[part : part + size])))
