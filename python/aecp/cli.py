@@ -9,13 +9,14 @@ from __future__ import annotations
 import argparse
 import contextlib
 import os
+import re
 import signal
 import sys
 from collections.abc import Iterator
 from typing import Any, Callable, NoReturn, Optional
 
 from aecp import __version__
-from aecp.archive._console import Console, open_standard_streams, reason
+from aecp._console import Console, open_standard_streams, reason
 
 ABOUT = """Keeps files of samples: each becomes one file, FILE.aec, that can be checked, edited, and
 restored to every earlier state bit for bit. FILE.aec begins with a coded stream (CCSDS 121.0-B-3)."""
@@ -23,6 +24,7 @@ END = """`aecp help VERB` has a page for each verb. The status is 0 if all is do
 refused or damaged, 2 if the arguments are wrong."""
 STOPS = (signal.SIGINT, signal.SIGTERM, signal.SIGHUP)
 Parser = argparse.ArgumentParser
+SIGNED = ("--fill", "--min", "--max")  # options whose values may be negative
 Group = Any  # a parser, or a group of its options
 # For each verb: what it does, and examples.
 VERBS = {
@@ -129,20 +131,21 @@ def add_range(group: Group) -> None:
     group.add_argument("--range", metavar="FIRST:LEN", help="LEN samples from place FIRST on, counted from 0")
 
 
-def add_limit(group: Group) -> None:
-    """Adds the option --limit."""
-    group.add_argument("--limit", type=int, metavar="COUNT", help="refuse files of more than COUNT samples")
-
-
-def add_json(group: Group) -> None:
-    """Adds the option --json."""
-    group.add_argument("--json", action="store_true", help="print the result as JSON")
-
-
-def add_pool(group: Group) -> None:
-    """Adds the options that say where the work is done."""
-    group.add_argument("--jobs", type=int, metavar="N", help="processes at once (one a core)")
-    group.add_argument("--dask", metavar="ADDRESS", help="deal the files to the workers of this dask scheduler")
+def add_running(parser: Parser, words: str) -> None:
+    """Adds the options that several verbs share, as far as a verb has them."""
+    group = parser.add_argument_group("running")
+    if "jobs" in words:
+        group.add_argument("--jobs", type=int, metavar="N", help="processes at once (one a core)")
+    if "dask" in words:
+        text = "deal the files to the workers of this dask scheduler"
+        group.add_argument("--dask", metavar="ADDRESS", help=text)
+    if "limit" in words:
+        text = "refuse files of more than COUNT samples"
+        group.add_argument("--limit", type=int, metavar="COUNT", help=text)
+    if "json" in words:
+        group.add_argument("--json", action="store_true", help="print the result as JSON")
+    text = "print no progress and no notices"
+    group.add_argument("-q", "--quiet", action="store_true", help=text)
 
 
 def add_kept(parser: Parser, many: bool = True) -> None:
@@ -151,7 +154,6 @@ def add_kept(parser: Parser, many: bool = True) -> None:
         parser.add_argument("paths", nargs="+", metavar="PATH", help="a kept file, or a folder with all kept files below it")
     else:
         parser.add_argument("file", metavar="FILE.aec", help="a kept file")
-    add_limit(parser)
 
 
 def add_keep(keep: Parser) -> None:
@@ -171,9 +173,6 @@ def add_keep(keep: Parser) -> None:
     after.add_argument("--repair", action="store_true", help="write a damaged FILE.aec anew, if the file's checksum is recorded in it")  # fmt: skip
     after.add_argument("--remove", action="store_true", help="remove each original that FILE.aec restores, if it hasn't changed meanwhile")  # fmt: skip
     add_options(keep)
-    add_pool(keep)
-    add_limit(keep)
-    add_json(keep)
 
 
 def add_back(back: Parser) -> None:
@@ -181,19 +180,6 @@ def add_back(back: Parser) -> None:
     back.add_argument("--to", metavar="DIR", help="write below DIR, instead of beside each kept file")
     back.add_argument("-o", dest="out", metavar="OUT", help="the name of the new file, for one FILE.aec; - is standard output")
     add_range(back)
-    add_pool(back)
-    add_json(back)
-
-
-def add_check(check: Parser) -> None:
-    add_kept(check)
-    add_pool(check)
-    add_json(check)
-
-
-def add_info(info: Parser) -> None:
-    add_kept(info)
-    add_json(info)
 
 
 def add_export(export: Parser) -> None:
@@ -207,13 +193,11 @@ def add_edit(edit: Parser) -> None:
     edit.add_argument("--table", action="store_true", help="SCRIPT is a table, whatever its name")
     add_shape(edit)
     edit.add_argument("--frame", type=int, metavar="K", help="the frame of a table without such a column, counted from 0")
-    add_limit(edit)
 
 
 def add_log(log: Parser) -> None:
     add_kept(log, many=False)
     log.add_argument("--script", type=int, metavar="K", help="print the script of the edit with this number")
-    add_json(log)
 
 
 def add_forget(forget: Parser) -> None:
@@ -226,8 +210,6 @@ def add_diff(diff: Parser) -> None:
     diff.add_argument("second", metavar="B.aec")
     diff.add_argument("--script", action="store_true", help="print a script, even if both files have a shape")
     add_shape(diff)
-    add_limit(diff)
-    add_json(diff)
 
 
 def add_pixels(pixels: Parser) -> None:
@@ -241,8 +223,6 @@ def add_fit(fit: Parser) -> None:
     fit.add_argument("--all", action="store_true", help="try whole files, not only the first 4 MiB of each")
     fit.add_argument("--stream", type=int, metavar="COUNT", help="PATH is a plain stream of COUNT samples: print the options that decode it")  # fmt: skip
     add_options(fit)
-    fit.add_argument("--jobs", type=int, metavar="N", help="processes at once (one a core)")
-    add_json(fit)
 
 
 def add_view(view: Parser) -> None:
@@ -265,11 +245,17 @@ def add_rescue(rescue: Parser) -> None:
     rescue.add_argument("--count", type=int, metavar="N", help="the number of samples; needs -n")
     add_range(rescue)
     add_options(rescue)
-    add_json(rescue)
 
 
+# The options of `add_running` that each verb has.
+RUNNING = {
+    "keep": "jobs dask limit json", "back": "jobs dask limit json", "check": "jobs dask limit json",
+    "info": "limit json", "export": "limit", "edit": "limit", "undo": "limit", "log": "limit json",
+    "forget": "limit", "diff": "limit json", "pixels": "", "fit": "jobs json", "view": "limit",
+    "rescue": "limit json",
+}  # fmt: skip
 ADD: dict[str, Callable[[Parser], None]] = {
-    "keep": add_keep, "back": add_back, "check": add_check, "info": add_info, "export": add_export,
+    "keep": add_keep, "back": add_back, "check": add_kept, "info": add_kept, "export": add_export,
     "edit": add_edit, "undo": add_kept, "log": add_log, "forget": add_forget, "diff": add_diff,
     "pixels": add_pixels, "fit": add_fit, "view": add_view, "rescue": add_rescue,
 }  # fmt: skip
@@ -284,12 +270,12 @@ def parsers() -> tuple[Parser, dict[str, Parser]]:
     for name, (short, long, examples) in VERBS.items():
         usual = argparse.RawDescriptionHelpFormatter
         text = long or f"{short[0].upper()}{short[1:]}."
-        epilog = f"examples:\n  {examples}".replace("\n", "\n  ") + "\n "
+        epilog = "\n  ".join(["examples:", *examples.split("\n")])
         verb = verbs.add_parser(
             name, help=short, description=text, epilog=epilog, formatter_class=usual, allow_abbrev=False
         )
         ADD[name](verb)
-        verb.add_argument("-q", "--quiet", action="store_true", help="print no progress and no notices")
+        add_running(verb, RUNNING[name])
         verb.set_defaults(verb=name)
         made[name] = verb
     shown = verbs.add_parser("help", help="prints the page of a verb", allow_abbrev=False)
@@ -307,7 +293,7 @@ def parsed(argv: Optional[list[str]]) -> argparse.Namespace:
     verb, rest = verbs[words[0]], words[1:]
     at = rest.index("--") if "--" in rest else len(rest)
     # parse_intermixed_args loses "--", so that names after it would become options: each gets a mark meanwhile.
-    marked = rest[:at] + [f"\0{word}" for word in rest[at + 1 :]]
+    marked = joined(rest[:at]) + [f"\0{word}" for word in rest[at + 1 :]]
     asked = verb.parse_intermixed_args(marked)
     for name, value in vars(asked).items():
         setattr(asked, name, unmarked(value))
@@ -316,6 +302,17 @@ def parsed(argv: Optional[list[str]]) -> argparse.Namespace:
         sys.exit(0)
     asked.usage = verb.format_usage()
     return asked
+
+
+def joined(words: list[str]) -> list[str]:
+    """Returns words in which an option and its negative value are one: argparse takes -3 for an option."""
+    made: list[str] = []
+    for word in words:
+        if made and made[-1] in SIGNED and re.fullmatch("-[0-9]+", word):
+            made[-1] += f"={word}"
+        else:
+            made.append(word)
+    return made
 
 
 def unmarked(value: Any) -> Any:

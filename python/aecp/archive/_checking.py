@@ -4,7 +4,7 @@ from __future__ import annotations
 
 from typing import Optional
 
-from aecp.archive._console import reason
+from aecp._console import reason
 from aecp.archive._file import Progress, opened
 from aecp.archive._form import Damaged
 from aecp.archive._outcomes import Outcome, ranges_json, ranges_text

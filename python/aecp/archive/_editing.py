@@ -9,6 +9,7 @@ from collections.abc import Iterator, Sequence
 from dataclasses import dataclass
 from typing import NamedTuple, Optional
 
+from aecp import streams
 from aecp.archive import _history, _saving
 from aecp.archive._file import ArchiveFile
 from aecp.archive._form import Damaged, Facts, Refused, State, Sum
@@ -16,12 +17,21 @@ from aecp.archive._keeping import clean
 from aecp.archive._outcomes import Outcome
 from aecp.archive._pairs import pair_at
 from aecp.archive._paths import Found
-from aecp.archive._scripts import change_of, difference, judged, parts_of, script_within
+from aecp.archive._scripts import (
+    change_of,
+    difference,
+    edited,
+    judged,
+    parts_of,
+    script_within,
+)
 from aecp.archive._tables import grid_of, refuse, script_of
 from aecp.archive._writer import Writer
 from aecp.calls import decode_bytes
 from aecp.faults import Fault
-from aecp.streams import edit as edit_stream
+
+
+WRONG = "the new stream doesn't decode to its samples"
 
 
 @dataclass(frozen=True)
@@ -98,10 +108,12 @@ def edit(how: Editing, found: Found) -> Outcome:
         stream = it.stream()
         before = it.samples(stream)
         try:
-            later, count = edit_stream(stream, it.facts.count, script, it.facts.options)
+            later, count = streams.edit(stream, it.facts.count, script, it.facts.options)
         except Fault as fault:
             raise Refused(f"the script is refused, and nothing is changed: {fault}") from None
         after = decoded(later, it.facts, count)
+        if after != edited(bytearray(before), checked.edits, it.facts.options):
+            raise Refused(f"{WRONG}: nothing is changed. Please report this")
         width = it.facts.options.storage
         change = change_of(after, before, width, parts_of(checked.edits, width))
         lines = script_within(difference(after, before, change, it.facts.options), len(stream))
@@ -130,7 +142,7 @@ def inverse_of(
     """Returns what undoes an edit. A script was tried: it makes the earlier stream bit for bit."""
     if lines is not None:
         try:
-            is_exact = edit_stream(later, count, lines, facts.options)[0] == earlier
+            is_exact = streams.edit(later, count, lines, facts.options)[0] == earlier
         except Fault:
             is_exact = False
         lines = lines if is_exact else None
@@ -152,7 +164,7 @@ def replace(it: Held, stream: bytes, state: State, history: Sequence[_history.En
         writer = Writer(out, facts.options)
         writer.write_stream(stream, state.count)
         if writer.end() != state:
-            raise Refused("the new stream doesn't decode to its samples: nothing is changed. Please report this")
+            raise Refused(f"{WRONG}: nothing is changed. Please report this")
         writer.finish(history, facts.source, shape_for(facts, state.count), facts.dtype, state.samples)
 
 
@@ -182,7 +194,7 @@ def earlier_stream(
     if isinstance(inverse, _history.Difference):
         return _history.apply_difference(inverse, stream, wanted.stream.bytes)
     try:
-        return edit_stream(stream, it.facts.count, inverse.text(), it.facts.options)[0]
+        return streams.edit(stream, it.facts.count, inverse.text(), it.facts.options)[0]
     except Fault as fault:
         raise Refused(f"what undoes the edit doesn't fit: {fault}") from None
 

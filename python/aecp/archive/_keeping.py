@@ -11,6 +11,7 @@ from collections.abc import Iterator
 from dataclasses import dataclass, replace
 from typing import BinaryIO, Optional
 
+from aecp import streams
 from aecp.archive import _saving
 from aecp.archive._file import ArchiveFile, opened
 from aecp.archive._form import MOST_SIDE, Damaged, Facts, Refused, Source
@@ -23,7 +24,6 @@ from aecp.archive._writer import Writer
 from aecp.calls import encode
 from aecp.faults import Fault, SampleRefused
 from aecp.options import Options
-from aecp.streams import edit
 
 PIECE = 4 << 20  # bytes that are read at once
 FRONT = 1 << 18  # bytes of a file that a hint tries
@@ -424,7 +424,7 @@ def write_edited(writer: Writer, samples: bytes, facts: Facts, scripts: list[byt
     stream, count = encode(samples, facts.options), len(samples) // facts.options.storage
     for script in scripts:
         try:
-            stream, count = edit(stream, count, script, facts.options)
+            stream, count = streams.edit(stream, count, script, facts.options)
         except Fault as fault:
             raise Refused(f"the recorded edits can't be applied again: {fault}") from None
     writer.write_stream(stream, count)

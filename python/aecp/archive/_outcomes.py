@@ -5,7 +5,7 @@ from __future__ import annotations
 from dataclasses import dataclass, field
 from typing import Any, Callable
 
-from aecp.archive._console import reason
+from aecp._console import reason
 from aecp.archive._form import Damaged, Range
 from aecp.archive._paths import Found
 from aecp.options import Options
@@ -45,6 +45,8 @@ class Guarded:
     def __call__(self, found: Found) -> Outcome:
         try:
             return self.work(found)
+        except BrokenPipeError:
+            raise
         except Damaged as error:
             return Outcome("refused", f"{reason(error, found.path)}{advice(error)}")
         except Exception as error:

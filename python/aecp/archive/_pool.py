@@ -159,8 +159,10 @@ def pool_of(jobs: Optional[int], dask: Optional[str], items: int) -> Iterator[Po
             cluster.close()
         return
     workers = min(jobs or cores(), items)
-    pool: Pool = Processes(workers) if workers > 1 else Here()
-    yield pool
+    if workers > 1:
+        yield Processes(workers)
+    else:
+        yield Here()
 
 
 class Deal(Generic[T, R]):

@@ -11,8 +11,8 @@ from collections.abc import Iterator
 from dataclasses import dataclass
 from typing import Any, BinaryIO, NamedTuple, Optional
 
+from aecp._console import shown
 from aecp.archive import _saving
-from aecp.archive._console import shown
 from aecp.archive._file import ArchiveFile, opened
 from aecp.archive._form import Damaged, Exists, Range, Refused
 from aecp.archive._outcomes import Outcome, ranges_json, ranges_text
@@ -122,11 +122,24 @@ def write_original(kept: ArchiveFile, file: BinaryIO) -> int:
     whole.update(tail)
     if samples.hexdigest() != kept.facts.samples.sha256:
         raise Damaged("other samples", "its samples aren't those that were kept: their SHA-256 is another")
-    if source is not None and whole.hexdigest() == source.sha256 and file is not sys.stdout.buffer:
+    is_original = source is not None and whole.hexdigest() == source.sha256
+    if source is not None and not is_original and is_as_kept(kept):
+        raise Damaged("other source", "its head or tail isn't that of the file that was kept")
+    if source is not None and is_original and file is not sys.stdout.buffer:
         file.flush()
         with contextlib.suppress(OSError):
             os.utime(file.fileno(), ns=(source.mtime_ns, source.mtime_ns))
     return size
+
+
+def is_as_kept(kept: ArchiveFile) -> bool:
+    """Returns whether the samples are those of the file that was kept, as far as the history says so."""
+    try:
+        history = kept.history()
+    except Damaged:
+        return False
+    first = history[0].after if history and history[0].what == "keep" else None
+    return first is not None and first.samples == kept.facts.samples
 
 
 def export(path: str, out: str, limit: Optional[int]) -> None:

@@ -144,6 +144,16 @@ class Store:
         return [int.from_bytes(part, self.byte_order, signed=self.signed) for part in parts]
 
 
+def edited(samples: bytearray, edits: list[Edit], options: Options) -> bytearray:
+    """Applies checked edits to stored samples, and returns these samples: what an edited stream is
+    compared with."""
+    store = Store(options)
+    for edit in edits:
+        first, end = edit.exchanged(len(samples) // store.width)
+        samples[first * store.width : end * store.width] = store.bytes_of(edit.values)
+    return samples
+
+
 def parts_of(edits: list[Edit], width: int) -> Optional[list[tuple[int, int]]]:
     """Returns the parts of the stored samples that overwrites may have changed: the first byte and the length of each, in order. Returns
     None if there are other edits, which may have moved samples."""

@@ -10,7 +10,7 @@ from array import array
 from collections.abc import Iterator, Sequence
 from typing import Any, NamedTuple, Optional
 
-from aecp.archive._console import shown
+from aecp._console import shown
 from aecp.archive._file import ArchiveFile
 from aecp.archive._form import Damaged, Facts, Refused, State
 from aecp.archive._history import Entry

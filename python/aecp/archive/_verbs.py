@@ -12,9 +12,9 @@ from dataclasses import replace
 from functools import partial
 from typing import Any, Callable, Optional
 
+from aecp._console import Console, reason, shown
 from aecp.archive import _editing, _fitting, _keeping, _restoring, _showing
 from aecp.archive._checking import check
-from aecp.archive._console import Console, reason, shown
 from aecp.archive._file import opened
 from aecp.archive._form import Damaged, Refused
 from aecp.archive._headers import layout_of
@@ -240,15 +240,23 @@ def do_check(asked: argparse.Namespace, console: Console) -> int:
     return status or int(sound < len(found))
 
 
+def take_out(asked: argparse.Namespace) -> None:
+    """Takes the second of two paths as OUT if the first is named FILE.aec and the second isn't."""
+    if len(asked.paths) == 2 and asked.out is None and asked.to is None:
+        first, second = asked.paths
+        if first.endswith(STREAM) and not second.endswith(STREAM) and not os.path.isdir(second):
+            asked.paths, asked.out = [first], second
+
+
 def do_back(asked: argparse.Namespace, console: Console) -> int:
     part = part_of(asked)
     if asked.out is not None and asked.to is not None:
         raise Wrong("-o and --to exclude each other")
+    take_out(asked)
     passed: list[Passed] = []
     found = list(kept_files(asked.paths, passed))
-    if asked.out is not None and (len(found) != 1 or passed):
-        if len(found) > 1:
-            raise Wrong("-o needs a single FILE.aec: use --to for several")
+    if asked.out is not None and len(found) > 1:
+        raise Wrong("OUT needs a single FILE.aec: use --to for several")
     out = asked.out if asked.out in (None, "-") else os.path.abspath(asked.out)
     to = asked.to and os.path.abspath(asked.to)
     how = _restoring.Restoring(to, out, part, asked.limit)
@@ -394,6 +402,8 @@ def say_difference(asked: argparse.Namespace, console: Console, it: _showing.Com
 
 def do_pixels(asked: argparse.Namespace, console: Console) -> int:
     shape = shape_of(asked)
+    if shape is not None and grid_of(shape) is None:
+        raise Wrong("--shape: rows and columns are needed, such as 512x512")
 
     def work() -> int:
         text = input_of(asked.table).decode("utf-8-sig", "replace")
