@@ -30,8 +30,6 @@ def check(limit: Optional[int], found: Found, progress: Progress = None) -> Outc
 
 def damaged(error: Damaged, count: int) -> Outcome:
     """Returns the outcome for a damaged file."""
-    text = reason(error, "")
-    if error.ranges:
-        text += f": {ranges_text(error.ranges, count)}"
+    text = ranges_text(error.ranges, count) if error.ranges else reason(error, "")
     more = {"damage": error.kind, "ranges": ranges_json(error.ranges)}
     return Outcome("damaged", text, more=more)
