@@ -48,19 +48,14 @@ MOST_RESTRICTED = 4  # bits of a sample with the restricted set of code options
 MOST_SAMPLES_A_BYTE = 64 * 64 * 8  # no byte of a stream can mean more
 BLOCK_SIZES = (8, 16, 32, 64)
 RANGES = {"bits": (1, 32), "block_size": (8, 64), "interval": (1, 4096)}
-STATE_FIELDS = ("samples", "stream")
-TRAILER_FIELDS = (
-    "format",
-    "written_by",
-    "written",
-    "options",
-    "samples",
-    "stream",
-    "shape",
-    "dtype",
-    "source",
-    "index",
-    "history",
+OPTION_FIELDS = frozenset(NUMBERS + FLAGS)
+STATE_FIELDS = frozenset(["samples", "stream"])
+SAMPLES_FIELDS = frozenset(["count", "bytes", "sha256"])
+SUM_FIELDS = frozenset(["bytes", "sha256"])
+SOURCE_FIELDS = frozenset(["bytes", "sha256", "mtime_ns", "head", "tail"])
+PART_FIELDS = frozenset(["bytes", "crc32"])
+TRAILER_FIELDS = STATE_FIELDS.union(
+    ["format", "written_by", "written", "options", "shape", "dtype", "source", "index", "history"]
 )
 BOOL = "|b1"
 DTYPE = re.compile(r"[<>][iu][248]|\|[iu]1|\|b1")
@@ -304,7 +299,7 @@ def trailer_in(value: Any) -> Trailer:
 
 def options_in(value: Any) -> Options:
     """Returns options that the format has. Raises Wrong for others."""
-    fields = members(value, NUMBERS + FLAGS, "options")
+    fields = members(value, OPTION_FIELDS, "options")
     given: dict[str, Any] = {name: flag(fields[name], name) for name in FLAGS}
     given.update({name: number(fields[name], *RANGES[name], name) for name in NUMBERS})
     options = Options(**given)
@@ -330,9 +325,9 @@ def state_in(value: Any, storage: Optional[int] = None) -> State:
     storage: the bytes of a stored sample, if they are known.
     """
     fields = members(value, STATE_FIELDS, "a state")
-    given = members(fields["samples"], ("count", "bytes", "sha256"), "samples")
+    given = members(fields["samples"], SAMPLES_FIELDS, "samples")
     samples, count = sum_in(given, "samples"), number(given["count"], 0, MOST_COUNT, "count")
-    stream = sum_in(members(fields["stream"], ("bytes", "sha256"), "stream"), "stream")
+    stream = sum_in(members(fields["stream"], SUM_FIELDS, "stream"), "stream")
     sizes = range(1, 5) if storage is None else (storage,)
     if all(samples.bytes != count * size for size in sizes):
         raise Wrong("the samples have another number of bytes than their count says")
@@ -375,7 +370,7 @@ def bounds_of(dtype: str) -> tuple[int, int]:
 
 def source_in(value: Any) -> Source:
     """Returns a source. Raises Wrong."""
-    fields = members(value, ("bytes", "sha256", "mtime_ns", "head", "tail"), "source")
+    fields = members(value, SOURCE_FIELDS, "source")
     whole = sum_in(fields, "source")
     time_ns = number(fields["mtime_ns"], -(1 << 63), (1 << 63) - 1, "mtime_ns")
     head, tail = side_in(fields["head"], "head"), side_in(fields["tail"], "tail")
@@ -392,6 +387,6 @@ def side_in(value: Any, what: str) -> bytes:
 
 def part_in(value: Any, what: str) -> Part:
     """Returns the size and the CRC-32 of an index or a history. Raises Wrong."""
-    fields = members(value, ("bytes", "crc32"), what)
+    fields = members(value, PART_FIELDS, what)
     size = number(fields["bytes"], 0, MOST_BYTES, f"bytes of {what}")
     return Part(size, number(fields["crc32"], 0, (1 << 32) - 1, f"crc32 of {what}"))

@@ -45,6 +45,10 @@ WHAT = {
     "undo": ("before", "after", "edit"),
     "forget": ("entries",),
 }
+ENTRY_FIELDS = frozenset(["what", "when", "by"])
+DIFFERENCE = frozenset(["difference"])
+DIFFERENCE_FIELDS = frozenset(["front", "end", "middle"])
+SAME = frozenset(["same"])
 
 
 @dataclass(frozen=True)
@@ -275,7 +279,7 @@ def entry_in(value: Any, earlier: Sequence[Entry]) -> Entry:
         raise Wrong("an entry is of no known kind")
     if what == "forget" and earlier:
         raise Wrong("an entry of the kind forget isn't the first")
-    fields = members(value, ("what", "when", "by", *WHAT[what]), "an entry")
+    fields = members(value, ENTRY_FIELDS.union(WHAT[what]), "an entry")
     given = {name: READERS[name](fields[name], earlier) for name in WHAT[what]}
     return Entry(what, time_of(fields["when"], "when"), text(fields["by"], "by"), **given)
 
@@ -319,8 +323,8 @@ def inverse_field(value: Any, earlier: Sequence[Entry]) -> Optional[Inverse]:
         return same_of(value, "inverse", earlier)
     if "script" in value:
         return Script(base64_of(value["script"], "inverse"))
-    fields = members(value, ("difference",), "inverse")["difference"]
-    given = members(fields, ("front", "end", "middle"), "a difference")
+    fields = members(value, DIFFERENCE, "inverse")["difference"]
+    given = members(fields, DIFFERENCE_FIELDS, "a difference")
     front = number(given["front"], 0, MOST_BYTES, "front")
     end = number(given["end"], 0, MOST_BYTES, "end")
     return Difference(front, end, base64_of(given["middle"], "middle"))
@@ -328,7 +332,7 @@ def inverse_field(value: Any, earlier: Sequence[Entry]) -> Optional[Inverse]:
 
 def same_of(value: dict[str, Any], name: str, earlier: Sequence[Entry]) -> Inverse:
     """Returns the script or the inverse of the earlier entry that `same` names. Raises Wrong."""
-    place = number(members(value, ("same",), name)["same"], 0, len(earlier) - 1, "same")
+    place = number(members(value, SAME, name)["same"], 0, len(earlier) - 1, "same")
     found: Optional[Inverse] = getattr(earlier[place], name)
     if found is None:
         raise Wrong(f"same names an entry without {name}")

@@ -79,7 +79,7 @@ class Samples:
 
     def __getitem__(self, key: Any) -> Any:
         numpy = numpy_if_there()
-        if numpy is None:
+        if numpy is None or self.ndim == 1 and type(key) in (int, slice):
             return self._plain_item(key)
         keys = key if isinstance(key, tuple) else (key,)
         if not all(is_basic(it) for it in keys):
@@ -95,7 +95,7 @@ class Samples:
         return made.reshape(shape)[()]
 
     def _plain_item(self, key: Any) -> Any:
-        """Returns a sample or a part of a list, without numpy."""
+        """Returns a sample or a part of a list, also without numpy."""
         if self.ndim != 1 or not (isinstance(key, slice) or hasattr(key, "__index__")):
             needed_numpy()
         if not isinstance(key, slice):
@@ -105,7 +105,7 @@ class Samples:
             return self._read(0, 0)
         least, most = min(places[0], places[-1]), max(places[0], places[-1])
         part = self._read(least, most - least + 1)
-        return part[::-1][:: -places.step] if places.step < 0 else part[:: places.step]
+        return part if places.step == 1 else part[:: places.step]
 
     def _fill(self, made: Any, axes: list[Axis]) -> None:
         """Fills an array with what is asked for along some axes. What lies close together is

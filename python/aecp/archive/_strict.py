@@ -11,7 +11,6 @@ import binascii
 import json
 import re
 import zlib
-from collections.abc import Iterable
 from typing import Any, NoReturn
 
 MOST_TEXT = 200  # characters of a text
@@ -78,9 +77,9 @@ def no_number(text: str) -> NoReturn:
     raise ValueError("a number isn't whole")
 
 
-def members(value: Any, names: Iterable[str], what: str) -> dict[str, Any]:
+def members(value: Any, names: frozenset[str], what: str) -> dict[str, Any]:
     """Returns an object with exactly these names. Raises Wrong for anything else."""
-    if type(value) is not dict or value.keys() != set(names):
+    if type(value) is not dict or value.keys() != names:
         raise Wrong(f"{what} has other fields than it must have")
     return value
 
