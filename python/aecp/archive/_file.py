@@ -316,8 +316,9 @@ def opened(path: str, limit: Optional[int] = None) -> ArchiveFile:
     except Damaged as damaged:
         if damaged.kind != "no trailer":
             raise
-        from aecp.archive._pairs import converted, pair_at
+        from aecp.archive._pairs import converted
 
-        if not pair_at(path):
+        data = converted(path, limit)
+        if data is None:
             raise
-    return ArchiveFile.of_bytes(converted(path, limit), limit)
+    return ArchiveFile.of_bytes(data, limit)

@@ -50,22 +50,17 @@ def note_at(path: str) -> Optional[str]:
     return None
 
 
-def pair_at(path: str) -> bool:
-    """Returns whether a stream has a note of the older form beside it."""
-    return note_at(path) is not None
-
-
-def converted(path: str, limit: Optional[int] = None) -> bytes:
-    """Returns the bytes of a FILE.aec of today's form, made from a pair. The pair stays.
+def converted(path: str, limit: Optional[int] = None) -> Optional[bytes]:
+    """Returns the bytes of a FILE.aec of today's form, made from a pair, which stays; or None, if
+    there is no note.
 
     limit: the most samples that it may have.
 
-    Raises OSError; Damaged if the pair is damaged; Refused if a file of it is no regular file, or
-    it has more samples than the limit.
+    Raises OSError; Damaged if the pair is damaged; Refused if it has more samples than the limit.
     """
     note = note_at(path)
     if note is None:
-        raise Damaged("no trailer", "it has neither a trailer nor a note beside it")
+        return None
     try:
         data = whole(note, MOST_HISTORY)
         facts, history = new_note(data) if note.endswith(NOTE) else old_note(data)
