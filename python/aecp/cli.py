@@ -369,6 +369,9 @@ def main(argv: Optional[list[str]] = None) -> NoReturn:
     handle_stops()
     try:
         from aecp.archive import _verbs
+        from aecp.library import LIBRARY
+
+        LIBRARY.load_now()
     except ImportError as error:
         sys.exit(console.complain(str(error)))
     try:
