@@ -4,15 +4,17 @@ from __future__ import annotations
 
 import ctypes
 import os
+import signal
 import sys
 from pathlib import Path
-from typing import Any
+from typing import Any, Iterator
 
 import pytest
 from hypothesis import HealthCheck, settings
 
 TOP = Path(__file__).resolve().parents[2]
 sys.path[:0] = [str(TOP / "python"), str(TOP / "tests"), str(Path(__file__).parent)]
+SECONDS = 150
 QUIET = [HealthCheck.too_slow, HealthCheck.function_scoped_fixture, HealthCheck.data_too_large, HealthCheck.filter_too_much]
 for name, examples in (("usual", 40), ("thorough", 400)):
     settings.register_profile(
@@ -52,3 +54,17 @@ def outside(tmp_path: Path) -> str:
     folder.mkdir()
     (folder / "file").write_bytes(b"untouched")
     return str(folder)
+
+
+@pytest.fixture(autouse=True)
+def limited(times: int) -> Iterator[None]:
+    """Ends a test that takes too long."""
+
+    def late(*_: Any) -> None:
+        raise TimeoutError("the test takes too long")
+
+    before = signal.signal(signal.SIGALRM, late)
+    signal.alarm(SECONDS * times)
+    yield
+    signal.alarm(0)
+    signal.signal(signal.SIGALRM, before)

@@ -115,6 +115,8 @@ class Started:
         status = 70
         try:
             os.setsid()
+            signal.alarm(0)
+            signal.signal(signal.SIGALRM, signal.SIG_DFL)
             for number, file in enumerate(self.files[:3]):
                 os.dup2(file.fileno(), number)
             fresh_streams()

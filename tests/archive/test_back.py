@@ -62,7 +62,8 @@ def test_folders(place: str) -> None:
     found = tree(os.path.join(place, "out"))
     assert sorted(it for it in found.values() if isinstance(it, bytes)) == sorted(wanted.values())
     done(place, "back", "d/a.aec", "d/run0/b.aec", "--to", "some")
-    assert sorted(it for it in tree(os.path.join(place, "some")).values() if isinstance(it, bytes)) == sorted([wanted["a"], wanted["run0/b"]])
+    found = tree(os.path.join(place, "some"))
+    assert sorted(it for it in found.values() if isinstance(it, bytes)) == sorted([wanted["a"], wanted["run0/b"]])
 
 
 def test_one_bad_file_of_a_folder(place: str) -> None:
@@ -170,7 +171,7 @@ def test_never_over_a_file_that_appears_meanwhile(place: str) -> None:
 
 def appearing(number: int) -> None:
     """Makes the file `out` before the hooks' call with this number, in this process."""
-    from test_keep import patch_calls
+    from test_keep_remove import patch_calls
 
     def appear() -> None:
         with open("out", "xb") as file:

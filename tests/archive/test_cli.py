@@ -21,9 +21,9 @@ def shell(place: str, line: str, **environment: str) -> Any:
     """Runs a line of the shell, in which `aecp` is the command."""
     made = f'aecp() {{ "{sys.executable}" -m aecp "$@"; }}\n{line}'
     clean = {key: it for key, it in os.environ.items() if key != "LD_PRELOAD"}
-    return subprocess.run(
-        ["sh", "-c", made], cwd=place, env={**clean, **environment}, capture_output=True, text=True, errors="replace", timeout=60, check=False
-    )
+    clean.update(environment)
+    words = ["sh", "-c", made]
+    return subprocess.run(words, cwd=place, env=clean, capture_output=True, text=True, errors="replace", timeout=60, check=False)
 
 
 @pytest.mark.parametrize("verb", VERBS)
@@ -72,7 +72,8 @@ def test_numbers_out_of_range(place: str) -> None:
     large = str(10**23)
     for words in (
         ["fit", "f", "-n", "99999999999"], ["rescue", "f.aec", "-n", "99999999999"], ["rescue", "f.aec", "-n", "16", "--count", large],
-        ["view", "f.aec", "o.png", "-n", "16", "--range", f"{large}:1", "--width", "3"], ["keep", "f", "-n", large], ["keep", "f", "-n", "-1"],
+        ["view", "f.aec", "o.png", "-n", "16", "--range", f"{large}:1", "--width", "3"], ["keep", "f", "-n", large],
+        ["keep", "f", "-n", "-1"],
         ["keep", "f", "-n", "16", "-j", large], ["keep", "f", "-n", "16", "-r", "0"], ["keep", "f", "-n", "16", "--jobs", "0"],
         ["keep", "f", "-n", "16", "--jobs", "-3"], ["keep", "f", "-n", "16", "--skip", large], ["keep", "f", "-n", "16", "--skip", "-1"],
         ["keep", "f", "-n", "16", "--shape", f"{large}x2"], ["keep", "f", "-n", "16", "--shape", "0x"], ["keep", "f", "-n", "x"],

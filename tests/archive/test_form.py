@@ -18,7 +18,7 @@ from hypothesis import strategies as st
 from making import (
     FAST, USUAL, keep, made, noise, options_of, parts_at, read, samples_for, settings_by_chance, sound_parts, walk, write,
 )  # fmt: skip
-from plain_form import GROUP_BITS, demand_sound, packed, parts_of, sha256
+from plain_form import GROUP_BITS, packed, parts_of, sha256
 from running import command, done
 from settings import Settings
 

@@ -113,22 +113,36 @@ def test_a_sum_of_capital_letters_is_refused(place: str) -> None:
     assert command(place, "check", "f.aec").status == 1
 
 
+def wrong_fields(fields: dict[str, Any]) -> list[dict[str, Any]]:
+    """Returns changes of a trailer that a strict reader refuses."""
+    changes: list[dict[str, Any]] = [{"more": 1}, {"format": 2.0}, {"format": True}]
+    changes += [{"written": it} for it in ("2026-11-30", "2026-11-30T01:02:03Z\n")]
+    changes += [{"written_by": it} for it in ("aecp \x1b", "aecp \x7f", "é", "x" * 201, None)]
+    changes += [{"shape": it} for it in ([3000, 2], [-3000], [3000.0], [True], "3000", [0])]
+    changes += [{"dtype": it} for it in (7, "x" * 300, "\x1b", "<f8", "<u4")]
+    for name, values in (
+        ("bits", (True, 0, -1, "16", 1.0, 33, 2**32)),
+        ("block_size", (True, 0, -1, "16", 1.0, 17, 2**32)),
+        ("interval", (True, 0, -1, "16", 1.0, 4097, 2**32)),
+        ("signed", (0, 1, None, "x")),
+        ("pad", (0, 1, None, "x")),
+        ("preprocess", (0, 1, None, "x")),
+    ):
+        changes += [{"options": {**fields["options"], name: it}} for it in values]
+    sums = ("0" * 63, "0" * 65, "g" * 64, sha256(b"").upper(), "0" * 63 + "\n", None)
+    changes += [{"samples": {**fields["samples"], "bytes": it}} for it in (0, 6001, True, 6000.0)]
+    changes += [{"samples": {**fields["samples"], "sha256": it}} for it in sums]
+    wrong_source = ({"more": 1}, {"bytes": -1}, {"mtime_ns": 1.5}, {"head": 7}, {"tail": "!"})
+    return changes + [{"source": {**fields["source"], **it}} for it in wrong_source]
+
+
 def test_fields_are_demanded_exactly(place: str) -> None:
     """Each field of another type, and each one too many or too few, is refused by aecp.open."""
     from aecp.archive import Damaged
 
     path = keep(place, "f", walk(1, 3000), FAST)
     sound = parts_at(path)
-    changes: list[dict[str, Any]] = [{"more": 1}, {"format": 2.0}, {"format": True}, {"written": "2026-11-30"}, {"written": "2026-11-30T01:02:03Z\n"}]
-    changes += [{"written_by": it} for it in ("", "aecp \x1b", "aecp \x7f", "é", "x" * 201, None)]
-    changes += [{"shape": it} for it in ([3000, 2], [-3000], [3000.0], [True], "3000", [0])]
-    changes += [{"dtype": it} for it in (7, "x" * 300, "\x1b", "<f8", "<u4")]
-    changes += [{"options": {**sound.fields["options"], name: it}} for name in ("bits", "block_size", "interval") for it in (True, 0, -1, "16", 1.0, 2**32)]
-    changes += [{"options": {**sound.fields["options"], name: it}} for name in ("signed", "pad", "preprocess") for it in (0, 1, None, "x")]
-    changes += [{"samples": {**sound.fields["samples"], "bytes": it}} for it in (0, 6001, True, 6000.0)]
-    changes += [{"samples": {**sound.fields["samples"], "sha256": it}} for it in ("0" * 63, "0" * 65, "g" * 64, sha256(b"").upper(), "0" * 63 + "\n", None)]
-    changes += [{"source": {**sound.fields["source"], **it}} for it in ({"more": 1}, {"bytes": -1}, {"mtime_ns": 1.5}, {"head": 7}, {"tail": "!"})]
-    for change in changes:
+    for change in wrong_fields(sound.fields):
         parts = sound.copy()
         parts.fields.update(change)
         write(place, "f.aec", parts.sealed())

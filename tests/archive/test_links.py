@@ -202,7 +202,8 @@ def test_random_attacks(place: str, outside: str, times: int) -> None:
     data = read(place, "f.aec")
     before = tree(outside)
     path = os.path.join(place, "f.aec")
-    verbs: list[Any] = [["edit", "f.aec", "-"], ["undo", "f.aec"], ["check", "f.aec"], ["back", "f.aec", "-"], ["forget", "f.aec", "--keep", "9"]]
+    lines = ("edit f.aec -", "undo f.aec", "check f.aec", "back f.aec -", "forget f.aec --keep 9")
+    verbs: list[Any] = [it.split() for it in lines]
     for _ in range(60 * times):
         running = start(place, *chance.choice(verbs), how=How(given=SCRIPT, seconds=15))
         time.sleep(chance.random() * 0.02)

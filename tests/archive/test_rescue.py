@@ -17,6 +17,13 @@ from test_check import ranges_of
 
 numpy = pytest.importorskip("numpy")
 
+LIMITED = """
+import resource, sys
+resource.setrlimit(resource.RLIMIT_AS, (200 << 20,) * 2)
+from aecp.cli import main
+main(sys.argv[1:])
+"""
+
 
 def test_one_flipped_bit_costs_one_group(place: str, times: int) -> None:
     """99.9 % of a large file come back in their places; of a smaller one all but a group."""
@@ -206,18 +213,16 @@ def test_a_full_disk(place: str) -> None:
 
 
 def test_a_long_run_of_zeros_is_rescued_in_constant_memory(place: str) -> None:
-    import resource
     import subprocess
     import sys
 
     with aecp.create(os.path.join(place, "f.aec"), aecp.Options(8)) as file:
         for _ in range(300):
             file.write(bytes(1 << 20))
-    code = "import resource, sys; resource.setrlimit(resource.RLIMIT_AS, (200 << 20,) * 2); from aecp.cli import main; main(sys.argv[1:])"
     environment = {key: it for key, it in os.environ.items() if key != "LD_PRELOAD"}
-    assert resource.RLIMIT_AS
-    for words in (["check", "f.aec", "--jobs", "1"], ["back", "f.aec", "out"], ["rescue", "f.aec"], ["back", "f.aec", "-", "--range", "314572790:10"]):
-        ended = subprocess.run([sys.executable, "-c", code, *words], cwd=place, env=environment, capture_output=True, check=False)
+    for line in ("check f.aec --jobs 1", "back f.aec out", "rescue f.aec", "back f.aec - --range 314572790:10"):
+        words = line.split()
+        ended = subprocess.run([sys.executable, "-c", LIMITED, *words], cwd=place, env=environment, capture_output=True, check=False)
         assert ended.returncode == 0, (words, ended.stderr)
     assert os.path.getsize(os.path.join(place, "out")) == 300 << 20
     assert ended.stdout == bytes(10)
