@@ -62,8 +62,9 @@ def project_value(text, name):
 
 def module_files(folder, libraries):
     """Returns the files of the module, by their names in the wheel. `libraries` are the paths of the libraries, by their names in bin/."""
-    names = sorted(it for it in os.listdir(os.path.join(folder, "aecp")) if it.endswith(".py") or it == "py.typed")
-    found = {f"aecp/{name}": data_of(os.path.join(folder, "aecp", name)) for name in names}
+    places = (os.path.join(at, name) for at, _, names in os.walk(os.path.join(folder, "aecp")) for name in names)
+    taken = sorted(it for it in places if it.endswith(".py") or os.path.basename(it) == "py.typed")
+    found = {os.path.relpath(place, folder): data_of(place) for place in taken}
     return {**found, **{place: data_of(libraries[name]) for name, place in PLACES.items()}}
 
 

@@ -183,6 +183,9 @@ def main(argv: Optional[list[str]] = None) -> NoReturn:
             signal.signal(stop, interrupted)
     try:
         from aecp import verbs
+        from aecp.library import LIBRARY
+
+        LIBRARY.load_now()
     except ImportError as error:
         sys.exit(complain(str(error)))
     run: Callable[[argparse.Namespace], int] = getattr(verbs, f"do_{asked.verb}")
