@@ -1,6 +1,7 @@
-"""The command aecp: its words, its help, and how it ends.
+"""The command aecp: its arguments, its help, and how it ends.
 
-Status 0: all is done. 1: something was refused or is damaged. 2: the words are wrong. 128 plus the number of a signal: it was stopped.
+Status 0: all is done. 1: something was refused or is damaged. 2: the arguments are wrong. 128 plus the number of a signal: it was
+stopped.
 """
 
 from __future__ import annotations
@@ -8,201 +9,378 @@ from __future__ import annotations
 import argparse
 import contextlib
 import os
+import re
 import signal
 import sys
 from collections.abc import Iterator
 from typing import Any, Callable, NoReturn, Optional
 
 from aecp import __version__
+from aecp._console import Console, open_standard_streams, reason
 
-ABOUT = """Keeps files of samples as coded streams (CCSDS 121.0-B-3), each beside a note with its options,
-count and checksums. Kept streams can be checked, edited, and restored to every earlier state bit for bit. `aecp VERB --help` has a
-page for each verb. The status is 0 if all is done, 1 if something is refused or damaged, 2 for wrong arguments."""
-EXAMPLES = {
-    "keep": "aecp keep data -n 16 --include '*.raw'    codes the files of the folder data with such names",
-    "back": "aecp back scan.raw.aec                    writes scan.raw",
-    "check": "aecp check data                           reads every kept stream in data",
-    "edit": "echo 'overwrite 20 1' | aecp edit scan.raw.aec -",
-    "undo": "aecp undo scan.raw.aec                    undoes the last edit",
-    "log": "aecp log scan.raw.aec                     what was done, and when",
-    "diff": "aecp diff old.aec new.aec > script        a script that turns old into new",
-    "pixels": "aecp pixels --shape 512x512 bad.csv > script",
-    "info": "aecp info scan.raw.aec",
-    "fit": "aecp fit scan.raw -n 16                   sizes with each block size and interval",
-    "rescue": "aecp rescue scan.raw.aec out.raw          the samples before the bit where decoding stops",
-    "view": "aecp view scan.raw.aec out.png --width 512",
+ABOUT = """Keeps files of samples: each becomes one file, FILE.aec, that can be checked, edited, and
+restored to every earlier state bit for bit. FILE.aec begins with a coded stream (CCSDS 121.0-B-3)."""
+END = """`aecp help VERB` has a page for each verb. The status is 0 if all is done, 1 if something is
+refused or damaged, 2 if the arguments are wrong."""
+STOPS = (signal.SIGINT, signal.SIGTERM, signal.SIGHUP)
+Parser = argparse.ArgumentParser
+SIGNED = ("--fill", "--min", "--max")  # options whose values may be negative
+Group = Any  # a parser, or a group of its options
+# For each verb: what it does, and examples.
+VERBS = {
+    "keep": (
+        "codes files and folders",
+        "Codes each file to FILE.aec. Decodes and compares before FILE.aec gets its name. Replaces nothing.",
+        "aecp keep data -n 16                      every file in the folder data\n"
+        "aecp keep data -n 16 --to /mnt/disk       the same, as /mnt/disk/data/..\n"
+        "aecp keep scan.fits cube.npy              bits, sign, byte order and shape from the headers\n"
+        "aecp keep scan.raw --repair               scan.raw.aec is damaged: writes it anew",
+    ),
+    "back": (
+        "restores originals",
+        "Writes the original of each kept file, and compares its checksum. Never writes over a file.",
+        "aecp back scan.raw.aec                    writes scan.raw\n"
+        "aecp back data --to restored              writes restored/data/..\n"
+        "aecp back scan.raw.aec -o -               to standard output\n"
+        "aecp back scan.raw.aec -o part --range 100:50",
+    ),
+    "check": (
+        "finds damage",
+        "Reads each kept file whole, and names every damaged one with its damaged samples. Writes nothing.",
+        "aecp check data",
+    ),
+    "info": ("prints options, count, shape, checksums", "", "aecp info scan.raw.aec"),
+    "export": (
+        "writes the plain coded stream",
+        "Writes the coded stream alone. `aecp info` prints the options and the count that decode it.",
+        "aecp export scan.raw.aec scan.stream",
+    ),
+    "edit": (
+        "applies a script or a table of pixels",
+        "Applies SCRIPT to each kept file. All lines apply, or none. SCRIPT is the argument that doesn't\n"
+        "end in .aec. A table has a name ending in .csv or .tsv, and columns such as row, column, value.",
+        "echo 'overwrite 20 1 2 3' | aecp edit scan.raw.aec -\n"
+        "aecp edit data/*.aec bad_pixels.csv",
+    ),
+    "undo": ("undoes the last edit", "Undoes the last edit of each kept file, bit for bit.", "aecp undo scan.raw.aec"),
+    "log": ("lists what was done", "", "aecp log scan.raw.aec\naecp log scan.raw.aec --script 3"),
+    "forget": (
+        "drops old history",
+        "Drops the history except its last N entries. Edits that are dropped can't be undone any more.",
+        "aecp forget scan.raw.aec --keep 10",
+    ),
+    "diff": (
+        "prints which samples differ",
+        "Prints the samples that differ: a table of rows and columns if both files have the same shape,\n"
+        "else a script that turns A into B. `aecp edit A.aec` applies both.",
+        "aecp diff old.raw.aec new.raw.aec > changes.csv",
+    ),
+    "pixels": (
+        "turns a table into a script",
+        "Prints the script that a table of pixels means, sorted by place.",
+        "aecp pixels bad_pixels.csv --shape 512x512 > script",
+    ),
+    "fit": (
+        "finds suitable options",
+        "Prints the sizes with each block size and interval, and how many samples an edit codes again.",
+        "aecp fit scan.raw -n 16\naecp fit data -n 16                       all files of a folder\n"
+        "aecp fit --stream 4096 unknown.aec        which options decode a plain stream?",
+    ),
+    "view": (
+        "draws samples in grey",
+        "Draws samples in grey. Black is the 0.5th percentile, white the 99.5th.",
+        "aecp view scan.raw.aec out.png            rows as the file's shape says\n"
+        "aecp view scan.raw.aec out.pgm --width 512 --min 0 --max 4095",
+    ),
+    "rescue": (
+        "writes what damage has left",
+        "Writes all sound samples in their places, and V in the places of the others. Reads files that\n"
+        "`back` refuses, and plain streams.",
+        "aecp rescue scan.raw.aec out.raw --ranges lost.json\n"
+        "aecp rescue stream out.raw -n 16 --count 4096",
+    ),
+}  # fmt: skip
+FLAGS = {
+    "-s": ("signed", "samples are signed"),
+    "-m": ("msb_first", "a sample has its most significant byte first"),
+    "-3": ("three_byte", "samples of 17 to 24 bits have three bytes"),
+    "-t": ("restricted", "the restricted set of code options, for at most 4 bits"),
+    "-p": ("pad", "fill each interval up to a byte boundary"),
+    "--even-blocks": ("even_blocks", "J may be any even number from 8 to 64"),
 }
 
 
-STOPS = (signal.SIGINT, signal.SIGTERM, signal.SIGHUP)
-
-
-def add_options(parser: argparse.ArgumentParser, needs_bits: bool) -> None:
+def add_options(parser: Parser) -> None:
     """Adds the options of coding, which are those of `aec`."""
     group = parser.add_argument_group("options of coding")
-    bits = "bits of a sample, 1 to 32; a file of samples doesn't say how many"
-    group.add_argument("-n", dest="bits", type=int, required=needs_bits, metavar="N", help=bits)
+    group.add_argument("-n", dest="bits", type=int, metavar="N", help="bits of a sample, 1 to 32")
     group.add_argument("-j", dest="block_size", type=int, metavar="J", help="samples in a block: 8, 16, 32 or 64 (16)")
     group.add_argument("-r", dest="interval", type=int, metavar="R", help="blocks in an interval, 1 to 4096 (128)")
-    flags = {
-        "-s": ("signed", "samples are signed"),
-        "-m": ("msb_first", "a sample has its most significant byte first"),
-        "-3": ("three_byte", "samples of 17 to 24 bits have three bytes"),
-        "-t": ("restricted", "the restricted set of code options, for at most 4 bits"),
-        "-p": ("pad", "fill each interval up to a byte boundary"),
-        "--even-blocks": ("even_blocks", "J may be any even number from 8 to 64"),
-    }
-    for word, (name, text) in flags.items():
+    for word, (name, text) in FLAGS.items():
         group.add_argument(word, dest=name, action="store_true", help=text)
     group.add_argument("-N", dest="preprocess", action="store_false", help="predict nothing")
 
 
-def add_verb(verbs: Any, name: str, text: str) -> argparse.ArgumentParser:
-    """Adds a verb, with its help. Returns its parser, still without arguments."""
-    usual = argparse.RawDescriptionHelpFormatter
-    made: argparse.ArgumentParser = verbs.add_parser(name, help=text, description=text, epilog=EXAMPLES[name], formatter_class=usual)
-    return made
+def add_shape(group: Group) -> None:
+    """Adds the option --shape."""
+    group.add_argument("--shape", metavar="512x512", help="sizes; the last one is that of a row")
 
 
-def command_parser() -> argparse.ArgumentParser:
-    """Returns the parser of the command's words."""
-    parser = argparse.ArgumentParser(prog="aecp", description=ABOUT)
-    parser.add_argument("--version", action="version", version=f"aecp {__version__}")
-    verbs = parser.add_subparsers(dest="verb", metavar="VERB", required=True)
-    add_keeping_verbs(verbs)
-    add_editing_verbs(verbs)
-    add_reading_verbs(verbs)
-    return parser
+def add_range(group: Group) -> None:
+    """Adds the option --range."""
+    group.add_argument("--range", metavar="FIRST:LEN", help="LEN samples from place FIRST on, counted from 0")
 
 
-def add_keeping_verbs(verbs: Any) -> None:
-    """Adds the verbs keep, back and check."""
-    keep = add_verb(verbs, "keep", "codes files and folders; decodes and compares each stream before FILE.aec and its note appear")
-    keep.add_argument("paths", nargs="+", metavar="PATH", help="a file, or a folder with all below it")
-    add_options(keep, needs_bits=True)
-    keep.add_argument("--jobs", type=int, metavar="N", help="processes at once (one a core)")
-    included = "in folders only files with such names, as '*.raw'; text files too"
-    keep.add_argument("--include", action="append", default=[], metavar="PATTERN", help=included)
-    keep.add_argument("--exclude", action="append", default=[], metavar="PATTERN", help="in folders no files with such names")
-    keep.add_argument("--rehash", action="store_true", help="compare kept files by SHA-256, even if size and time are the same")
-    keep.add_argument("--anyway", action="store_true", help="keep a stream that is larger than its file")
-    keep.add_argument("--remove", action="store_true", help="remove each original if its stream decodes to it")
-    back = add_verb(verbs, "back", "writes the samples of a kept stream, and compares their checksum")
-    back.add_argument("file", metavar="FILE.aec")
-    back.add_argument("out", metavar="OUT", nargs="?", help="a new file (FILE); - is standard output")
-    back.add_argument("--range", metavar="FIRST:LEN", help="LEN samples from place FIRST on, counted from 0")
-    check = add_verb(verbs, "check", "compares each kept stream and its samples with the checksums in its note; writes nothing")
-    check.add_argument("paths", nargs="+", metavar="PATH", help="a kept stream, or a folder with all below it")
-    check.add_argument("--json", action="store_true", help="print the result as JSON")
-    check.add_argument("--jobs", type=int, metavar="N", help="processes at once (one a core)")
+def add_running(parser: Parser, words: str) -> None:
+    """Adds the options that several verbs share, as far as a verb has them."""
+    group = parser.add_argument_group("running")
+    if "jobs" in words:
+        group.add_argument("--jobs", type=int, metavar="N", help="processes at once (one a core)")
+    if "dask" in words:
+        text = "deal the files to the workers of this dask scheduler"
+        group.add_argument("--dask", metavar="ADDRESS", help=text)
+    if "limit" in words:
+        text = "refuse files of more than COUNT samples"
+        group.add_argument("--limit", type=int, metavar="COUNT", help=text)
+    if "json" in words:
+        group.add_argument("--json", action="store_true", help="print the result as JSON")
+    text = "print no progress and no notices"
+    group.add_argument("-q", "--quiet", action="store_true", help=text)
 
 
-def add_editing_verbs(verbs: Any) -> None:
-    """Adds the verbs edit, undo, log, diff and pixels."""
-    edit = add_verb(verbs, "edit", "edits a kept stream by a script; `aecp undo` undoes it bit for bit")
-    edit.add_argument("file", metavar="FILE.aec")
-    edit.add_argument("script", metavar="SCRIPT", help="lines such as 'overwrite 20 1 2 3'; - is standard input")
+def add_kept(parser: Parser, many: bool = True) -> None:
+    """Adds the argument for kept files."""
+    if many:
+        parser.add_argument("paths", nargs="+", metavar="PATH", help="a kept file, or a folder with all kept files below it")
+    else:
+        parser.add_argument("file", metavar="FILE.aec", help="a kept file")
+
+
+def add_keep(keep: Parser) -> None:
+    keep.add_argument("paths", nargs="+", metavar="PATH", help="a file, or a folder with all files below it")
+    where = keep.add_argument_group("which files, and where to")
+    where.add_argument("--to", metavar="DIR", help="write below DIR, instead of beside each file")
+    where.add_argument("--include", action="append", default=[], metavar="PATTERN", help="in folders only files with such names, as '*.raw'; text files too")  # fmt: skip
+    where.add_argument("--exclude", action="append", default=[], metavar="PATTERN", help="in folders no files with such names")  # fmt: skip
+    how = keep.add_argument_group("what is kept")
+    how.add_argument("--skip", type=int, metavar="BYTES", help="the samples begin after so many bytes, which are kept too")
+    add_shape(how)
+    how.add_argument("--dtype", metavar="TYPE", help="such as '<i2': sets -n, -s and -m, and is recorded")
+    how.add_argument("--raw", action="store_true", help="ignore the headers of .npy and FITS files")
+    how.add_argument("--anyway", action="store_true", help="keep a stream that is larger than its file")
+    after = keep.add_argument_group("files that are kept already")
+    after.add_argument("--rehash", action="store_true", help="compare contents, even if size and time are the same")
+    after.add_argument("--repair", action="store_true", help="write a damaged FILE.aec anew, if the file's checksum is recorded in it")  # fmt: skip
+    after.add_argument("--remove", action="store_true", help="remove each original that FILE.aec restores, if it hasn't changed meanwhile")  # fmt: skip
+    add_options(keep)
+
+
+def add_back(back: Parser) -> None:
+    add_kept(back)
+    back.add_argument("--to", metavar="DIR", help="write below DIR, instead of beside each kept file")
+    back.add_argument("-o", dest="out", metavar="OUT", help="the name of the new file, for one FILE.aec; - is standard output")
+    add_range(back)
+
+
+def add_export(export: Parser) -> None:
+    add_kept(export, many=False)
+    export.add_argument("out", metavar="OUT", nargs="?", default="-", help="a new file; standard output without it")
+
+
+def add_edit(edit: Parser) -> None:
+    edit.add_argument("words", nargs="+", metavar="FILE.aec .. SCRIPT", help="kept files, and a script or a table; - is standard input")  # fmt: skip
     edit.add_argument("--allow-empty", action="store_true", help="accept lines without values")
-    undo = add_verb(verbs, "undo", "undoes the last edit, bit for bit")
-    undo.add_argument("file", metavar="FILE.aec")
-    log = add_verb(verbs, "log", "prints what was done to a kept stream, and when")
-    log.add_argument("file", metavar="FILE.aec")
+    edit.add_argument("--table", action="store_true", help="SCRIPT is a table, whatever its name")
+    add_shape(edit)
+    edit.add_argument("--frame", type=int, metavar="K", help="the frame of a table without such a column, counted from 0")
+
+
+def add_log(log: Parser) -> None:
+    add_kept(log, many=False)
     log.add_argument("--script", type=int, metavar="K", help="print the script of the edit with this number")
-    diff = add_verb(verbs, "diff", "prints a script that turns the samples of A into those of B")
+
+
+def add_forget(forget: Parser) -> None:
+    add_kept(forget)
+    forget.add_argument("--keep", type=int, required=True, metavar="N", help="how many entries stay, 0 or more")
+
+
+def add_diff(diff: Parser) -> None:
     diff.add_argument("first", metavar="A.aec")
     diff.add_argument("second", metavar="B.aec")
-    pixels = add_verb(verbs, "pixels", "turns a table of row, column and value into a script, sorted by place, and prints it")
-    pixels.add_argument("--shape", required=True, metavar="ROWSxCOLS")
-    pixels.add_argument("--frame", type=int, default=0, metavar="K", help="the frame, counted from 0")
+    diff.add_argument("--script", action="store_true", help="print a script, even if both files have a shape")
+    add_shape(diff)
+
+
+def add_pixels(pixels: Parser) -> None:
     pixels.add_argument("table", metavar="TABLE", help="CSV or TSV, rows and columns counted from 0; - is standard input")
+    add_shape(pixels)
+    pixels.add_argument("--frame", type=int, metavar="K", help="the frame, counted from 0")
 
 
-def add_reading_verbs(verbs: Any) -> None:
-    """Adds the verbs info, fit, rescue and view."""
-    info = add_verb(verbs, "info", "prints what the notes of kept streams say")
-    info.add_argument("paths", nargs="+", metavar="FILE.aec")
-    fit = add_verb(verbs, "fit", "prints which options suit a file, and what an edit costs with them")
-    fit.add_argument("file", metavar="FILE")
-    fit.add_argument("--all", action="store_true", help="try the whole file, not only its first 4 MiB")
-    fit.add_argument("--stream", type=int, metavar="COUNT", help="FILE is a stream of COUNT samples: print the options that decode it")
-    add_options(fit, needs_bits=False)
-    rescue = add_verb(verbs, "rescue", "writes the samples before the bit where decoding stops, and names it; some may be wrong")
-    rescue.add_argument("file", metavar="STREAM")
-    rescue.add_argument("out", metavar="OUT", nargs="?", help="a new file; without OUT, only reports")
-    rescue.add_argument("--count", type=int, metavar="N", help="the number of samples (else that of the note)")
-    add_options(rescue, needs_bits=False)
-    view = add_verb(verbs, "view", "draws samples in grey: OUT is named .png or .pgm")
-    view.add_argument("file", metavar="FILE.aec")
-    view.add_argument("out", metavar="OUT")
-    view.add_argument("--width", type=int, required=True, metavar="W", help="samples of a row")
-    view.add_argument("--range", metavar="FIRST:LEN", help="LEN samples from place FIRST on")
-    view.add_argument("--count", type=int, metavar="N", help="the number of samples; only with -n, which ignores the note")
-    add_options(view, needs_bits=False)
+def add_fit(fit: Parser) -> None:
+    fit.add_argument("paths", nargs="+", metavar="PATH", help="a file, or a folder with all files below it")
+    fit.add_argument("--all", action="store_true", help="try whole files, not only the first 4 MiB of each")
+    fit.add_argument("--stream", type=int, metavar="COUNT", help="PATH is a plain stream of COUNT samples: print the options that decode it")  # fmt: skip
+    add_options(fit)
+
+
+def add_view(view: Parser) -> None:
+    add_kept(view, many=False)
+    view.add_argument("out", metavar="OUT", help="a new file, named .png or .pgm")
+    view.add_argument("--width", type=int, metavar="W", help="samples of a row (else as the shape says)")
+    view.add_argument("--frame", type=int, metavar="K", help="the frame, counted from 0")
+    view.add_argument("--min", type=int, metavar="V", help="the sample that is black")
+    view.add_argument("--max", type=int, metavar="V", help="the sample that is white")
+    add_range(view)
+    view.add_argument("--count", type=int, metavar="N", help="the number of samples of a plain stream; needs -n")
+    add_options(view)
+
+
+def add_rescue(rescue: Parser) -> None:
+    add_kept(rescue, many=False)
+    rescue.add_argument("out", metavar="OUT", nargs="?", help="a new file; without it, only the report")
+    rescue.add_argument("--fill", type=int, default=0, metavar="V", help="the sample for lost places (0)")
+    rescue.add_argument("--ranges", metavar="LIST.json", help="a new file for the list of lost ranges; - is standard output")
+    rescue.add_argument("--count", type=int, metavar="N", help="the number of samples; needs -n")
+    add_range(rescue)
+    add_options(rescue)
+
+
+# The options of `add_running` that each verb has.
+RUNNING = {
+    "keep": "jobs dask limit json", "back": "jobs dask limit json", "check": "jobs dask limit json",
+    "info": "limit json", "export": "limit", "edit": "limit", "undo": "limit", "log": "limit json",
+    "forget": "limit", "diff": "limit json", "pixels": "", "fit": "jobs json", "view": "limit",
+    "rescue": "limit json",
+}  # fmt: skip
+ADD: dict[str, Callable[[Parser], None]] = {
+    "keep": add_keep, "back": add_back, "check": add_kept, "info": add_kept, "export": add_export,
+    "edit": add_edit, "undo": add_kept, "log": add_log, "forget": add_forget, "diff": add_diff,
+    "pixels": add_pixels, "fit": add_fit, "view": add_view, "rescue": add_rescue,
+}  # fmt: skip
+
+
+def parsers() -> tuple[Parser, dict[str, Parser]]:
+    """Returns the parser of the command, and that of each verb."""
+    top = Parser("aecp", description=ABOUT, epilog=END, allow_abbrev=False)
+    top.add_argument("-V", "--version", action="version", version=f"aecp {__version__}")
+    verbs = top.add_subparsers(dest="verb", metavar="VERB", required=True, title="verbs")
+    made = {}
+    for name, (short, long, examples) in VERBS.items():
+        usual = argparse.RawDescriptionHelpFormatter
+        text = long or f"{short[0].upper()}{short[1:]}."
+        epilog = "\n  ".join(["examples:", *examples.split("\n")])
+        verb = verbs.add_parser(
+            name, help=short, description=text, epilog=epilog, formatter_class=usual, allow_abbrev=False
+        )
+        ADD[name](verb)
+        add_running(verb, RUNNING[name])
+        verb.set_defaults(verb=name)
+        made[name] = verb
+    shown = verbs.add_parser("help", help="prints the page of a verb", allow_abbrev=False)
+    shown.add_argument("of", nargs="?", metavar="VERB", choices=[*VERBS, "help"])
+    made["help"] = shown
+    return top, made
 
 
 def parsed(argv: Optional[list[str]]) -> argparse.Namespace:
-    """Returns what the words ask for. File names may also come after options: argparse returns them as unknown, and they are added
-    here."""
-    parser = command_parser()
-    asked, late = parser.parse_known_args(argv)
-    if late and all(word == "-" or not word.startswith("-") for word in late):
-        if "paths" in asked:
-            asked.paths += late
-            return asked
-        if "out" in asked and asked.out is None and len(late) == 1:
-            asked.out = late[0]
-            return asked
-    if late:
-        parser.error(f"unrecognized arguments: {' '.join(late)}")
+    """Returns what the arguments ask for. A verb's arguments and options may come in any order."""
+    words = sys.argv[1:] if argv is None else argv
+    top, verbs = parsers()
+    if not words or words[0] not in verbs:
+        return top.parse_args(words)
+    verb, rest = verbs[words[0]], words[1:]
+    at = rest.index("--") if "--" in rest else len(rest)
+    # parse_intermixed_args loses "--", so that names after it would become options: each gets a mark meanwhile.
+    marked = joined(rest[:at]) + [f"\0{word}" for word in rest[at + 1 :]]
+    asked = verb.parse_intermixed_args(marked)
+    for name, value in vars(asked).items():
+        setattr(asked, name, unmarked(value))
+    if words[0] == "help":
+        (verbs[asked.of] if asked.of else top).print_help()
+        sys.exit(0)
+    asked.usage = verb.format_usage()
     return asked
 
 
+def joined(words: list[str]) -> list[str]:
+    """Returns words in which an option and its negative value are one: argparse takes -3 for an option."""
+    made: list[str] = []
+    for word in words:
+        if made and made[-1] in SIGNED and re.fullmatch("-[0-9]+", word):
+            made[-1] += f"={word}"
+        else:
+            made.append(word)
+    return made
+
+
+def unmarked(value: Any) -> Any:
+    """Returns an argument without its mark."""
+    if isinstance(value, list):
+        return [unmarked(it) for it in value]
+    return value[1:] if isinstance(value, str) and value.startswith("\0") else value
+
+
 def interrupted(number: int, _: Any) -> NoReturn:
-    """Raises KeyboardInterrupt at a signal to stop. Later signals are ignored: by then, what was begun is being undone."""
+    """Raises KeyboardInterrupt at a signal to stop. Later signals are ignored: by then, what was begun is being removed."""
     for it in STOPS:
         signal.signal(it, signal.SIG_IGN)
     raise KeyboardInterrupt(number)
 
 
+def handle_stops() -> None:
+    """Handles signals to stop, unless they are ignored, as SIGHUP is under nohup."""
+    for stop in STOPS:
+        if signal.getsignal(stop) is not signal.SIG_IGN:
+            signal.signal(stop, interrupted)
+
+
 @contextlib.contextmanager
-def quiet_pipes() -> Iterator[None]:
-    """Ends with status 1 and without a message if nobody reads the output any more."""
+def guarded_output(console: Console) -> Iterator[None]:
+    """Ends with status 1 if standard output can't be written. A closed pipe needs no message."""
     try:
         yield
         sys.stdout.flush()
     except BrokenPipeError:
-        os.dup2(os.open(os.devnull, os.O_WRONLY), 1)
-        sys.exit(1)
+        end_without_output()
+    except OSError as error:
+        console.complain(f"standard output: {reason(error, '')}")
+        end_without_output()
+
+
+def end_without_output() -> NoReturn:
+    """Ends with status 1. What standard output still holds is lost."""
+    sys.stderr.flush()
+    os._exit(1)
 
 
 def main(argv: Optional[list[str]] = None) -> NoReturn:
-    """Does what the words ask for, and ends with the status."""
-    asked = parsed(argv)
-    for stop in STOPS:
-        if signal.getsignal(stop) is not signal.SIG_IGN:  # as SIGHUP is under nohup
-            signal.signal(stop, interrupted)
+    """Does what the arguments ask for, and ends with the status."""
+    open_standard_streams()
+    console = Console()
+    with guarded_output(console):
+        try:
+            asked = parsed(argv)
+        except SystemExit as end:
+            sys.stdout.flush()
+            raise end
+    console.quiet = asked.quiet
+    handle_stops()
     try:
-        from aecp import verbs
+        from aecp.archive import _verbs
         from aecp.library import LIBRARY
 
         LIBRARY.load_now()
     except ImportError as error:
-        sys.exit(complain(str(error)))
-    run: Callable[[argparse.Namespace], int] = getattr(verbs, f"do_{asked.verb}")
+        sys.exit(console.complain(str(error)))
     try:
-        with quiet_pipes():
-            status = run(asked)
+        with guarded_output(console):
+            status = _verbs.run(asked, console)
     except KeyboardInterrupt as stop:
-        number = stop.args[0] if stop.args else signal.SIGINT
-        sys.stderr.write("aecp: stopped\n")
-        os._exit(128 + number)
+        console.complain("stopped")
+        os._exit(128 + (stop.args[0] if stop.args else signal.SIGINT))
     sys.exit(status)
-
-
-def complain(text: str, status: int = 1) -> int:
-    """Prints a line on standard error. Returns the status."""
-    print(f"aecp: {text}", file=sys.stderr, flush=True)
-    return status
 
 
 if __name__ == "__main__":

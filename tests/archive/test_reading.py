@@ -27,7 +27,9 @@ numpy = pytest.importorskip("numpy")
 def test_slices_are_those_of_a_list(tmp_path: Any, data: Any) -> None:
     settings = data.draw(settings_by_chance())._replace(three_byte=False)
     samples = data.draw(samples_for(settings))
-    path = str(tmp_path / f"{random.random()}.aec")
+    path = str(tmp_path / "f.aec")
+    if os.path.exists(path):
+        os.unlink(path)
     made(path, samples, settings)
     count = len(samples)
     places = st.one_of(st.none(), st.integers(-count - 3, count + 3))
