@@ -3,7 +3,9 @@
 from __future__ import annotations
 
 import ctypes
+import importlib
 import os
+import pkgutil
 import resource
 import signal
 import sys
@@ -11,6 +13,10 @@ import tempfile
 import time
 from dataclasses import dataclass, field
 from typing import Any, Callable, NamedTuple, Optional, Union
+
+import aecp.archive
+import aecp.cli
+from aecp.library import LIBRARY
 
 Word = Union[str, bytes]
 SECONDS = 60
@@ -202,12 +208,21 @@ def status_of(end: SystemExit) -> int:
     return 1
 
 
+def load_all() -> None:
+    """Loads what the command needs, once: a forked child then begins within milliseconds."""
+    for it in pkgutil.iter_modules(aecp.archive.__path__, "aecp.archive."):
+        importlib.import_module(it.name)
+    importlib.import_module("concurrent.futures.process")
+    LIBRARY.load_now()
+
+
+load_all()
+
+
 def run_words(words: list[Word]) -> None:
     """Runs the command with these words, in this process."""
-    from aecp import cli
-
     sys.argv = ["aecp", *map(os.fsdecode, words)]
-    cli.main([os.fsdecode(word) for word in words])
+    aecp.cli.main([os.fsdecode(word) for word in words])
 
 
 def start(folder: Word, *words: Word, how: How = How()) -> Started:

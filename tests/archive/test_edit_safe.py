@@ -109,13 +109,6 @@ def test_an_edit_goes_through_the_library(place: str) -> None:
                 module.edit = watched  # type: ignore[attr-defined]
 
     keep(place, "f", walk(1, 500))
-    import importlib
-    import pkgutil
-
-    import aecp.archive
-
-    for it in pkgutil.iter_modules(aecp.archive.__path__, "aecp.archive."):
-        importlib.import_module(it.name)
     done(place, "edit", "f.aec", "-", given=b"overwrite 5 9\n", how=How(before=watching))
     assert os.path.exists(os.path.join(place, "called"))
 
@@ -150,13 +143,6 @@ def test_a_wrong_coder_is_noticed(place: str) -> None:
             if getattr(module, "edit", None) is real:
                 module.edit = other  # type: ignore[attr-defined]
 
-    import importlib
-    import pkgutil
-
-    import aecp.archive
-
-    for it in pkgutil.iter_modules(aecp.archive.__path__, "aecp.archive."):
-        importlib.import_module(it.name)
     path = keep(place, "f", walk(1, 3000))
     before = read(path)
     ran = command(place, "edit", "f.aec", "-", given=b"overwrite 5 9\n", how=How(before=wrong))
