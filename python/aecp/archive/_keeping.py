@@ -14,7 +14,7 @@ from typing import BinaryIO, Optional
 from aecp import streams
 from aecp.archive import _saving
 from aecp.archive._file import ArchiveFile, opened
-from aecp.archive._form import MOST_SIDE, Damaged, Facts, Refused, Source
+from aecp.archive._form import MOST_SIDE, Damaged, Exists, Facts, Refused, Source
 from aecp.archive._headers import Layout, layout_of, options_of
 from aecp.archive._history import Entry, keep_entry
 from aecp.archive._outcomes import Outcome, words_of
@@ -67,8 +67,16 @@ def keep(how: Keeping, found: Found) -> Outcome:
     """Keeps a file, or returns why it can't. Raises what reading and writing raise."""
     target = target_of(how, found)
     clean(os.path.dirname(target) or ".")
-    if os.path.lexists(target):
-        return keep_again(how, found, target)
+    if not os.path.lexists(target):
+        try:
+            return keep_new(how, found, target)
+        except Exists:  # another run was faster
+            pass
+    return keep_again(how, found, target)
+
+
+def keep_new(how: Keeping, found: Found, target: str) -> Outcome:
+    """Keeps a file that isn't kept yet. Raises Exists if it is kept meanwhile."""
     with original(found.path) as file:
         before = os.fstat(file.fileno())
         plan = planned(how, file, before.st_size)
