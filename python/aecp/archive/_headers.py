@@ -61,8 +61,8 @@ def npy_layout(file: BinaryIO) -> Layout:
         raise Refused("its .npy header is damaged")
     dtype, shape, is_fortran = npy_fields(text)
     if not WHOLE.fullmatch(dtype):
-        text = "only whole numbers of 8, 16 or 32 bits can be kept (--raw ignores the header)"
-        raise Refused(f"its samples are of the type {dtype}: {text}")
+        why = "only whole numbers of 8, 16 or 32 bits can be kept (--raw ignores the header)"
+        raise Refused(f"its samples are of the type {dtype}: {why}")
     length = math.prod(shape) * int(dtype[-1])
     return Layout(file.tell(), length, dtype, shape[::-1] if is_fortran else shape)
 
@@ -75,8 +75,8 @@ def npy_fields(text: bytes) -> tuple[str, tuple[int, ...], bool]:
     except (ValueError, SyntaxError, TypeError, KeyError, MemoryError, RecursionError):
         raise Refused("its .npy header is damaged") from None
     if not isinstance(dtype, str):
-        text = "only whole numbers can be kept (--raw ignores the header)"
-        raise Refused(f"its samples are records: {text}")
+        why = "only whole numbers can be kept (--raw ignores the header)"
+        raise Refused(f"its samples are records: {why}")
     is_shape = isinstance(shape, tuple) and len(shape) <= 32
     if not is_shape or not all(type(it) is int and 0 <= it <= 2**32 for it in shape):
         raise Refused("its .npy header is damaged")
