@@ -11,6 +11,9 @@ import pytest
 from making import FAST, USUAL, flip, keep, leftovers, options_of, parts_at, read, sound_parts, walk, words_of, write
 from running import How, command, done, start
 
+DATA = USUAL.stored(walk(3, 500))
+
+
 def test_remove_removes_what_decodes_to_it(place: str) -> None:
     for name in "abc":
         write(place, name, DATA)
