@@ -15,7 +15,7 @@ from aecp.archive._file import ArchiveFile
 from aecp.archive._form import Damaged, Facts, Refused, State, Sum
 from aecp.archive._keeping import clean
 from aecp.archive._outcomes import Outcome
-from aecp.archive._pairs import pair_at
+from aecp.archive._pairs import note_at
 from aecp.archive._paths import Found
 from aecp.archive._scripts import (
     change_of,
@@ -91,7 +91,7 @@ def held(path: str, limit: Optional[int]) -> Iterator[Held]:
         try:
             kept = ArchiveFile.open(path, limit)
         except Damaged as error:
-            if error.kind == "no trailer" and pair_at(path):
+            if error.kind == "no trailer" and note_at(path) is not None:
                 text = "it has the older form of two files: `aecp keep` with the original converts it"
                 raise Refused(text) from None
             raise

@@ -18,8 +18,8 @@ from aecp.archive._form import MOST_SIDE, Damaged, Facts, Refused, Source
 from aecp.archive._headers import Layout, layout_of, options_of
 from aecp.archive._history import Entry, keep_entry
 from aecp.archive._outcomes import Outcome, words_of
-from aecp.archive._pairs import converted, pair_at
-from aecp.archive._paths import NOTE, OLD_NOTE, STREAM, Found, place_below
+from aecp.archive._pairs import converted, note_at
+from aecp.archive._paths import STREAM, Found, place_below
 from aecp.archive._writer import Writer
 from aecp.calls import encode
 from aecp.faults import Fault, SampleRefused
@@ -289,7 +289,7 @@ def keep_again(how: Keeping, found: Found, target: str) -> Outcome:
 
 def is_old(target: str) -> bool:
     """Returns whether a kept file has the older form: a plain stream with a note beside it."""
-    if not pair_at(target):
+    if note_at(target) is None:
         return False
     try:
         ArchiveFile.open(target).close()
@@ -301,14 +301,15 @@ def is_old(target: str) -> bool:
 def convert(target: str) -> None:
     """Makes one file of a kept file of the older form."""
     with _saving.locked(target) as status:
-        data = converted(target)
+        note, data = note_at(target), converted(target)
+        if note is None or data is None:
+            raise Refused("its note of the older form is gone")
         with ArchiveFile.of_bytes(data) as kept:
             kept.judge_all()
         with _saving.replacement(target, status) as out:
             out.write(data)
-    for end in (NOTE, OLD_NOTE):
-        with contextlib.suppress(FileNotFoundError):
-            os.unlink(target.removesuffix(STREAM) + end)
+    with contextlib.suppress(FileNotFoundError):
+        os.unlink(note)
 
 
 def compared(how: Keeping, found: Found, target: str, note: str) -> Outcome:

@@ -329,8 +329,8 @@ def changed(
 
 
 def do_edit(asked: argparse.Namespace, console: Console) -> int:
-    scripts = [word for word in asked.words if not (word.endswith(STREAM) or os.path.isdir(word))]
-    files = [word for word in asked.words if word not in scripts]
+    scripts = [word for word in asked.words if not word.endswith(STREAM)]
+    files = [word for word in asked.words if word.endswith(STREAM)]
     if len(scripts) != 1 or not files:
         raise Wrong("name one script or table, and one or more files whose names end in .aec")
     name = scripts[0]
