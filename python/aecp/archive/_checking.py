@@ -9,6 +9,7 @@ from aecp.archive._file import Progress, opened
 from aecp.archive._form import Damaged
 from aecp.archive._outcomes import Outcome, ranges_json, ranges_text
 from aecp.archive._paths import Found
+from aecp.archive._whole import judge
 
 
 def check(limit: Optional[int], found: Found, progress: Progress = None) -> Outcome:
@@ -16,7 +17,7 @@ def check(limit: Optional[int], found: Found, progress: Progress = None) -> Outc
     try:
         with opened(found.path, limit) as kept:
             try:
-                kept.judge_all(progress)
+                judge(kept, progress)
             except Damaged as error:
                 return damaged(error, kept.facts.count)
             return Outcome("sound", bytes=kept.facts.samples.bytes, coded=found.size)

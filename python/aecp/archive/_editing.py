@@ -26,6 +26,7 @@ from aecp.archive._scripts import (
     script_within,
 )
 from aecp.archive._tables import grid_of, refuse, script_of
+from aecp.archive._whole import judge
 from aecp.archive._writer import Writer
 from aecp.calls import decode_bytes
 from aecp.faults import Fault
@@ -85,7 +86,7 @@ def decoded(stream: bytes, facts: Facts, count: Optional[int] = None) -> bytearr
 
 @contextlib.contextmanager
 def held(path: str, limit: Optional[int]) -> Iterator[Held]:
-    """Yields a kept file under its lock."""
+    """Yields a sound kept file under its lock."""
     clean(os.path.dirname(path) or ".")
     with _saving.locked(path) as status:
         try:
@@ -96,6 +97,7 @@ def held(path: str, limit: Optional[int]) -> Iterator[Held]:
                 raise Refused(text) from None
             raise
         with kept:
+            judge(kept)
             yield Held(path, status, kept)
 
 

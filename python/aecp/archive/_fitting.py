@@ -163,7 +163,7 @@ def table(sizes: Sizes, files: int) -> list[str]:
     piece = "" if sizes.tried == sizes.whole else f", the first {sizes.tried} bytes of {sizes.whole}"
     head = f"{of}{sizes.tried // width} samples of {width} bytes{piece}"
     lines = [f"{'bytes':>12}  {'an edit codes':>16}  options, for {head}"]
-    for it in rows[:SHOWN]:
+    for it in rows:
         mark = "  recommended" if it is rows[0] else "  the fewest bytes" if it.bytes == least else ""
         samples = f"{it.samples} samples"
         lines.append(f"{it.bytes:12}  {samples:>16}  {words_of(it.options)}{mark}")

@@ -14,12 +14,13 @@ from typing import BinaryIO, Optional
 from aecp import streams
 from aecp.archive import _saving
 from aecp.archive._file import ArchiveFile, opened
-from aecp.archive._form import MOST_SIDE, Damaged, Facts, Refused, Source
+from aecp.archive._form import MOST_SIDE, Damaged, Exists, Facts, Refused, Source
 from aecp.archive._headers import Layout, layout_of, options_of
 from aecp.archive._history import Entry, keep_entry
 from aecp.archive._outcomes import Outcome, words_of
 from aecp.archive._pairs import converted, note_at
 from aecp.archive._paths import STREAM, Found, place_below
+from aecp.archive._whole import judge, sides, sound_pieces
 from aecp.archive._writer import Writer
 from aecp.calls import encode
 from aecp.faults import Fault, SampleRefused
@@ -66,8 +67,16 @@ def keep(how: Keeping, found: Found) -> Outcome:
     """Keeps a file, or returns why it can't. Raises what reading and writing raise."""
     target = target_of(how, found)
     clean(os.path.dirname(target) or ".")
-    if os.path.lexists(target):
-        return keep_again(how, found, target)
+    if not os.path.lexists(target):
+        try:
+            return keep_new(how, found, target)
+        except Exists:  # another run was faster
+            pass
+    return keep_again(how, found, target)
+
+
+def keep_new(how: Keeping, found: Found, target: str) -> Outcome:
+    """Keeps a file that isn't kept yet. Raises Exists if it is kept meanwhile."""
     with original(found.path) as file:
         before = os.fstat(file.fileno())
         plan = planned(how, file, before.st_size)
@@ -305,7 +314,7 @@ def convert(target: str) -> None:
         if note is None or data is None:
             raise Refused("its note of the older form is gone")
         with ArchiveFile.of_bytes(data) as kept:
-            kept.judge_all()
+            judge(kept)
         with _saving.replacement(target, status) as out:
             out.write(data)
     with contextlib.suppress(FileNotFoundError):
@@ -346,14 +355,13 @@ def other_options(how: Keeping, recorded: Options) -> str:
 
 def is_restored(kept: ArchiveFile, file: BinaryIO, size: int) -> bool:
     """Returns whether a kept file restores exactly an original of so many bytes."""
-    source = kept.facts.source
-    head, tail = (source.head, source.tail) if source else (b"", b"")
+    head, tail = sides(kept)
     if size != len(head) + kept.facts.samples.bytes + len(tail):
         return False
     file.seek(0)
     if read_all(file, len(head)) != head:
         return False
-    if any(read_all(file, len(piece)) != piece for piece in kept.pieces()):
+    if any(read_all(file, len(piece)) != piece for piece in sound_pieces(kept)):
         return False
     return read_all(file, len(tail) + 1) == tail
 
@@ -364,7 +372,7 @@ def repaired(found: Found, target: str, status: os.stat_result) -> Outcome:
         with ArchiveFile.open(target) as kept:
             facts = kept.facts
             try:
-                kept.judge_all()
+                judge(kept)
                 return Outcome("skipped", "it isn't damaged")
             except Damaged:
                 history = history_or_none(kept)

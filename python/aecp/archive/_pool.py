@@ -37,9 +37,9 @@ def dealt(items: Sequence[T], sizes: Sequence[int], workers: int) -> list[list[T
     most = min(MOST_BYTES, sum(sizes) // (workers * LOTS) + 1)
     files = min(MOST_FILES, len(items) // (workers * LOTS) + 1)
     lots: list[list[T]] = []
-    filled = most
+    filled = 0
     for item, size in zip(items, sizes):
-        if filled + size > most or len(lots[-1]) >= files:
+        if not lots or filled + size > most or len(lots[-1]) >= files:
             lots.append([])
             filled = 0
         lots[-1].append(item)

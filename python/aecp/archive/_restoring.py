@@ -18,6 +18,7 @@ from aecp.archive._form import Damaged, Exists, Range, Refused
 from aecp.archive._outcomes import Outcome, ranges_json, ranges_text
 from aecp.archive._paths import STREAM, Found, place_below
 from aecp.archive._scripts import Store
+from aecp.archive._whole import is_as_kept, sides, sound_pieces
 from aecp.faults import Fault, OptionsRefused
 from aecp.options import Options
 from aecp.streams import Decoder
@@ -107,39 +108,21 @@ def write_pieces(kept: ArchiveFile, file: BinaryIO, first: int, length: int) -> 
 
 
 def write_original(kept: ArchiveFile, file: BinaryIO) -> int:
-    """Writes head, samples and tail. Returns the number of bytes. Raises Damaged if the samples have another sum."""
-    source = kept.facts.source
-    head, tail = (source.head, source.tail) if source else (b"", b"")
-    whole, samples = hashlib.sha256(head), hashlib.sha256()
+    """Writes head, samples and tail. Returns the number of bytes. Raises Damaged if a recorded sum
+    is another."""
+    head, tail = sides(kept)
     file.write(head)
     size = len(head) + len(tail)
-    for piece in kept.pieces():
+    for piece in sound_pieces(kept):
         file.write(piece)
-        whole.update(piece)
-        samples.update(piece)
         size += len(piece)
     file.write(tail)
-    whole.update(tail)
-    if samples.hexdigest() != kept.facts.samples.sha256:
-        raise Damaged("other samples", "its samples aren't those that were kept: their SHA-256 is another")
-    is_original = source is not None and whole.hexdigest() == source.sha256
-    if source is not None and not is_original and is_as_kept(kept):
-        raise Damaged("other source", "its head or tail isn't that of the file that was kept")
-    if source is not None and is_original and file is not sys.stdout.buffer:
+    source = kept.facts.source
+    if source is not None and is_as_kept(kept) and file is not sys.stdout.buffer:
         file.flush()
         with contextlib.suppress(OSError):
             os.utime(file.fileno(), ns=(source.mtime_ns, source.mtime_ns))
     return size
-
-
-def is_as_kept(kept: ArchiveFile) -> bool:
-    """Returns whether the samples are those of the file that was kept, as far as the history says so."""
-    try:
-        history = kept.history()
-    except Damaged:
-        return False
-    first = history[0].after if history and history[0].what == "keep" else None
-    return first is not None and first.samples == kept.facts.samples
 
 
 def export(path: str, out: str, limit: Optional[int]) -> None:

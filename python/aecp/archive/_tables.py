@@ -6,7 +6,6 @@ import csv
 import io
 import math
 import re
-from collections.abc import Iterable, Iterator
 from typing import NamedTuple, Optional
 
 from aecp.archive._form import Refused
@@ -150,25 +149,10 @@ def refuse(text: str, complaints: list[str]) -> None:
 
 
 def script_of(text: str, grid: Optional[Grid], frame: Optional[int]) -> str:
-    """Returns the script that a table means: overwrites sorted by place. Neighbours become one line."""
+    """Returns the script that a table means: a line for each place, in order."""
     table = Table(grid, frame)
     table.read(text)
-    return "".join(overwrites(sorted(table.values.items())))
-
-
-def overwrites(cells: Iterable[tuple[int, int]]) -> Iterator[str]:
-    """Yields a line for each run of places, which ascend."""
-    words: list[str] = []
-    end = -1
-    for place, value in cells:
-        if place != end or len(words) >= 1000:
-            if words:
-                yield f"{' '.join(words)}\n"
-            words = ["overwrite", str(place)]
-        words.append(str(value))
-        end = place + 1
-    if words:
-        yield f"{' '.join(words)}\n"
+    return "".join(f"overwrite {place} {it}\n" for place, it in sorted(table.values.items()))
 
 
 def named(grid: Grid) -> list[str]:

@@ -18,6 +18,7 @@ from aecp.archive._checking import check
 from aecp.archive._file import opened
 from aecp.archive._form import Damaged, Refused
 from aecp.archive._headers import layout_of
+from aecp.archive._headers import options_of as dtype_options
 from aecp.archive._outcomes import DIED, Guarded, Outcome, advice
 from aecp.archive._paths import STREAM, Found, Passed, kept_files, kept_path, originals
 from aecp.archive._pool import Deal, Failed, pool_of
@@ -96,7 +97,7 @@ def part_of(asked: argparse.Namespace) -> Optional[tuple[int, int]]:
     """Returns the two numbers of --range FIRST:LEN."""
     if asked.range is None:
         return None
-    match = re.fullmatch(r"([0-9]{1,19}):([0-9]{1,19})", asked.range)
+    match = re.fullmatch(r"([0-9]{1,30}):([0-9]{1,30})", asked.range)
     if match is None:
         raise Wrong(f"--range: {asked.range} is no FIRST:LEN")
     return int(match[1]), int(match[2])
@@ -177,6 +178,11 @@ def keeping_of(asked: argparse.Namespace) -> _keeping.Keeping:
     options = options_of(asked)
     if asked.skip and asked.raw:
         raise Wrong("--skip and --raw exclude each other: --skip already ignores headers")
+    if asked.dtype is not None:
+        try:
+            dtype_options(asked.dtype, options, asked.bits)
+        except Refused as error:
+            raise Wrong(f"--dtype: {error}") from None
     if asked.repair and asked.remove:
         raise Wrong("--repair and --remove exclude each other")
     return _keeping.Keeping(
