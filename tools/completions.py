@@ -1,7 +1,9 @@
 #!/usr/bin/env python3
-"""Writes completions/aecp.bash and completions/_aecp from the parser of the command aecp: completions.py [--check]
+"""Writes completions/aecp.bash and completions/_aecp from the parser of the command aecp:
+completions.py [--check]
 
-With --check nothing is written, and the script fails if a file differs from what it would write. Needs no library.
+With --check nothing is written, and the script fails if a file differs from what it would write.
+Needs no library.
 """
 
 import argparse

@@ -44,7 +44,8 @@ def shown_lines(text: str) -> str:
 
 
 def system_reason(error: OSError, path: str) -> str:
-    """Returns the text of a failure of the system, with the name of its file if that isn't `path`."""
+    """Returns the text of a failure of the system, with the name of its file if that isn't
+    `path`."""
     is_full = error.errno in (errno.ENOSPC, errno.EDQUOT)
     text = "no space left on the device" if is_full else str(error.strerror or error)
     name = error.filename
@@ -169,8 +170,9 @@ def is_terminal() -> bool:
 
 
 def open_standard_streams() -> None:
-    """Opens closed standard streams, so that no file gets their numbers, and lets them print every name. Writing to a standard
-    output that was closed fails; a closed standard error swallows its lines."""
+    """Opens closed standard streams, so that no file gets their numbers, and lets them print every
+    name. Writing to a standard output that was closed fails; a closed standard error swallows its
+    lines."""
     for number, flags in ((0, os.O_WRONLY), (1, os.O_RDONLY), (2, os.O_WRONLY)):
         try:
             os.fstat(number)

@@ -1,7 +1,7 @@
 """The command aecp: its arguments, its help, and how it ends.
 
-Status 0: all is done. 1: something was refused or is damaged. 2: the arguments are wrong. 128 plus the number of a signal: it was
-stopped.
+Status 0: all is done. 1: something was refused or is damaged. 2: the arguments are wrong. 128 plus
+the number of a signal: it was stopped.
 """
 
 from __future__ import annotations
@@ -18,10 +18,11 @@ from typing import Any, Callable, NoReturn, Optional
 from aecp import __version__
 from aecp._console import Console, open_standard_streams, reason
 
-ABOUT = """Keeps files of samples: each becomes one file, FILE.aec, that can be checked, edited, and
-restored to every earlier state bit for bit. FILE.aec begins with a coded stream (CCSDS 121.0-B-3)."""
-END = """`aecp help VERB` has a page for each verb. The status is 0 if all is done, 1 if something is
-refused or damaged, 2 if the arguments are wrong."""
+ABOUT = """Keeps files of samples: each becomes one file, FILE.aec, that can be checked, edited,
+and restored to every earlier state bit for bit. FILE.aec begins with a coded stream (CCSDS
+121.0-B-3)."""
+END = """`aecp help VERB` has a page for each verb. The status is 0 if all is done, 1 if something
+is refused or damaged, 2 if the arguments are wrong."""
 STOPS = (signal.SIGINT, signal.SIGTERM, signal.SIGHUP)
 Parser = argparse.ArgumentParser
 SIGNED = ("--fill", "--min", "--max")  # options whose values may be negative
@@ -30,15 +31,17 @@ Group = Any  # a parser, or a group of its options
 VERBS = {
     "keep": (
         "codes files and folders",
-        "Codes each file to FILE.aec. Decodes and compares before FILE.aec gets its name. Replaces nothing.",
+        "Codes each file to FILE.aec. Decodes and compares before FILE.aec gets its name.\n"
+        "Replaces nothing.",
         "aecp keep data -n 16                      every file in the folder data\n"
         "aecp keep data -n 16 --to /mnt/disk       the same, as /mnt/disk/data/..\n"
-        "aecp keep scan.fits cube.npy              bits, sign, byte order and shape from the headers\n"
+        "aecp keep scan.fits cube.npy              bits, sign, byte order, shape from headers\n"
         "aecp keep scan.raw --repair               scan.raw.aec is damaged: writes it anew",
     ),
     "back": (
         "restores originals",
-        "Writes the original of each kept file, and compares its checksum. Never writes over a file.",
+        "Writes the original of each kept file, and compares its checksum.\n"
+        "Never writes over a file. After FILE.aec, OUT may name the new file.",
         "aecp back scan.raw.aec                    writes scan.raw\n"
         "aecp back data --to restored              writes restored/data/..\n"
         "aecp back scan.raw.aec -o -               to standard output\n"
@@ -46,33 +49,39 @@ VERBS = {
     ),
     "check": (
         "finds damage",
-        "Reads each kept file whole, and names every damaged one with its damaged samples. Writes nothing.",
+        "Reads each kept file whole, and names every damaged one with its damaged samples.\n"
+        "Writes nothing.",
         "aecp check data",
     ),
     "info": ("prints options, count, shape, checksums", "", "aecp info scan.raw.aec"),
     "export": (
         "writes the plain coded stream",
-        "Writes the coded stream alone. `aecp info` prints the options and the count that decode it.",
+        "Writes the coded stream alone. `aecp info` prints the options and count that decode it.",
         "aecp export scan.raw.aec scan.stream",
     ),
     "edit": (
         "applies a script or a table of pixels",
-        "Applies SCRIPT to each kept file. All lines apply, or none. SCRIPT is the argument that doesn't\n"
-        "end in .aec. A table has a name ending in .csv or .tsv, and columns such as row, column, value.",
+        "Applies SCRIPT to each kept file. All lines apply, or none. SCRIPT is the argument that\n"
+        "doesn't end in .aec. A table has a name ending in .csv or .tsv, and columns such as row,\n"
+        "column, value.",
         "echo 'overwrite 20 1 2 3' | aecp edit scan.raw.aec -\n"
         "aecp edit data/*.aec bad_pixels.csv",
     ),
-    "undo": ("undoes the last edit", "Undoes the last edit of each kept file, bit for bit.", "aecp undo scan.raw.aec"),
+    "undo": (
+        "undoes the last edit",
+        "Undoes the last edit of each kept file, bit for bit.",
+        "aecp undo scan.raw.aec",
+    ),
     "log": ("lists what was done", "", "aecp log scan.raw.aec\naecp log scan.raw.aec --script 3"),
     "forget": (
         "drops old history",
-        "Drops the history except its last N entries. Edits that are dropped can't be undone any more.",
+        "Drops the history except its last N entries. Dropped edits can't be undone any more.",
         "aecp forget scan.raw.aec --keep 10",
     ),
     "diff": (
         "prints which samples differ",
-        "Prints the samples that differ: a table of rows and columns if both files have the same shape,\n"
-        "else a script that turns A into B. `aecp edit A.aec` applies both.",
+        "Prints the samples that differ: a table of rows and columns if both files have the same\n"
+        "shape, else a script that turns A into B. `aecp edit A.aec` applies both.",
         "aecp diff old.raw.aec new.raw.aec > changes.csv",
     ),
     "pixels": (
@@ -82,7 +91,8 @@ VERBS = {
     ),
     "fit": (
         "finds suitable options",
-        "Prints the sizes with each block size and interval, and how many samples an edit codes again.",
+        "Prints the sizes with each block size and interval, and how many samples an edit codes\n"
+        "again.",
         "aecp fit scan.raw -n 16\naecp fit data -n 16                       all files of a folder\n"
         "aecp fit --stream 4096 unknown.aec        which options decode a plain stream?",
     ),
@@ -94,8 +104,8 @@ VERBS = {
     ),
     "rescue": (
         "writes what damage has left",
-        "Writes all sound samples in their places, and V in the places of the others. Reads files that\n"
-        "`back` refuses, and plain streams.",
+        "Writes all sound samples in their places, and V in the places of the others. Reads files\n"
+        "that `back` refuses, and plain streams.",
         "aecp rescue scan.raw.aec out.raw --ranges lost.json\n"
         "aecp rescue stream out.raw -n 16 --count 4096",
     ),
@@ -114,8 +124,14 @@ def add_options(parser: Parser) -> None:
     """Adds the options of coding, which are those of `aec`."""
     group = parser.add_argument_group("options of coding")
     group.add_argument("-n", dest="bits", type=int, metavar="N", help="bits of a sample, 1 to 32")
-    group.add_argument("-j", dest="block_size", type=int, metavar="J", help="samples in a block: 8, 16, 32 or 64 (16)")
-    group.add_argument("-r", dest="interval", type=int, metavar="R", help="blocks in an interval, 1 to 4096 (128)")
+    group.add_argument(
+        "-j", dest="block_size", type=int, metavar="J",
+        help="samples in a block: 8, 16, 32 or 64 (16)",
+    )
+    group.add_argument(
+        "-r", dest="interval", type=int, metavar="R",
+        help="blocks in an interval, 1 to 4096 (128)",
+    )
     for word, (name, text) in FLAGS.items():
         group.add_argument(word, dest=name, action="store_true", help=text)
     group.add_argument("-N", dest="preprocess", action="store_false", help="predict nothing")
@@ -128,7 +144,10 @@ def add_shape(group: Group) -> None:
 
 def add_range(group: Group) -> None:
     """Adds the option --range."""
-    group.add_argument("--range", metavar="FIRST:LEN", help="LEN samples from place FIRST on, counted from 0")
+    group.add_argument(
+        "--range", metavar="FIRST:LEN",
+        help="LEN samples from place FIRST on, counted from 0",
+    )
 
 
 def add_running(parser: Parser, words: str) -> None:
@@ -151,97 +170,178 @@ def add_running(parser: Parser, words: str) -> None:
 def add_kept(parser: Parser, many: bool = True) -> None:
     """Adds the argument for kept files."""
     if many:
-        parser.add_argument("paths", nargs="+", metavar="PATH", help="a kept file, or a folder with all kept files below it")
+        parser.add_argument(
+            "paths", nargs="+", metavar="PATH",
+            help="a kept file, or a folder with all kept files below it",
+        )
     else:
         parser.add_argument("file", metavar="FILE.aec", help="a kept file")
 
 
 def add_keep(keep: Parser) -> None:
-    keep.add_argument("paths", nargs="+", metavar="PATH", help="a file, or a folder with all files below it")
+    keep.add_argument(
+        "paths", nargs="+", metavar="PATH",
+        help="a file, or a folder with all files below it",
+    )
     where = keep.add_argument_group("which files, and where to")
     where.add_argument("--to", metavar="DIR", help="write below DIR, instead of beside each file")
-    where.add_argument("--include", action="append", default=[], metavar="PATTERN", help="in folders only files with such names, as '*.raw'; text files too")  # fmt: skip
-    where.add_argument("--exclude", action="append", default=[], metavar="PATTERN", help="in folders no files with such names")  # fmt: skip
+    where.add_argument(
+        "--include", action="append", default=[], metavar="PATTERN",
+        help="in folders only files with such names, as '*.raw'; text files too",
+    )
+    where.add_argument(
+        "--exclude", action="append", default=[], metavar="PATTERN",
+        help="in folders no files with such names",
+    )
     how = keep.add_argument_group("what is kept")
-    how.add_argument("--skip", type=int, metavar="BYTES", help="the samples begin after so many bytes, which are kept too")
+    how.add_argument(
+        "--skip", type=int, metavar="BYTES",
+        help="the samples begin after so many bytes, which are kept too",
+    )
     add_shape(how)
-    how.add_argument("--dtype", metavar="TYPE", help="such as '<i2': sets -n, -s and -m, and is recorded")
+    how.add_argument(
+        "--dtype", metavar="TYPE",
+        help="such as '<i2': sets -n, -s and -m, and is recorded",
+    )
     how.add_argument("--raw", action="store_true", help="ignore the headers of .npy and FITS files")
-    how.add_argument("--anyway", action="store_true", help="keep a stream that is larger than its file")
+    how.add_argument(
+        "--anyway", action="store_true",
+        help="keep a stream that is larger than its file",
+    )
     after = keep.add_argument_group("files that are kept already")
-    after.add_argument("--rehash", action="store_true", help="compare contents, even if size and time are the same")
-    after.add_argument("--repair", action="store_true", help="write a damaged FILE.aec anew, if the file's checksum is recorded in it")  # fmt: skip
-    after.add_argument("--remove", action="store_true", help="remove each original that FILE.aec restores, if it hasn't changed meanwhile")  # fmt: skip
+    after.add_argument(
+        "--rehash", action="store_true",
+        help="compare contents, even if size and time are the same",
+    )
+    after.add_argument(
+        "--repair", action="store_true",
+        help="write a damaged FILE.aec anew, if the file's checksum is recorded in it",
+    )
+    after.add_argument(
+        "--remove", action="store_true",
+        help="remove each original that FILE.aec restores, if it hasn't changed meanwhile",
+    )
     add_options(keep)
 
 
 def add_back(back: Parser) -> None:
     add_kept(back)
-    back.add_argument("--to", metavar="DIR", help="write below DIR, instead of beside each kept file")
-    back.add_argument("-o", dest="out", metavar="OUT", help="the name of the new file, for one FILE.aec; - is standard output")
+    back.add_argument(
+        "--to", metavar="DIR",
+        help="write below DIR, instead of beside each kept file",
+    )
+    back.add_argument(
+        "-o", dest="out", metavar="OUT",
+        help="the name of the new file, for one FILE.aec; - is standard output",
+    )
     add_range(back)
 
 
 def add_export(export: Parser) -> None:
     add_kept(export, many=False)
-    export.add_argument("out", metavar="OUT", nargs="?", default="-", help="a new file; standard output without it")
+    export.add_argument(
+        "out", metavar="OUT", nargs="?", default="-",
+        help="a new file; standard output without it",
+    )
 
 
 def add_edit(edit: Parser) -> None:
-    edit.add_argument("words", nargs="+", metavar="FILE.aec .. SCRIPT", help="kept files, and a script or a table; - is standard input")  # fmt: skip
+    edit.add_argument(
+        "words", nargs="+", metavar="FILE.aec .. SCRIPT",
+        help="kept files, and a script or a table; - is standard input",
+    )
     edit.add_argument("--allow-empty", action="store_true", help="accept lines without values")
     edit.add_argument("--table", action="store_true", help="SCRIPT is a table, whatever its name")
     add_shape(edit)
-    edit.add_argument("--frame", type=int, metavar="K", help="the frame of a table without such a column, counted from 0")
+    edit.add_argument(
+        "--frame", type=int, metavar="K",
+        help="the frame of a table without such a column, counted from 0",
+    )
 
 
 def add_log(log: Parser) -> None:
     add_kept(log, many=False)
-    log.add_argument("--script", type=int, metavar="K", help="print the script of the edit with this number")
+    log.add_argument(
+        "--script", type=int, metavar="K",
+        help="print the script of the edit with this number",
+    )
 
 
 def add_forget(forget: Parser) -> None:
     add_kept(forget)
-    forget.add_argument("--keep", type=int, required=True, metavar="N", help="how many entries stay, 0 or more")
+    forget.add_argument(
+        "--keep", type=int, required=True, metavar="N",
+        help="how many entries stay, 0 or more",
+    )
 
 
 def add_diff(diff: Parser) -> None:
     diff.add_argument("first", metavar="A.aec")
     diff.add_argument("second", metavar="B.aec")
-    diff.add_argument("--script", action="store_true", help="print a script, even if both files have a shape")
+    diff.add_argument(
+        "--script", action="store_true",
+        help="print a script, even if both files have a shape",
+    )
     add_shape(diff)
 
 
 def add_pixels(pixels: Parser) -> None:
-    pixels.add_argument("table", metavar="TABLE", help="CSV or TSV, rows and columns counted from 0; - is standard input")
+    pixels.add_argument(
+        "table", metavar="TABLE",
+        help="CSV or TSV, rows and columns counted from 0; - is standard input",
+    )
     add_shape(pixels)
     pixels.add_argument("--frame", type=int, metavar="K", help="the frame, counted from 0")
 
 
 def add_fit(fit: Parser) -> None:
-    fit.add_argument("paths", nargs="+", metavar="PATH", help="a file, or a folder with all files below it")
-    fit.add_argument("--all", action="store_true", help="try whole files, not only the first 4 MiB of each")
-    fit.add_argument("--stream", type=int, metavar="COUNT", help="PATH is a plain stream of COUNT samples: print the options that decode it")  # fmt: skip
+    fit.add_argument(
+        "paths", nargs="+", metavar="PATH",
+        help="a file, or a folder with all files below it",
+    )
+    fit.add_argument(
+        "--all", action="store_true",
+        help="try whole files, not only the first 4 MiB of each",
+    )
+    fit.add_argument(
+        "--stream", type=int, metavar="COUNT",
+        help="PATH is a plain stream of COUNT samples: print the options that decode it",
+    )
     add_options(fit)
 
 
 def add_view(view: Parser) -> None:
     add_kept(view, many=False)
     view.add_argument("out", metavar="OUT", help="a new file, named .png or .pgm")
-    view.add_argument("--width", type=int, metavar="W", help="samples of a row (else as the shape says)")
+    view.add_argument(
+        "--width", type=int, metavar="W",
+        help="samples of a row (else as the shape says)",
+    )
     view.add_argument("--frame", type=int, metavar="K", help="the frame, counted from 0")
     view.add_argument("--min", type=int, metavar="V", help="the sample that is black")
     view.add_argument("--max", type=int, metavar="V", help="the sample that is white")
     add_range(view)
-    view.add_argument("--count", type=int, metavar="N", help="the number of samples of a plain stream; needs -n")
+    view.add_argument(
+        "--count", type=int, metavar="N",
+        help="the number of samples of a plain stream; needs -n",
+    )
     add_options(view)
 
 
 def add_rescue(rescue: Parser) -> None:
     add_kept(rescue, many=False)
-    rescue.add_argument("out", metavar="OUT", nargs="?", help="a new file; without it, only the report")
-    rescue.add_argument("--fill", type=int, default=0, metavar="V", help="the sample for lost places (0)")
-    rescue.add_argument("--ranges", metavar="LIST.json", help="a new file for the list of lost ranges; - is standard output")
+    rescue.add_argument(
+        "out", metavar="OUT", nargs="?",
+        help="a new file; without it, only the report",
+    )
+    rescue.add_argument(
+        "--fill", type=int, default=0, metavar="V",
+        help="the sample for lost places (0)",
+    )
+    rescue.add_argument(
+        "--ranges", metavar="LIST.json",
+        help="a new file for the list of lost ranges; - is standard output",
+    )
     rescue.add_argument("--count", type=int, metavar="N", help="the number of samples; needs -n")
     add_range(rescue)
     add_options(rescue)
@@ -272,7 +372,12 @@ def parsers() -> tuple[Parser, dict[str, Parser]]:
         text = long or f"{short[0].upper()}{short[1:]}."
         epilog = "\n  ".join(["examples:", *examples.split("\n")])
         verb = verbs.add_parser(
-            name, help=short, description=text, epilog=epilog, formatter_class=usual, allow_abbrev=False
+            name,
+            help=short,
+            description=text,
+            epilog=epilog,
+            formatter_class=usual,
+            allow_abbrev=False,
         )
         ADD[name](verb)
         add_running(verb, RUNNING[name])
@@ -292,7 +397,8 @@ def parsed(argv: Optional[list[str]]) -> argparse.Namespace:
         return top.parse_args(words)
     verb, rest = verbs[words[0]], words[1:]
     at = rest.index("--") if "--" in rest else len(rest)
-    # parse_intermixed_args loses "--", so that names after it would become options: each gets a mark meanwhile.
+    # parse_intermixed_args loses "--", so that names after it would become options: each gets a
+    # mark meanwhile.
     marked = joined(rest[:at]) + [f"\0{word}" for word in rest[at + 1 :]]
     asked = verb.parse_intermixed_args(marked)
     for name, value in vars(asked).items():
@@ -305,7 +411,8 @@ def parsed(argv: Optional[list[str]]) -> argparse.Namespace:
 
 
 def joined(words: list[str]) -> list[str]:
-    """Returns words in which an option and its negative value are one: argparse takes -3 for an option."""
+    """Returns words in which an option and its negative value are one: argparse takes -3 for an
+    option."""
     made: list[str] = []
     for word in words:
         if made and made[-1] in SIGNED and re.fullmatch("-[0-9]+", word):
@@ -323,7 +430,8 @@ def unmarked(value: Any) -> Any:
 
 
 def interrupted(number: int, _: Any) -> NoReturn:
-    """Raises KeyboardInterrupt at a signal to stop. Later signals are ignored: by then, what was begun is being removed."""
+    """Raises KeyboardInterrupt at a signal to stop. Later signals are ignored: by then, what was
+    begun is being removed."""
     for it in STOPS:
         signal.signal(it, signal.SIG_IGN)
     raise KeyboardInterrupt(number)

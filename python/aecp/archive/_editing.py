@@ -63,7 +63,7 @@ class Held(NamedTuple):
         """Returns the stream. Raises Damaged if it has another sum."""
         stream = self.kept.stream()
         if Sum.of(stream) != self.facts.stream:
-            raise Damaged("other stream", "it is damaged: `aecp check` names the damaged samples")
+            raise Damaged("other samples", "it is damaged: `aecp check` names the damaged samples")
         return stream
 
     def samples(self, stream: bytes) -> bytearray:
@@ -93,8 +93,8 @@ def held(path: str, limit: Optional[int]) -> Iterator[Held]:
             kept = ArchiveFile.open(path, limit)
         except Damaged as error:
             if error.kind == "no trailer" and note_at(path) is not None:
-                text = "it has the older form of two files: `aecp keep` with the original converts it"
-                raise Refused(text) from None
+                text = "it has the older form of two files"
+                raise Refused(f"{text}: `aecp keep` with the original converts it") from None
             raise
         with kept:
             judge(kept)
@@ -152,7 +152,8 @@ def inverse_of(
 
 
 def shape_for(facts: Facts, count: int) -> Optional[tuple[int, ...]]:
-    """Returns the shape for another number of samples: the first size changes. None if there is no such shape."""
+    """Returns the shape for another number of samples: the first size changes. None if there is no
+    such shape."""
     if facts.shape is None or count == facts.count:
         return facts.shape
     rest = math.prod(facts.shape[1:])
@@ -160,14 +161,16 @@ def shape_for(facts: Facts, count: int) -> Optional[tuple[int, ...]]:
 
 
 def replace(it: Held, stream: bytes, state: State, history: Sequence[_history.Entry]) -> None:
-    """Replaces a kept file by a stream that must have this state. The new file is decoded before it replaces the old one."""
+    """Replaces a kept file by a stream that must have this state. The new file is decoded before it
+    replaces the old one."""
     facts = it.facts
     with _saving.replacement(it.path, it.status) as out:
         writer = Writer(out, facts.options)
         writer.write_stream(stream, state.count)
         if writer.end() != state:
             raise Refused(f"{WRONG}: nothing is changed. Please report this")
-        writer.finish(history, facts.source, shape_for(facts, state.count), facts.dtype, state.samples)
+        shape = shape_for(facts, state.count)
+        writer.finish(history, facts.source, shape, facts.dtype, state.samples)
 
 
 def undo(limit: Optional[int], found: Found) -> Outcome:

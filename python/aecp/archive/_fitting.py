@@ -1,4 +1,5 @@
-"""The verb fit: which options suit files, what an edit costs with them, and which options decode an unknown stream."""
+"""The verb fit: which options suit files, what an edit costs with them, and which options decode an
+unknown stream."""
 
 from __future__ import annotations
 
@@ -97,7 +98,8 @@ def fit(how: Fitting, found: Found) -> Outcome:
 
 
 def sizes_of(data: bytes, options: Options, given: frozenset[str]) -> Sizes:
-    """Returns the sizes of samples. Of block sizes and intervals that the user gave, only these are tried."""
+    """Returns the sizes of samples. Of block sizes and intervals that the user gave, only these are
+    tried."""
     found = Sizes(options, tried=len(data))
     blocks = (options.block_size,) if "block_size" in given else BLOCKS
     intervals = (options.interval,) if "interval" in given else INTERVALS
@@ -121,7 +123,8 @@ def sizes_of(data: bytes, options: Options, given: frozenset[str]) -> Sizes:
 
 
 def guessed_bits(data: bytes) -> Options:
-    """Returns a guess: the width and the byte order with which the start of a file takes the fewest bytes."""
+    """Returns a guess: the width and the byte order with which the start of a file takes the fewest
+    bytes."""
     found: list[tuple[int, int, Options]] = []
     for bits, msb_first in ((8, False), (16, False), (16, True), (32, False), (32, True)):
         options = Options(bits, msb_first=msb_first)
@@ -160,11 +163,13 @@ def table(sizes: Sizes, files: int) -> list[str]:
     least = min(it.bytes for it in rows)
     width = sizes.options.storage
     of = f"{files} files: " if files > 1 else ""
-    piece = "" if sizes.tried == sizes.whole else f", the first {sizes.tried} bytes of {sizes.whole}"
-    head = f"{of}{sizes.tried // width} samples of {width} bytes{piece}"
+    head = f"{of}{sizes.tried // width} samples of {width} bytes"
+    if sizes.tried != sizes.whole:
+        head += f", the first {sizes.tried} bytes of {sizes.whole}"
     lines = [f"{'bytes':>12}  {'an edit codes':>16}  options, for {head}"]
     for it in rows:
-        mark = "  recommended" if it is rows[0] else "  the fewest bytes" if it.bytes == least else ""
+        mark = "  the fewest bytes" if it.bytes == least else ""
+        mark = "  recommended" if it is rows[0] else mark
         samples = f"{it.samples} samples"
         lines.append(f"{it.bytes:12}  {samples:>16}  {words_of(it.options)}{mark}")
     return lines + better_storage(sizes) + facts(sizes)
@@ -178,13 +183,15 @@ def facts(sizes: Sizes) -> list[str]:
         text = f"the lowest {zeros} bits of every sample are 0"
         said.append(f"{text}: shifted right by {zeros} they fit -n {bits - zeros}")
     used = max(sizes.used, 1)
-    if used < bits and replace(sizes.options, bits=used, restricted=False).storage == sizes.options.storage:
+    narrower = replace(sizes.options, bits=used, restricted=False)
+    if used < bits and narrower.storage == sizes.options.storage:
         said.append(f"the samples that were looked at fit -n {used}")
     return said
 
 
 def better_storage(sizes: Sizes) -> list[str]:
-    """Returns a line for each other byte order, sign or prediction that takes over 1 % fewer bytes."""
+    """Returns a line for each other byte order, sign or prediction that takes over 1 % fewer
+    bytes."""
     said = []
     for word, name, value_by_flag in STORAGES:
         size = sizes.storages.get(word)
@@ -200,12 +207,20 @@ def fit_json(sizes: Sizes, files: int) -> dict[str, Any]:
     """Returns the table as JSON."""
     rows = choices(sizes)
     return {
-        "files": files, "bytes": sizes.whole, "tried": sizes.tried, "recommended": words_of(rows[0].options),
+        "files": files,
+        "bytes": sizes.whole,
+        "tried": sizes.tried,
+        "recommended": words_of(rows[0].options),
         "choices": [
-            {"coded": it.bytes, "samples_an_edit_codes": it.samples, "words": words_of(it.options)} for it in rows
+            {
+                "coded": it.bytes,
+                "samples_an_edit_codes": it.samples,
+                "words": words_of(it.options),
+            }
+            for it in rows
         ],
         "notes": better_storage(sizes) + facts(sizes),
-    }  # fmt: skip
+    }
 
 
 class Reading(NamedTuple):
@@ -228,9 +243,16 @@ def candidates(fixed: Options, given: frozenset[str]) -> Iterator[Options]:
     blocks = (fixed.block_size,) if "block_size" in given else BLOCKS
     intervals = (fixed.interval,) if "interval" in given else EVERY_INTERVAL
     predicted = (False,) if not fixed.preprocess else (True, False)
-    for bits, block, interval, preprocess in itertools.product(widths, blocks, intervals, predicted):
+    for bits, block, interval, is_predicted in itertools.product(
+        widths, blocks, intervals, predicted
+    ):
         yield replace(
-            fixed, bits=bits, block_size=block, interval=interval, preprocess=preprocess, signed=False
+            fixed,
+            bits=bits,
+            block_size=block,
+            interval=interval,
+            preprocess=is_predicted,
+            signed=False,
         )
 
 
@@ -249,8 +271,9 @@ def differences(stored: bytes, options: Options) -> int:
 
 
 def readings(stream: bytes, count: int, fixed: Options, given: frozenset[str]) -> list[Reading]:
-    """Returns the options that decode `count` samples of a stream, likely ones first: those that need its last byte before the
-    others, then the smoother ones. Of a pair that differs in the sign alone, the unsigned one comes first."""
+    """Returns the options that decode `count` samples of a stream, likely ones first: those that
+    need its last byte before the others, then the smoother ones. Of a pair that differs in the sign
+    alone, the unsigned one comes first."""
     pairs: list[tuple[bool, int, str, list[Reading]]] = []
     for options in candidates(fixed, given):
         if read_by(stream, min(count, FRONT), options) is None:
@@ -281,7 +304,8 @@ def signs(stream: bytes, count: int, options: Options, is_early: bool) -> list[R
 def stream_lines(found: list[Reading], count: int) -> list[str]:
     """Returns the lines that `fit --stream` prints."""
     if not found:
-        raise Refused(f"no options of those tried decode {count} samples: try --even-blocks with -j, or -t, or -p")
+        text = f"no options of those tried decode {count} samples"
+        raise Refused(f"{text}: try --even-blocks with -j, or -t, or -p")
     lines = [f"{'ends':10}{'differences':>16}  options: {len(found)} decode {count} samples"]
     for it in found[:SHOWN]:
         other = "  decodes to other samples than without -s" if it.is_other else ""

@@ -1,4 +1,5 @@
-"""The headers of .npy and FITS files: where the samples begin, how many there are, their type and their shape."""
+"""The headers of .npy and FITS files: where the samples begin, how many there are, their type and
+their shape."""
 
 from __future__ import annotations
 
@@ -37,8 +38,8 @@ class Layout:
 
 
 def layout_of(file: BinaryIO) -> Optional[Layout]:
-    """Returns the layout of a .npy or FITS file, or None for any other. Raises Refused if its header is damaged or its samples are
-    no whole numbers of 8, 16 or 32 bits."""
+    """Returns the layout of a .npy or FITS file, or None for any other. Raises Refused if its
+    header is damaged or its samples are no whole numbers of 8, 16 or 32 bits."""
     file.seek(0)
     first = file.read(len(FITS))
     if first.startswith(NPY):
@@ -60,9 +61,10 @@ def npy_layout(file: BinaryIO) -> Layout:
         raise Refused("its .npy header is damaged")
     dtype, shape, is_fortran = npy_fields(text)
     if not WHOLE.fullmatch(dtype):
-        raise Refused(f"its samples are of the type {dtype}: only whole numbers of 8, 16 or 32 bits can be kept (--raw ignores the header)")
-    head = file.tell()
-    return Layout(head, math.prod(shape) * int(dtype[-1]), dtype, shape[::-1] if is_fortran else shape)
+        why = "only whole numbers of 8, 16 or 32 bits can be kept (--raw ignores the header)"
+        raise Refused(f"its samples are of the type {dtype}: {why}")
+    length = math.prod(shape) * int(dtype[-1])
+    return Layout(file.tell(), length, dtype, shape[::-1] if is_fortran else shape)
 
 
 def npy_fields(text: bytes) -> tuple[str, tuple[int, ...], bool]:
@@ -73,8 +75,10 @@ def npy_fields(text: bytes) -> tuple[str, tuple[int, ...], bool]:
     except (ValueError, SyntaxError, TypeError, KeyError, MemoryError, RecursionError):
         raise Refused("its .npy header is damaged") from None
     if not isinstance(dtype, str):
-        raise Refused("its samples are records: only whole numbers can be kept (--raw ignores the header)")
-    if not isinstance(shape, tuple) or not all(type(it) is int and 0 <= it <= 2**32 for it in shape):
+        why = "only whole numbers can be kept (--raw ignores the header)"
+        raise Refused(f"its samples are records: {why}")
+    is_shape = isinstance(shape, tuple) and len(shape) <= 32
+    if not is_shape or not all(type(it) is int and 0 <= it <= 2**32 for it in shape):
         raise Refused("its .npy header is damaged")
     return dtype, shape, bool(is_fortran)
 
@@ -88,13 +92,15 @@ def fits_layout(file: BinaryIO) -> Layout:
         extra = fits_number(cards, "PCOUNT") if "PCOUNT" in cards else 0
         groups = fits_number(cards, "GCOUNT") if "GCOUNT" in cards else 1
         length = abs(bits) // 8 * groups * (extra + (math.prod(sizes) if sizes else 0))
-        is_image = cards.get("XTENSION", "'IMAGE").startswith("'IMAGE") and not extra and groups == 1
+        is_plain = not extra and groups == 1
+        is_image = is_plain and cards.get("XTENSION", "'IMAGE").startswith("'IMAGE")
         if is_image and bits in (8, 16, 32) and length > 0:
             dtype = "|u1" if bits == 8 else f">i{bits // 8}"
             return Layout(data, length, dtype, tuple(reversed(sizes)))
         start = data + -(-length // BLOCK) * BLOCK
         if start // BLOCK >= MOST_BLOCKS:
-            raise Refused("no image of whole numbers begins in the first MiB of this FITS file (--raw ignores the header)")
+            text = "this FITS file has no image of whole numbers in its first MiB"
+            raise Refused(f"{text} (--raw ignores the header)")
 
 
 def fits_header(file: BinaryIO, start: int) -> tuple[dict[str, str], int]:
@@ -134,13 +140,18 @@ def fits_sizes(cards: dict[str, str]) -> list[int]:
 
 
 def options_of(dtype: str, options: Options, bits: Optional[int]) -> Options:
-    """Returns options with the storage, sign and byte order of a type. `bits` is what the user gave. Raises Refused if both disagree."""
+    """Returns options with the storage, sign and byte order of a type. `bits` is what the user
+    gave. Raises Refused if both disagree."""
     match = WHOLE.fullmatch(dtype)
     if match is None:
         raise Refused(f"{dtype} is no type of whole numbers of 8, 16 or 32 bits, such as <i2")
     size, is_signed = int(match[2]), match[1] == "i"
     made = replace(
-        options, bits=bits or 8 * size, signed=is_signed, msb_first=dtype[0] == ">" and size > 1, three_byte=False
+        options,
+        bits=bits or 8 * size,
+        signed=is_signed,
+        msb_first=dtype[0] == ">" and size > 1,
+        three_byte=False,
     )
     if made.storage != size:
         raise Refused(f"-n {bits} doesn't fit its samples of {8 * size} bits")

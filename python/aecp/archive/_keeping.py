@@ -11,7 +11,6 @@ from collections.abc import Iterator
 from dataclasses import dataclass, replace
 from typing import BinaryIO, Optional
 
-from aecp import streams
 from aecp.archive import _saving
 from aecp.archive._file import ArchiveFile, opened
 from aecp.archive._form import MOST_SIDE, Damaged, Exists, Facts, Refused, Source
@@ -113,7 +112,8 @@ def original(path: str) -> Iterator[BinaryIO]:
 
 
 def planned(how: Keeping, file: BinaryIO, size: int) -> Plan:
-    """Returns what is to be read from a file. Raises Refused if that can't be known or isn't there."""
+    """Returns what is to be read from a file. Raises Refused if that can't be known or isn't
+    there."""
     layout = None if how.is_raw or how.skip else layout_of(file)
     layout = layout or Layout(how.skip, None, how.dtype, how.shape)
     if how.shape is not None:
@@ -152,7 +152,8 @@ def read_all(file: BinaryIO, length: int) -> bytes:
 
 
 class Reading:
-    """An original that is being read: its head, the pieces of its samples, its tail, and its sum."""
+    """An original that is being read: its head, the pieces of its samples, its tail, and its
+    sum."""
 
     def __init__(self, file: BinaryIO, size: int, head: int, length: int) -> None:
         self.file, self.size, self.length = file, size, length
@@ -243,7 +244,8 @@ def alternatives(options: Options) -> Iterator[tuple[str, Options]]:
 
 
 def hint(front: bytes, options: Options) -> str:
-    """Returns a text that names the options with which the start of a file becomes over 10 % smaller, or an empty text."""
+    """Returns a text that names the options with which the start of a file becomes over 10 %
+    smaller, or an empty text."""
     usual = size_with(front, options)
     best = min(
         ((size_with(front, other), words) for words, other in alternatives(options)),
@@ -256,7 +258,8 @@ def hint(front: bytes, options: Options) -> str:
 
 
 def size_with(front: bytes, options: Options) -> int:
-    """Returns how many bytes the start of a file becomes, or more than it has if it can't be coded."""
+    """Returns how many bytes the start of a file becomes, or more than it has if it can't be
+    coded."""
     if len(front) % options.storage:
         return len(front) + 1
     try:
@@ -266,7 +269,8 @@ def size_with(front: bytes, options: Options) -> int:
 
 
 def removed(path: str, file: BinaryIO, before: os.stat_result, outcome: Outcome) -> Outcome:
-    """Removes an original that FILE.aec restores. It must still be the very file that was read: this is looked at last."""
+    """Removes an original that FILE.aec restores. It must still be the very file that was read:
+    this is looked at last."""
     if outcome.kind not in ("kept", "skipped", "repaired"):
         return outcome
     if not (same(before, os.fstat(file.fileno())) and same(before, os.lstat(path))):
@@ -276,7 +280,8 @@ def removed(path: str, file: BinaryIO, before: os.stat_result, outcome: Outcome)
 
 
 def keep_again(how: Keeping, found: Found, target: str) -> Outcome:
-    """Returns the outcome for a file that is kept already: skipped, changed, repaired or refused."""
+    """Returns the outcome for a file that is kept already: skipped, changed, repaired or
+    refused."""
     note = ""
     if is_old(target):
         convert(target)
@@ -407,33 +412,11 @@ def rebuild(
     reading = Reading(file, before.st_size, len(head), max(length, 0))
     with _saving.replacement(target, status) as out:
         writer = Writer(out, facts.options)
-        if scripts_since(history):
-            write_edited(writer, b"".join(reading.pieces()), facts, scripts_since(history))
-        else:
-            for piece in reading.pieces():
-                writer.write(piece)
+        for piece in reading.pieces():
+            writer.write(piece)
         if source is not None and reading.digest.hexdigest() != source.sha256:
             raise Refused("it isn't the file that was kept: its checksum isn't the recorded one")
         if writer.end().samples != facts.samples:
             raise Refused("its samples aren't those that are recorded: FILE.aec was edited since")
         entries = [keep_entry(writer.end())] if history is None else history
         writer.finish(entries, source, facts.shape, facts.dtype, facts.samples)
-
-
-def scripts_since(history: Optional[list[Entry]]) -> list[bytes]:
-    """Returns the scripts of all edits since a file was kept that weren't undone."""
-    entries = history or []
-    undone = {it.edit for it in entries if it.what == "undo"}
-    edits = [it for i, it in enumerate(entries) if it.what == "edit" and i not in undone]
-    return [it.script.text() for it in edits if it.script is not None]
-
-
-def write_edited(writer: Writer, samples: bytes, facts: Facts, scripts: list[bytes]) -> None:
-    """Writes the stream of an original to which the recorded edits are applied again."""
-    stream, count = encode(samples, facts.options), len(samples) // facts.options.storage
-    for script in scripts:
-        try:
-            stream, count = streams.edit(stream, count, script, facts.options)
-        except Fault as fault:
-            raise Refused(f"the recorded edits can't be applied again: {fault}") from None
-    writer.write_stream(stream, count)

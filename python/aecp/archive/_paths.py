@@ -45,7 +45,8 @@ Wanted = Callable[[os.DirEntry[str], str], "bool | str"]
 
 
 def names_below(path: str) -> str:
-    """Returns the name that a named path has below the folder of --to: as `cp -r` does, its last part."""
+    """Returns the name that a named path has below the folder of --to: as `cp -r` does, its last
+    part."""
     name = os.path.basename(path)
     return "" if name in (".", "..") else name
 
@@ -60,8 +61,8 @@ def file_of(path: str, below: str, is_named: bool) -> Found:
 
 
 def walked(top: str, passed: list[Passed]) -> Iterator[tuple[os.DirEntry[str], str]]:
-    """Yields each entry below a folder that is no folder, sorted by name, with its path from the folder on. Folders that are
-    links aren't entered."""
+    """Yields each entry below a folder that is no folder, sorted by name, with its path from the
+    folder on. Folders that are links aren't entered."""
     waiting = [sorted_entries(top, "", passed)]
     while waiting:
         entry, below = next(waiting[-1], (None, ""))
@@ -134,7 +135,8 @@ def originals_in(
 
 
 def kept_path(path: str) -> str:
-    """Returns the path of the kept file that a path names: its own, that of its original, or that of its note."""
+    """Returns the path of the kept file that a path names: its own, that of its original, or that
+    of its note."""
     for end in (NOTE, OLD_NOTE):
         if path.endswith(end):
             return path[: -len(end)] + STREAM
@@ -151,7 +153,9 @@ def kept_files(paths: Iterable[str], passed: list[Passed]) -> Iterator[Found]:
             found = iter([file_of(kept_path(path), names_below(kept_path(path)), True)])
         else:
             found = iter([])
-            why = "it isn't kept: there is no such FILE.aec" if os.path.lexists(path) else "there is no such file"
+            why = "there is no such file"
+            if os.path.lexists(path):
+                why = "it isn't kept: there is no such FILE.aec"
             passed.append(Passed(path, why, True))
         for it in found:
             if it.path not in seen:
@@ -174,7 +178,8 @@ def kept_in(folder: str, passed: list[Passed]) -> Iterator[Found]:
 
 
 def place_below(folder: str, below: str) -> str:
-    """Returns a path below a folder, whose missing folders are made. Raises OSError if one can't be made."""
+    """Returns a path below a folder, whose missing folders are made. Raises OSError if one can't be
+    made."""
     path = os.path.join(folder, below)
     os.makedirs(os.path.dirname(path) or ".", exist_ok=True)
     return path

@@ -1,4 +1,5 @@
-"""Work on many files, dealt by bytes to processes of this machine, or to the workers of a dask cluster."""
+"""Work on many files, dealt by bytes to processes of this machine, or to the workers of a dask
+cluster."""
 
 from __future__ import annotations
 
@@ -24,7 +25,8 @@ class Failed(Exception):
 
 
 class Pool(Protocol):
-    """Processes that do work on lots of items. Each method yields results in the order of the lots."""
+    """Processes that do work on lots of items. Each method yields results in the order of the
+    lots."""
 
     workers: int
 
@@ -33,7 +35,8 @@ class Pool(Protocol):
 
 
 def dealt(items: Sequence[T], sizes: Sequence[int], workers: int) -> list[list[T]]:
-    """Returns the items as lots of about equal numbers of bytes, in order. Large files are lots of their own."""
+    """Returns the items as lots of about equal numbers of bytes, in order. Large files are lots of
+    their own."""
     most = min(MOST_BYTES, sum(sizes) // (workers * LOTS) + 1)
     files = min(MOST_FILES, len(items) // (workers * LOTS) + 1)
     lots: list[list[T]] = []
@@ -82,7 +85,8 @@ class Processes:
         while rest:
             yield from self.round(work, lots, rest, done)
             rest = [i for i in rest if i not in done]
-            # A process has died. One of the lots that were begun is its cause: each is done again in a process of its own.
+            # A process has died. One of the lots that were begun is its cause: each is done again
+            # in a process of its own.
             for i in rest[: self.workers]:
                 done[i] = alone(work, lots[i])
                 yield done[i]
@@ -91,7 +95,8 @@ class Processes:
     def round(
         self, work: Callable[[Any], Any], lots: list[Any], rest: list[int], done: dict[int, Any]
     ) -> Iterator[Any]:
-        """Yields results until all lots are done or a process dies. Adds to `done` what was yielded."""
+        """Yields results until all lots are done or a process dies. Adds to `done` what was
+        yielded."""
         pool = concurrent.futures.ProcessPoolExecutor(self.workers, initializer=leave_stops)
         try:
             futures = [pool.submit(work, lots[i]) for i in rest]
@@ -127,7 +132,8 @@ class Cluster:
             connect: Any = distributed.Client
             self.client: Any = connect(address, timeout=20, set_as_default=False)
         except (OSError, ValueError, TypeError) as error:
-            raise Failed(f"no dask scheduler at {address}: {error or type(error).__name__}") from None
+            why = str(error) or type(error).__name__
+            raise Failed(f"no dask scheduler at {address}: {why}") from None
         self.workers = max(1, sum(self.client.ncores().values()))
 
     def results(self, work: Callable[[Any], Any], lots: list[Any]) -> Iterator[Any]:
@@ -166,7 +172,8 @@ def pool_of(jobs: Optional[int], dask: Optional[str], items: int) -> Iterator[Po
 
 
 class Deal(Generic[T, R]):
-    """One piece of work on many items: what is done with a lot, and the result of an item whose process died."""
+    """One piece of work on many items: what is done with a lot, and the result of an item whose
+    process died."""
 
     def __init__(self, work: Callable[[T], R], died: R) -> None:
         self.work, self.died = work, died
@@ -174,7 +181,9 @@ class Deal(Generic[T, R]):
     def __call__(self, lot: list[T]) -> list[R]:
         return [self.work(item) for item in lot]
 
-    def results(self, pool: Pool, items: Sequence[T], sizes: Sequence[int]) -> Iterator[tuple[T, R]]:
+    def results(
+        self, pool: Pool, items: Sequence[T], sizes: Sequence[int]
+    ) -> Iterator[tuple[T, R]]:
         """Yields each item with its result, in order."""
         lots = dealt(items, sizes, pool.workers)
         for lot, results in zip(lots, pool.results(self, lots)):

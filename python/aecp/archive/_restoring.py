@@ -38,8 +38,8 @@ class Restoring:
 
 @contextlib.contextmanager
 def output(path: str, mode: int = 0o666) -> Iterator[BinaryIO]:
-    """Yields a new file that appears when it is whole. The path - is standard output. A pipe or a device is written directly.
-    Raises Refused if the file exists."""
+    """Yields a new file that appears when it is whole. The path - is standard output. A pipe or a
+    device is written directly. Raises Refused if the file exists."""
     if path == "-":
         sys.stdout.flush()
         yield sys.stdout.buffer
@@ -130,7 +130,8 @@ def export(path: str, out: str, limit: Optional[int]) -> None:
     with opened(path, limit) as kept, output(out) as file:
         stream = kept.stream()
         if hashlib.sha256(stream).hexdigest() != kept.facts.stream.sha256:
-            raise Damaged("other stream", "its stream isn't the one that was kept: its SHA-256 is another")
+            text = "its stream has another SHA-256 than the trailer says"
+            raise Damaged("other samples", text)
         file.write(stream)
 
 
@@ -157,7 +158,9 @@ def write_fill(file: BinaryIO, sample: bytes, count: int) -> None:
         count -= most
 
 
-def rescue(kept: ArchiveFile, file: Optional[BinaryIO], fill: int, part: Optional[tuple[int, int]]) -> Rescued:
+def rescue(
+    kept: ArchiveFile, file: Optional[BinaryIO], fill: int, part: Optional[tuple[int, int]]
+) -> Rescued:
     """Writes all sound samples of a kept file in their places, and the fill in the others."""
     facts = kept.facts
     sample = fill_of(fill, facts.options)
@@ -180,7 +183,8 @@ def rescue(kept: ArchiveFile, file: Optional[BinaryIO], fill: int, part: Optiona
         file.write(source.tail)
     is_other = not lost and part is None and digest.hexdigest() != facts.samples.sha256
     if is_other:
-        return Rescued(length, [Range(0, length)], "no group is damaged, but some samples are wrong: their SHA-256 isn't the recorded one")
+        text = "no group is damaged, but the samples have another SHA-256 than the recorded one"
+        return Rescued(length, [Range(0, length)], f"{text}: some of them are wrong")
     return Rescued(length, lost, rescued_text(lost, length))
 
 
@@ -196,13 +200,15 @@ def rescued_text(lost: list[Range], count: int) -> str:
         return f"all {count} samples are sound"
     number = count - sum(it.length for it in lost)
     percent = 100 * number / count
-    return f"{number} of {count} samples are sound ({percent:.3f} %); lost: {ranges_text(tuple(lost), count)}"
+    text = f"{number} of {count} samples are sound ({percent:.3f} %)"
+    return f"{text}; lost: {ranges_text(tuple(lost), count)}"
 
 
 def rescue_stream(
     stream: bytes, count: Optional[int], options: Options, file: Optional[BinaryIO], fill: int
 ) -> Rescued:
-    """Writes the samples of a plain stream before the bit where decoding stops, and the fill in the places after them."""
+    """Writes the samples of a plain stream before the bit where decoding stops, and the fill in the
+    places after them."""
     sample, number, why = fill_of(fill, options), 0, ""
     try:
         decoder = Decoder(stream, count, options)

@@ -1,6 +1,8 @@
-"""Scripts of edits: checks their lines, makes them from tables, and makes them from the difference of two lists of samples.
+"""Scripts of edits: checks their lines, makes them from tables, and makes them from the difference
+of two lists of samples.
 
-The library's call `edit` applies scripts. The check here only finds all bad lines at once, before anything is done."""
+The library's call `edit` applies scripts. The check here only finds all bad lines at once, before
+anything is done."""
 
 from __future__ import annotations
 
@@ -19,8 +21,20 @@ A_LINE = 1000  # the most values in a line that is written
 SHOWN = 30  # characters of a word in a complaint
 MOST_SHOWN = 20  # complaints that are shown
 # For each name, how many places follow it, and whether values follow them.
-FORMS = {"overwrite": (1, True), "append": (0, True), "truncate": (1, False), "insert": (1, True), "remove": (2, False)}
-PLACES = {"overwrite": "FIRST V..", "append": "V..", "truncate": "COUNT", "insert": "FIRST V..", "remove": "FIRST LEN"}
+FORMS = {
+    "overwrite": (1, True),
+    "append": (0, True),
+    "truncate": (1, False),
+    "insert": (1, True),
+    "remove": (2, False),
+}
+PLACES = {
+    "overwrite": "FIRST V..",
+    "append": "V..",
+    "truncate": "COUNT",
+    "insert": "FIRST V..",
+    "remove": "FIRST LEN",
+}
 
 
 class Edit(NamedTuple):
@@ -32,7 +46,8 @@ class Edit(NamedTuple):
     values: list[int]
 
     def exchanged(self, count: int) -> tuple[int, int]:
-        """Returns which places, of `count` samples, the values replace: the first one, and the one after the last."""
+        """Returns which places, of `count` samples, the values replace: the first one, and the one
+        after the last."""
         first = self.places[0] if self.places else count
         if self.name == "overwrite":
             return first, first + len(self.values)
@@ -46,7 +61,8 @@ class BadLine(Exception):
 
 
 class Judged(NamedTuple):
-    """The edits of a script, what is wrong with its other lines, and the number of samples after the edits."""
+    """The edits of a script, what is wrong with its other lines, and the number of samples after
+    the edits."""
 
     edits: list[Edit]
     complaints: list[str]
@@ -59,7 +75,8 @@ def cut(word: str) -> str:
 
 
 def number_in(word: str, least: int, end: int, what: str) -> int:
-    """Returns a word as a number. Raises BadLine, which calls it a `what`, if it isn't one from `least` to `end` - 1."""
+    """Returns a word as a number. Raises BadLine, which calls it a `what`, if it isn't one from
+    `least` to `end` - 1."""
     if not re.fullmatch(r"-?[0-9]+" if least < 0 else r"[0-9]+", word):
         raise BadLine(f"{cut(word)!r} is no {what}")
     if len(word) > 25 or not least <= int(word) < end:
@@ -78,11 +95,13 @@ def edit_of(line: int, words: list[str], allow_empty: bool) -> Edit:
     if has_values and len(rest) == many and not allow_empty:
         raise BadLine(f"{name} has no value (--allow-empty takes such lines)")
     places = [number_in(word, 0, 2**64, "place") for word in rest[:many]]
-    return Edit(line, name, places, [number_in(word, -(2**63), 2**63, "value") for word in rest[many:]])
+    values = [number_in(word, -(2**63), 2**63, "value") for word in rest[many:]]
+    return Edit(line, name, places, values)
 
 
 def judge(edit: Edit, count: int, options: Options) -> int:
-    """Returns the number of samples after an edit of `count` samples. Raises BadLine if the edit doesn't fit."""
+    """Returns the number of samples after an edit of `count` samples. Raises BadLine if the edit
+    doesn't fit."""
     first, end = edit.exchanged(count)
     if end > count:
         what = f"place {first} is"
@@ -104,7 +123,8 @@ def judge(edit: Edit, count: int, options: Options) -> int:
 
 
 def judged(script: bytes, count: int, options: Options, allow_empty: bool = False) -> Judged:
-    """Returns the edits of a script for `count` samples. Each bad line is a complaint, and the lines after it are checked without it."""
+    """Returns the edits of a script for `count` samples. Each bad line is a complaint, and the
+    lines after it are checked without it."""
     edits, complaints = [], []
     for line, data in enumerate(script.split(b"\n"), 1):
         text = data.removesuffix(b"\r").decode("utf-8", "backslashreplace")
@@ -134,7 +154,8 @@ class Store:
         """Returns numbers as stored samples."""
         if self.letter:
             return struct.pack(f"{self.order}{len(values)}{self.letter}", *values)
-        return b"".join(value.to_bytes(self.width, self.byte_order, signed=self.signed) for value in values)
+        order, signed = self.byte_order, self.signed
+        return b"".join(value.to_bytes(self.width, order, signed=signed) for value in values)
 
     def values_of(self, data: bytes) -> list[int]:
         """Returns stored samples as numbers."""
@@ -155,8 +176,9 @@ def edited(samples: bytearray, edits: list[Edit], options: Options) -> bytearray
 
 
 def parts_of(edits: list[Edit], width: int) -> Optional[list[tuple[int, int]]]:
-    """Returns the parts of the stored samples that overwrites may have changed: the first byte and the length of each, in order. Returns
-    None if there are other edits, which may have moved samples."""
+    """Returns the parts of the stored samples that overwrites may have changed: the first byte and
+    the length of each, in order. Returns None if there are other edits, which may have moved
+    samples."""
     if any(edit.name != "overwrite" for edit in edits):
         return None
     parts: list[tuple[int, int]] = []
@@ -246,8 +268,9 @@ def equal_end(before: bytes, after: bytes, width: int, front: int) -> int:
 
 
 class Change(NamedTuple):
-    """How two lists of samples differ. Either `runs` are the ranges of places that differ, and the longer list has more samples at its
-    end; or `runs` is None, and the samples after the first `front` and before the last `end` are replaced."""
+    """How two lists of samples differ. Either `runs` are the ranges of places that differ, and the
+    longer list has more samples at its end; or `runs` is None, and the samples after the first
+    `front` and before the last `end` are replaced."""
 
     runs: Optional[list[tuple[int, int]]]
     front: int

@@ -12,7 +12,7 @@ from typing import Any, NamedTuple, Optional
 
 from aecp._console import shown
 from aecp.archive._file import ArchiveFile
-from aecp.archive._form import Damaged, Facts, Refused, State
+from aecp.archive._form import Facts, Refused, Source, State
 from aecp.archive._history import Entry
 from aecp.archive._outcomes import words_of
 from aecp.archive._restoring import in_range, output
@@ -44,6 +44,11 @@ def state_json(state: Optional[State]) -> Optional[dict[str, Any]]:
     }
 
 
+def source_json(source: Source) -> dict[str, Any]:
+    """Returns what is recorded of an original as JSON."""
+    return {"bytes": source.bytes, "sha256": source.sha256, "mtime_ns": source.mtime_ns}
+
+
 def info_json(path: str, kept: ArchiveFile) -> dict[str, Any]:
     """Returns what a kept file says of itself."""
     facts, source = kept.facts, kept.facts.source
@@ -55,7 +60,7 @@ def info_json(path: str, kept: ArchiveFile) -> dict[str, Any]:
         "shape": list(facts.shape) if facts.shape is not None else None,
         "dtype": facts.dtype,
         **(state_json(facts.state) or {}),
-        "source": source and {"bytes": source.bytes, "sha256": source.sha256, "mtime_ns": source.mtime_ns},
+        "source": source and source_json(source),
         "written": facts.written,
         "written_by": facts.written_by,
         "entries": len(kept.history()),
@@ -97,7 +102,8 @@ def entry_text(history: Sequence[Entry], place: int, undone: set[Optional[int]])
     after = it.after
     size = f"{after.count} samples, {after.stream.bytes} bytes" if after else ""
     if it.what == "edit":
-        return f"edit: {it.samples_changed} samples changed, {size}{', undone later' if place in undone else ''}"
+        later = ", undone later" if place in undone else ""
+        return f"edit: {it.samples_changed} samples changed, {size}{later}"
     if it.what == "undo":
         return f"undo: edit {it.edit if it.edit is not None else '(forgotten)'} is undone, {size}"
     if it.what == "forget":
@@ -109,12 +115,19 @@ def log_json(history: Sequence[Entry]) -> list[dict[str, Any]]:
     """Returns what was done to a kept file as JSON."""
     return [
         {
-            "entry": i, "what": it.what, "when": it.when, "by": it.by, "before": state_json(it.before),
-            "after": state_json(it.after), "samples_changed": it.samples_changed, "edit": it.edit,
-            "entries": it.entries, "can_be_undone": it.inverse is not None,
+            "entry": i,
+            "what": it.what,
+            "when": it.when,
+            "by": it.by,
+            "before": state_json(it.before),
+            "after": state_json(it.after),
+            "samples_changed": it.samples_changed,
+            "edit": it.edit,
+            "entries": it.entries,
+            "can_be_undone": it.inverse is not None,
         }
         for i, it in enumerate(history)
-    ]  # fmt: skip
+    ]
 
 
 def script_in(history: Sequence[Entry], place: int) -> bytes:
@@ -140,7 +153,8 @@ class Compared(NamedTuple):
 
 
 def compared(first: ArchiveFile, second: ArchiveFile, shape: Optional[tuple[int, ...]]) -> Compared:
-    """Returns the samples of two kept files. Raises Refused if they are stored in different ways."""
+    """Returns the samples of two kept files. Raises Refused if they are stored in different
+    ways."""
     a, b = first.facts.options, second.facts.options
     if (a.bits, a.signed, a.storage, a.msb_first) != (b.bits, b.signed, b.storage, b.msb_first):
         raise Refused("its samples are stored in another way than those of the first file")
@@ -159,7 +173,8 @@ def script_between(it: Compared) -> Iterator[bytes]:
 
 
 def table_between(it: Compared) -> Iterator[tuple[list[int], int, int]]:
-    """Yields each sample that differs: its place in the columns of `names_between`, the new value and the old one."""
+    """Yields each sample that differs: its place in the columns of `names_between`, the new value
+    and the old one."""
     store, width = Store(it.options), it.options.storage
     for first, last in differing_runs(it.before, it.after, width):
         new = store.values_of(it.after[first * width : last * width])
@@ -199,7 +214,7 @@ def grey(it: Picture, least: int, most: int) -> bytes:
         return min(max((sample - least) * 255 // span, 0), 255)
 
     if it.bits <= TABLED_BITS:
-        low = -(1 << it.bits - 1)  # samples with a sign are below the others: negative places count from the end
+        low = -(1 << it.bits - 1)  # negative samples are places that count from the table's end
         table = bytes(map(of, [*range(1 << it.bits), *range(low, 0)]))
         return bytes(map(table.__getitem__, it.samples))
     return bytes(map(of, it.samples))
@@ -244,7 +259,8 @@ def draw(it: Picture, out: str) -> str:
 def part_to_view(
     facts: Facts, width: Optional[int], frame: Optional[int], part: Optional[tuple[int, int]]
 ) -> tuple[int, int, int]:
-    """Returns first sample, number of samples, and width of a picture. Raises Refused if the file has no shape and no width is given."""
+    """Returns first sample, number of samples, and width of a picture. Raises Refused if the file
+    has no shape and no width is given."""
     grid = grid_of(facts.shape)
     columns = width or (grid.columns if grid else None)
     if columns is None:
@@ -262,7 +278,8 @@ def part_to_view(
 
 
 def plain(stream: bytes, count: Optional[int], options: Options) -> bytes:
-    """Returns the stored samples of a plain stream. Raises Refused if they are too many for a picture."""
+    """Returns the stored samples of a plain stream. Raises Refused if they are too many for a
+    picture."""
     if count is not None and count > MOST_PIXELS:
         raise Refused(f"{count} samples are no picture: take a part by --range FIRST:LEN")
     return bytes(decode_bytes(stream, count, options))

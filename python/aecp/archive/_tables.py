@@ -1,4 +1,5 @@
-"""Tables of pixels: frame, row, column and value, or place and value. They become scripts, and differences become tables."""
+"""Tables of pixels: frame, row, column and value, or place and value. They become scripts, and
+differences become tables."""
 
 from __future__ import annotations
 
@@ -14,7 +15,11 @@ from aecp.archive._scripts import MOST_SHOWN, BadLine, cut
 NAMES = {"col": "column", "x": "column", "y": "row", "index": "place", "new": "value"}
 KNOWN = ("frame", "row", "column", "place", "value")
 # The columns of a table without a line of names, by their number.
-USUAL = {2: ("place", "value"), 3: ("row", "column", "value"), 4: ("frame", "row", "column", "value")}
+USUAL = {
+    2: ("place", "value"),
+    3: ("row", "column", "value"),
+    4: ("frame", "row", "column", "value"),
+}
 NUMBER = re.compile(r"[-+]?[0-9]{1,25}")
 
 
@@ -43,8 +48,8 @@ def shape_in(text: str) -> tuple[int, ...]:
 
 
 def grid_of(shape: Optional[tuple[int, ...]], has_frames: bool = True) -> Optional[Grid]:
-    """Returns the grid of a shape, or None if it isn't one of rows and columns. Indices before the last two count frames. Without
-    `has_frames`, a shape of two sizes may have more frames."""
+    """Returns the grid of a shape, or None if it isn't one of rows and columns. Indices before the
+    last two count frames. Without `has_frames`, a shape of two sizes may have more frames."""
     if shape is None or len(shape) < 2 or not all(shape):
         return None
     frames = math.prod(shape[:-2]) if has_frames or len(shape) > 2 else None
@@ -52,7 +57,8 @@ def grid_of(shape: Optional[tuple[int, ...]], has_frames: bool = True) -> Option
 
 
 def cells_of(text: str) -> list[list[str]]:
-    """Returns the cells of each line of a table. The first line shows what divides them: tabs, else semicolons, else commas."""
+    """Returns the cells of each line of a table. The first line shows what divides them: tabs, else
+    semicolons, else commas."""
     first = text.partition("\n")[0]
     delimiter = "\t" if "\t" in first else ";" if ";" in first else ","
     try:
@@ -67,11 +73,13 @@ def named_columns(words: list[str]) -> Optional[list[str]]:
     if words and NUMBER.fullmatch(words[0]):
         return None
     names = [NAMES.get(word.lower(), word.lower()) for word in words]
-    if names.count("value") == 1 and len(set(names) & set(KNOWN)) == sum(it in KNOWN for it in names):
+    known = [it for it in names if it in KNOWN]
+    if "value" in known and len(set(known)) == len(known):
         return names
     if len(words) in USUAL and not set(names) & set(KNOWN):
         return list(USUAL[len(words)])  # names of another language
-    raise Refused(f"its first line names no columns such as row, column, value: {cut(' '.join(words))!r}")
+    text = "its first line names no columns such as row, column, value"
+    raise Refused(f"{text}: {cut(' '.join(words))!r}")
 
 
 class Table:
@@ -105,7 +113,8 @@ class Table:
         """Adds a line. Raises BadLine if it is bad."""
         columns = self.columns or []
         if len(words) != len(columns):
-            raise BadLine(f"{cut(' '.join(words))!r} isn't {', '.join(columns) or 'row, column, value'}")
+            wanted = ", ".join(columns) or "row, column, value"
+            raise BadLine(f"{cut(' '.join(words))!r} isn't {wanted}")
         found: dict[str, int] = {}
         for name, word in zip(columns, words):
             if name in KNOWN:
@@ -131,7 +140,8 @@ class Table:
         is_frame = 0 <= frame and (frames is None or frame < frames)
         if not (is_frame and 0 <= row < rows and 0 <= column < columns):
             shape = f"{rows}x{columns}" if frames in (None, 1) else f"{frames}x{rows}x{columns}"
-            raise BadLine(f"{where({**found, 'frame': frame} if frame else found)} is outside {shape}")
+            place = where({**found, "frame": frame} if frame else found)
+            raise BadLine(f"{place} is outside {shape}")
         return self.grid.place(frame, row, column)
 
 

@@ -51,7 +51,8 @@ def run(asked: argparse.Namespace, console: Console) -> int:
 
 def judge_numbers(asked: argparse.Namespace) -> None:
     """Raises Wrong for a number that no verb takes."""
-    least = {"jobs": 1, "width": 1, "limit": 0, "skip": 0, "frame": 0, "count": 0, "keep": 0, "stream": 1}
+    least = {"jobs": 1, "width": 1, "stream": 1, "limit": 0, "skip": 0}
+    least.update({"frame": 0, "count": 0, "keep": 0})
     for name, value in vars(asked).items():
         if name in least and isinstance(value, int) and not isinstance(value, bool):
             if not least[name] <= value <= MOST_SAMPLES:
@@ -59,7 +60,8 @@ def judge_numbers(asked: argparse.Namespace) -> None:
 
 
 def options_of(asked: argparse.Namespace) -> Options:
-    """Returns the options that the arguments give; without -n they have 16 bits. Raises Wrong if the format has no such options."""
+    """Returns the options that the arguments give; without -n they have 16 bits. Raises Wrong if
+    the format has no such options."""
     values = {name: getattr(asked, name) for name in NUMBERS + FLAGS}
     for name, value in {**USUAL, "bits": 16}.items():
         values[name] = value if values[name] is None else values[name]
@@ -112,7 +114,8 @@ def input_of(path: str) -> bytes:
 
 
 def guarded(console: Console, path: str, work: Callable[[], int]) -> int:
-    """Returns the status of work on one file. If the work fails, prints why, with the file's name."""
+    """Returns the status of work on one file. If the work fails, prints why, with the file's
+    name."""
     try:
         return work()
     except (BrokenPipeError, Wrong, Failed):
@@ -135,7 +138,10 @@ def say_passed(console: Console, passed: list[Passed]) -> int:
 
 
 def dealt(
-    asked: argparse.Namespace, console: Console, work: Callable[[Found], Outcome], found: list[Found]
+    asked: argparse.Namespace,
+    console: Console,
+    work: Callable[[Found], Outcome],
+    found: list[Found],
 ) -> Iterator[tuple[Found, Outcome]]:
     """Yields each file with what happened to it, in order. The work is dealt to processes."""
     jobs, dask = getattr(asked, "jobs", None), getattr(asked, "dask", None)
@@ -160,8 +166,9 @@ class Counts:
         self.kinds[outcome.kind] = self.kinds.get(outcome.kind, 0) + 1
         self.bytes += outcome.bytes
         self.coded += outcome.coded
-        result = {"file": shown(found.name), "kind": outcome.kind, "text": outcome.said}
-        self.files.append({**result, "bytes": outcome.bytes, "coded": outcome.coded, **outcome.more})
+        said = {"file": shown(found.name), "kind": outcome.kind, "text": outcome.said}
+        sizes = {"bytes": outcome.bytes, "coded": outcome.coded}
+        self.files.append({**said, **sizes, **outcome.more})
 
     def text(self, names: dict[str, str]) -> str:
         """Returns the numbers of files in words."""
@@ -186,9 +193,19 @@ def keeping_of(asked: argparse.Namespace) -> _keeping.Keeping:
     if asked.repair and asked.remove:
         raise Wrong("--repair and --remove exclude each other")
     return _keeping.Keeping(
-        options, given_in(asked), asked.to and os.path.abspath(asked.to), asked.skip or 0, shape_of(asked),
-        asked.dtype, asked.raw, asked.rehash, asked.anyway, asked.repair, asked.remove, asked.limit,
-    )  # fmt: skip
+        options,
+        given_in(asked),
+        to=asked.to and os.path.abspath(asked.to),
+        skip=asked.skip or 0,
+        shape=shape_of(asked),
+        dtype=asked.dtype,
+        is_raw=asked.raw,
+        rehash=asked.rehash,
+        anyway=asked.anyway,
+        repair=asked.repair,
+        remove=asked.remove,
+        limit=asked.limit,
+    )
 
 
 def say_outcome(console: Console, found: Found, outcome: Outcome) -> None:
@@ -398,7 +415,8 @@ def say_difference(asked: argparse.Namespace, console: Console, it: _showing.Com
         for line in _showing.script_between(it):
             console.write(line)
     elif asked.json:
-        rows = [dict(zip(names, [*cell, new, old])) for cell, new, old in _showing.table_between(it)]
+        table = _showing.table_between(it)
+        rows = [dict(zip(names, [*cell, new, old])) for cell, new, old in table]
         console.say_json({"differences": rows})
     else:
         console.say(",".join(names))
@@ -472,7 +490,8 @@ def fit_stream(
 ) -> int:
     """Prints the options that decode a plain stream."""
     if len(asked.paths) != 1 or asked.msb_first or asked.three_byte or asked.signed:
-        raise Wrong("--stream needs one file; -m and -3 change nothing in a stream, and both signs are tried anyway")
+        text = "-m and -3 change nothing in a stream, and both signs are tried anyway"
+        raise Wrong(f"--stream needs one file; {text}")
     path = asked.paths[0]
 
     def work() -> int:
@@ -497,26 +516,38 @@ def do_view(asked: argparse.Namespace, console: Console) -> int:
 
     def work() -> int:
         if options is not None:
-            first, length = part or (0, None)
-            stream = input_of(asked.file)
-            data = plain_samples(stream, asked.count, first, length, options)
-            picture = _showing.Picture(
-                _showing.listed(data, options), options.bits, asked.width, asked.min, asked.max
-            )
+            picture = plain_picture(asked, options, part)
         else:
-            with opened(one_kept(asked.file), asked.limit) as kept:
-                first, length, width = _showing.part_to_view(
-                    kept.facts, asked.width, asked.frame, part
-                )
-                if length > _showing.MOST_PIXELS:
-                    raise Refused(f"{length} samples are no picture: take a part by --range FIRST:LEN")
-                data = b"".join(kept.pieces(first, length)) if length else b""
-                made = kept.facts.options
-            picture = _showing.Picture(_showing.listed(data, made), made.bits, width, asked.min, asked.max)
+            picture = kept_picture(asked, part)
         console.say(_showing.draw(picture, asked.out))
         return 0
 
     return guarded(console, asked.file, work)
+
+
+def plain_picture(
+    asked: argparse.Namespace, options: Options, part: Optional[tuple[int, int]]
+) -> _showing.Picture:
+    """Returns what is drawn of a plain stream."""
+    first, length = part or (0, None)
+    data = plain_samples(input_of(asked.file), asked.count, first, length, options)
+    samples = _showing.listed(data, options)
+    return _showing.Picture(samples, options.bits, asked.width, asked.min, asked.max)
+
+
+def kept_picture(
+    asked: argparse.Namespace, part: Optional[tuple[int, int]]
+) -> _showing.Picture:
+    """Returns what is drawn of a kept file. Raises Refused if it is too much for a picture."""
+    with opened(one_kept(asked.file), asked.limit) as kept:
+        options = kept.facts.options
+        first, length, width = _showing.part_to_view(kept.facts, asked.width, asked.frame, part)
+        if length > _showing.MOST_PIXELS:
+            text = f"{length} samples are no picture"
+            raise Refused(f"{text}: take a part by --frame K or --range FIRST:LEN")
+        data = b"".join(kept.pieces(first, length)) if length else b""
+    samples = _showing.listed(data, options)
+    return _showing.Picture(samples, options.bits, width, asked.min, asked.max)
 
 
 def plain_samples(
