@@ -163,18 +163,22 @@ def test_a_file_of_another_source_does_not_come_back(place: str) -> None:
     assert ran.status == 1 and not os.path.exists(os.path.join(place, "out")), ran
 
 
-def test_never_over_a_file_that_appears_meanwhile(place: str) -> None:
+@pytest.mark.parametrize("refuse", [(), ("renameat2",), ("renameat2", "link", "linkat")], ids=len)
+def test_never_over_a_file_that_appears_meanwhile(place: str, refuse: tuple[str, ...]) -> None:
     path = keep(place, "f", SAMPLES)
     os.unlink(path[:-4])
+    mark = os.path.join(os.path.dirname(place), "appeared")
     for number in range(1, 40):
-        for name in ("out",):
-            if os.path.lexists(os.path.join(place, name)):
-                os.unlink(os.path.join(place, name))
-        ran = command(place, "back", "f.aec", "out", how=How(before=lambda: appearing(number)))
-        if ran.status == 0 and read(place, "out") == DATA:
-            continue
-        assert read(place, "out") == b"mine", f"call {number}"
-        assert ran.status == 1
+        for name in (os.path.join(place, "out"), mark):
+            if os.path.lexists(name):
+                os.unlink(name)
+        hooks = Hooks(refuse=refuse, error=22)
+        ran = command(place, "back", "f.aec", "out", how=How(before=lambda: appearing(number), hooks=hooks))
+        if os.path.exists(mark):
+            assert read(place, "out") == b"mine", f"call {number}"
+            assert ran.status == 1
+        else:
+            assert ran.status == 0 and read(place, "out") == DATA
     assert leftovers(place) == []
 
 
@@ -185,6 +189,7 @@ def appearing(number: int) -> None:
     def appear() -> None:
         with open("out", "xb") as file:
             file.write(b"mine")
+        open("../appeared", "wb").close()
 
     patch_calls(number, lambda: None if os.path.exists("out") else appear())
 
