@@ -211,9 +211,8 @@ def coded(
         facts = writer.finish(
             [keep_entry(state)], reading.source(before), layout.shape, layout.dtype
         )
-    size = os.stat(target).st_size
     advice = hint(reading.front, options) if is_poor(facts) else ""
-    return Outcome("kept", "", before.st_size, size, advice.removeprefix("; "))
+    return Outcome("kept", "", before.st_size, facts.stream.bytes, advice.removeprefix("; "))
 
 
 def is_poor(facts: Facts) -> bool:
@@ -386,7 +385,7 @@ def repaired(found: Found, target: str, status: os.stat_result) -> Outcome:
         raise Refused(text) from None
     with original(found.path) as file:
         rebuild(file, target, status, facts, history)
-    return Outcome("repaired", "", found.size, os.stat(target).st_size)
+    return Outcome("repaired", "", found.size, facts.stream.bytes)
 
 
 def history_or_none(kept: ArchiveFile) -> Optional[list[Entry]]:

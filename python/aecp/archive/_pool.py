@@ -81,30 +81,36 @@ class Processes:
 
     def results(self, work: Callable[[Any], Any], lots: list[Any]) -> Iterator[Any]:
         done: dict[int, Any] = {}
-        rest = list(range(len(lots)))
-        while rest:
-            yield from self.round(work, lots, rest, done)
-            rest = [i for i in rest if i not in done]
-            # A process has died. One of the lots that were begun is its cause: each is done again
-            # in a process of its own.
-            for i in rest[: self.workers]:
+        at = 0  # how many results were yielded
+        while at < len(lots):
+            rest = [i for i in range(at, len(lots)) if i not in done]
+            for _ in self.round(work, lots, rest, done):
+                while at in done:
+                    yield done.pop(at)
+                    at += 1
+            # If a process has died, one of the lots that were begun is the cause: each is done
+            # again in a process of its own.
+            for i in [it for it in rest if it >= at and it not in done][: self.workers]:
                 done[i] = alone(work, lots[i])
-                yield done[i]
-            rest = rest[self.workers :]
+            while at in done:
+                yield done.pop(at)
+                at += 1
 
     def round(
         self, work: Callable[[Any], Any], lots: list[Any], rest: list[int], done: dict[int, Any]
-    ) -> Iterator[Any]:
-        """Yields results until all lots are done or a process dies. Adds to `done` what was
-        yielded."""
+    ) -> Iterator[None]:
+        """Adds the results of lots to `done`, and yields after each, until all are done or a
+        process dies."""
         pool = concurrent.futures.ProcessPoolExecutor(self.workers, initializer=leave_stops)
+        futures = [pool.submit(work, lots[i]) for i in rest]
         try:
-            futures = [pool.submit(work, lots[i]) for i in rest]
             for i, future in zip(rest, futures):
                 done[i] = future.result()
-                yield done[i]
+                yield
         except BrokenProcessPool:
-            pass
+            for i, future in zip(rest, futures):
+                if future.done() and future.exception() is None:
+                    done[i] = future.result()
         finally:
             pool.shutdown(wait=True, cancel_futures=True)
 
