@@ -61,8 +61,8 @@ def test_each_damage_is_found_and_no_other(place: str, times: int) -> None:
         folder = os.path.join(place, str(trial))
         os.mkdir(folder)
         ways = damages(chance)
-        first = made(os.path.join(place, f"{trial}.aec"), walk(trial, 3000), USUAL)
-        done(place, "edit", f"{trial}.aec", "-", given=b"overwrite 5 7\n")
+        first = keep(place, f"{trial}.raw", walk(trial, 3000) + noise(trial, 12000), USUAL)
+        done(place, "edit", f"{trial}.raw.aec", "-", given=b"overwrite 5 7\n")
         for name, damage in ways.items():
             for kind in ("bad ", "sound "):
                 write(folder, kind + name + ".aec", read(first))

@@ -22,10 +22,11 @@ def test_fit_names_sizes(place: str) -> None:
     write(place, "walk", WALK.stored(samples))
     ran = done(place, "fit", "walk", "-n", "12")
     assert "recommended" in ran.out
-    for block in (8, 16, 32, 64):
-        for interval in (8, 128):
-            size = len(aecp.encode(WALK.stored(samples), options_of(WALK._replace(block_size=block, interval=interval))))
-            assert str(size) in ran.out.replace(",", ""), (block, interval)
+    rows = re.findall(r"^ *(\d+) .*-n 12 -j (\d+) -r (\d+)", ran.out.replace(",", ""), re.M)
+    assert len(rows) > 5
+    for size, block, interval in rows:
+        options = options_of(WALK._replace(block_size=int(block), interval=int(interval)))
+        assert int(size) == len(aecp.encode(WALK.stored(samples), options))
     assert json.loads(done(place, "fit", "walk", "-n", "12", "--json").out)
 
 

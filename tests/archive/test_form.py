@@ -16,10 +16,10 @@ import pytest
 from hypothesis import given
 from hypothesis import strategies as st
 from making import (
-    FAST, USUAL, keep, made, noise, options_of, parts_at, read, samples_for, settings_by_chance, sound_parts, walk, write,
+    FAST, USUAL, flip, keep, made, noise, options_of, parts_at, read, samples_for, settings_by_chance, sound_parts, walk, write,
 )  # fmt: skip
 from plain_form import GROUP_BITS, packed, parts_of, sha256
-from running import command, done
+from running import command, done, refused
 from settings import Settings
 
 TOP = Path(__file__).resolve().parents[2]
@@ -155,6 +155,13 @@ def test_export_is_the_bare_stream(place: str, settings: Settings) -> None:
     assert read(place, "bare") == bytes(aecp.encode(settings.stored(samples), options_of(settings)))
     assert done(place, "export", "f.aec", "-").raw == read(place, "bare")
     assert parts_at(path).stream == read(place, "bare")
+
+
+def test_a_damaged_stream_is_not_exported(place: str) -> None:
+    path = keep(place, "f", walk(1, 3000))
+    flip(path, 4000)
+    refused(place, "export", "f.aec", "bare")
+    assert "bare" not in os.listdir(place)
 
 
 def test_the_program_reads_the_file_as_it_is(place: str) -> None:

@@ -11,6 +11,9 @@ import pytest
 from making import FAST, USUAL, flip, keep, leftovers, options_of, parts_at, read, sound_parts, walk, words_of, write
 from running import How, command, done, start
 
+DATA = USUAL.stored(walk(3, 500))
+
+
 def test_remove_removes_what_decodes_to_it(place: str) -> None:
     for name in "abc":
         write(place, name, DATA)
@@ -44,44 +47,52 @@ def test_remove_decodes_first(place: str, how: str) -> None:
     assert read(path[:-4]) == data
 
 
-def test_remove_takes_the_very_file_that_was_read(place: str) -> None:
-    """A writer appends at each moment that the run reads, writes, syncs or looks: its bytes are never lost."""
-    samples = walk(1, 20000)
-    calls = 0
-    for number in range(1, 60):
+@pytest.mark.parametrize("how", ["appended", "replaced", "rewritten"])
+def test_remove_takes_the_very_file_that_was_read(place: str, how: str) -> None:
+    """Another changes the original before each call that the run makes: what it wrote is never lost."""
+    samples, calls = FAST.stored(walk(1, 20000)), 0
+    other = {"appended": samples + b"\1\2", "replaced": samples[::-1], "rewritten": samples[::-1]}[how]
+    for number in range(1, 90):
         for name in os.listdir(place):
             os.unlink(os.path.join(place, name))
-        path = write(place, "a", FAST.stored(samples))
-        stopped = Appending(place, path, number)
-        status = stopped.run()
-        if not stopped.appended:
+        path = write(place, "a", samples)
+        changing = Changing(place, path, number, how, other)
+        status = changing.run()
+        if not changing.changed:
             break
         calls += 1
-        if os.path.exists(path):
-            assert read(path) == FAST.stored(samples) + b"\1\2"
-        else:
+        if not os.path.exists(path):
             done(place, "back", "a.aec")
-            assert read(path) == FAST.stored(samples) + b"\1\2", f"call {number}: two bytes lost, status {status}"
+            assert read(path) == other, f"call {number}: another's bytes are lost, status {status}"
+        assert read(path) == other
     assert calls > 5, calls
 
 
-class Appending:
-    """Runs `keep --remove` by strace-like stops: appends two bytes just before the call with a number."""
+class Changing:
+    """Runs `keep --remove`, and changes the original just before the call with a number."""
 
-    def __init__(self, place: str, path: str, number: int) -> None:
-        self.place, self.path, self.number = place, path, number
-        self.appended = False
+    def __init__(self, place: str, path: str, number: int, how: str, other: bytes) -> None:
+        self.place, self.path, self.number, self.how, self.other = place, path, number, how, other
+        self.changed = False
+
+    def change(self, mark: str) -> None:
+        if self.how == "appended":
+            append(self.path)
+        elif self.how == "rewritten":
+            with open(self.path, "r+b") as file:
+                file.write(self.other)
+        else:
+            write(os.path.dirname(self.place), "other", self.other)
+            os.rename(os.path.join(os.path.dirname(self.place), "other"), self.path)
+        open(mark, "w").close()
 
     def run(self) -> int:
         mark = os.path.join(os.path.dirname(self.place), "mark")
         if os.path.exists(mark):
             os.unlink(mark)
-
-        def before() -> None:
-            patch_calls(self.number, lambda: (append(self.path), open(mark, "w").close()))
-
-        ran = command(self.place, "keep", "a", "-n", "16", "--jobs", "1", "--remove", how=How(before=before))
-        self.appended = os.path.exists(mark)
+        how = How(before=lambda: patch_calls(self.number, lambda: self.change(mark)))
+        ran = command(self.place, "keep", "a", "-n", "16", "--jobs", "1", "--remove", how=how)
+        self.changed = os.path.exists(mark)
         return ran.status
 
 

@@ -73,20 +73,40 @@ def test_repair_makes_a_damaged_file_anew(place: str) -> None:
     assert read(path) == before, "a sound file stays"
 
 
-@pytest.mark.parametrize("how", ["another original", "edited", "no original"])
-def test_repair_refuses(place: str, how: str) -> None:
+def test_repair_applies_the_recorded_edits(place: str) -> None:
     path = keep(place, "a", walk(1, 3000))
-    if how == "edited":
+    done(place, "edit", "a.aec", "-", given=b"append 7\n")
+    done(place, "undo", "a.aec")
+    done(place, "edit", "a.aec", "-", given=b"overwrite 5 9\n")
+    sound = parts_at(path)
+    flip(path, 4000)
+    assert command(place, "keep", "a", *words_of(USUAL), "--repair").status == 0
+    parts = sound_parts(path)
+    assert (parts.stream, parts.history, parts.fields["source"]) == (sound.stream, sound.history, sound.fields["source"])
+    done(place, "undo", "a.aec")
+    assert samples_at(path) == walk(1, 3000)
+
+
+@pytest.mark.parametrize("how", ["another original", "another head", "edits that are forgotten", "no original"])
+def test_repair_refuses(place: str, how: str) -> None:
+    write(place, "a", b"head" + USUAL.stored(walk(1, 3000)))
+    words = ["keep", "a", *words_of(USUAL), "--skip", "4", "--anyway"]
+    done(place, *words)
+    path = os.path.join(place, "a.aec")
+    if how == "edits that are forgotten":
         done(place, "edit", "a.aec", "-", given=b"overwrite 5 9\n")
+        done(place, "forget", "a.aec", "--keep", "0")
+    if how == "another head":
+        write(place, "a", b"HEAD" + USUAL.stored(walk(1, 3000)))
     flip(path, 4000)
     if how == "another original":
         status = os.stat(path[:-4])
-        write(place, "a", USUAL.stored(walk(2, 3000)))
+        write(place, "a", b"head" + USUAL.stored(walk(2, 3000)))
         os.utime(path[:-4], ns=(status.st_mtime_ns, status.st_mtime_ns))
     if how == "no original":
         os.unlink(path[:-4])
     before = tree(place)
-    ran = command(place, "keep", "a", *words_of(USUAL), "--repair")
+    ran = command(place, *words, "--repair")
     assert ran.status == 1 and ran.err.strip(), ran
     assert tree(place) == before
 
@@ -216,7 +236,8 @@ def test_a_file_system_of_64_kib(tmp_path: Any) -> None:
 
 def test_little_memory(place: str) -> None:
     """Keeps, checks and restores 128 MiB in a process that may have 200 MiB of address space."""
-    write(place, "f", bytes(range(256)) * (128 << 12))
+    piece = bytes((1 << 20) - 2)
+    write(place, "f", b"".join(piece + number.to_bytes(2, "little") for number in range(128)))
     environment = {key: it for key, it in os.environ.items() if key != "LD_PRELOAD"}
     import sys
 

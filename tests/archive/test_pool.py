@@ -22,7 +22,13 @@ def many(place: str, count: int) -> None:
 
 
 def lines(text: str) -> list[str]:
-    return sorted(text.splitlines())
+    """Returns the lines in order. The bytes of the new files depend on the time of writing."""
+    return sorted(re.sub(r"became \d+", "became N", text).splitlines())
+
+
+def kept_in(text: str) -> int:
+    """Returns how many files were kept, by this run or by a process that died."""
+    return sum(int(number) for number in re.findall(r"(\d+) (?:kept|checked)", text))
 
 
 def test_jobs_make_no_difference(place: str) -> None:
@@ -91,7 +97,7 @@ def test_a_killed_process_of_the_pool(place: str, verb: str) -> None:
     ran = running.ended()
     assert killed and "Traceback" not in ran.said, ran
     if ran.status == 0:
-        assert re.search(rf"{count} (kept|checked)", ran.said), ran
+        assert kept_in(ran.out) == count, ran
     else:
         assert ran.status == 1 and ran.err.strip(), ran
     done(place, "keep", ".", "-n", "16", "--anyway")
@@ -166,7 +172,7 @@ def test_dask_with_a_killed_worker(place: str) -> None:
     finally:
         if preload:
             os.environ["LD_PRELOAD"] = preload
-    assert running.returncode == 0 and "12 kept" in out, (running.returncode, out, err)
+    assert running.returncode == 0 and kept_in(out) == 12, (running.returncode, out, err)
     assert "12 checked, 12 sound, 0 damaged" in done(place, "check", ".").out
     done(place, "keep", ".", "-n", "16")
     assert not [it for it in os.listdir(place) if it.startswith(".")]
@@ -213,12 +219,12 @@ def test_the_codec_decodes_parts(tmp_path: Any) -> None:
         if not hasattr(codec, "decode_partial"):
             pytest.fail("the codec has no decode_partial")
         for start_at, length in ((0, 10), (49990, 10), (12345, 6789), (0, 50000)):
-            out = numpy.empty(50000, dtype="u2")
-            got = codec.decode_partial(chunk, start_at, length, out=out)
-            part = out if got is out or got is None else got
-            flat = numpy.frombuffer(memoryview(part).cast("B"), dtype="u2")
             wanted = samples[start_at : start_at + length]
-            assert (flat[start_at : start_at + length] == wanted).all() if flat.size == 50000 else (flat == wanted).all()
+            got = codec.decode_partial(chunk, start_at, length)
+            assert (numpy.frombuffer(memoryview(got).cast("B"), dtype="u2") == wanted).all()
+            out = numpy.empty(length, dtype="u2")
+            codec.decode_partial(chunk, start_at, length, out=out)
+            assert (out == wanted).all()
 
 
 def test_keep_is_what_the_pool_keeps(place: str) -> None:

@@ -112,6 +112,34 @@ def test_numpy_takes_it(tmp_path: Any, dtype: str) -> None:
         assert two[0] == array[0] and file[0] == array[0], "a result is the caller's own"
 
 
+def test_parts_are_the_caller_s_own(large: Any) -> None:
+    path, samples = large
+    with aecp.open(path) as file:
+        part = file[100:110]
+        part[:] = 0
+        assert list(file[100:110]) == samples[100:110]
+        numpy.asarray(file[100:110])[:] = 0
+        assert list(file[100:110]) == samples[100:110]
+
+
+def test_parts_of_long_groups(tmp_path: Any) -> None:
+    """A group of 16 KiB of code may have millions of samples: each part has the right ones."""
+    wanted = numpy.zeros(9 << 20, dtype="u1")
+    wanted[:: 100_003] = 7
+    wanted[1 :: 700_001] = 9
+    path = str(tmp_path / "f.aec")
+    with aecp.create(path, aecp.Options(8, block_size=64, interval=64)) as file:
+        file.write(wanted)
+    assert len(parts_at(path).groups) <= 3
+    chance = random.Random(1)
+    with aecp.open(path) as file:
+        for first in [0, 1, 4095, 4096, 4 << 20, (4 << 20) + 1, wanted.size - 5] + [chance.randrange(wanted.size) for _ in range(5)]:
+            for length in (5, 100_010):
+                assert (file[first : first + length] == wanted[first : first + length]).all(), (first, length)
+        assert (numpy.asarray(file) == wanted).all()
+        assert [tuple(it) for it in file.bad_ranges()] == []
+
+
 def test_only_the_groups_needed_are_read(large: Any, tmp_path: Any) -> None:
     path, samples = large
     other = str(tmp_path / "f.aec")
