@@ -10,6 +10,7 @@ from collections.abc import Iterator
 from dataclasses import dataclass, replace
 from typing import BinaryIO, Optional
 
+from aecp import streams
 from aecp.archive import _saving
 from aecp.archive._file import ArchiveFile, opened
 from aecp.archive._form import MOST_SIDE, Damaged, Exists, Facts, Refused, Source
@@ -336,11 +337,34 @@ def rebuild(
     reading = Reading(file, before.st_size, len(head), max(length, 0))
     with _saving.replacement(target, status) as out:
         writer = Writer(out, facts.options)
-        for piece in reading.pieces():
-            writer.write(piece)
+        scripts = scripts_since(history)
+        if scripts:
+            write_edited(writer, b"".join(reading.pieces()), facts, scripts)
+        else:
+            for piece in reading.pieces():
+                writer.write(piece)
         if source is not None and reading.digest.hexdigest() != source.sha256:
             raise Refused("it isn't the file that was kept: its checksum isn't the recorded one")
         if writer.end().samples != facts.samples:
             raise Refused("its samples aren't those that are recorded: FILE.aec was edited since")
         entries = [keep_entry(writer.end())] if history is None else history
         writer.finish(entries, source, facts.shape, facts.dtype, facts.samples)
+
+
+def scripts_since(history: Optional[list[Entry]]) -> list[bytes]:
+    """Returns the scripts of all edits since a file was kept that weren't undone."""
+    entries = history or []
+    undone = {it.edit for it in entries if it.what == "undo"}
+    edits = [it for i, it in enumerate(entries) if it.what == "edit" and i not in undone]
+    return [it.script.text() for it in edits if it.script is not None]
+
+
+def write_edited(writer: Writer, samples: bytes, facts: Facts, scripts: list[bytes]) -> None:
+    """Writes the stream of an original to which the recorded edits are applied again."""
+    stream, count = encode(samples, facts.options), len(samples) // facts.options.storage
+    for script in scripts:
+        try:
+            stream, count = streams.edit(stream, count, script, facts.options)
+        except Fault as fault:
+            raise Refused(f"the recorded edits can't be applied again: {fault}") from None
+    writer.write_stream(stream, count)
