@@ -27,7 +27,9 @@ from aecp.archive._asked import (
 from aecp.archive._checking import check
 from aecp.archive._file import opened
 from aecp.archive._form import Refused
+from aecp.archive._headers import layout_of
 from aecp.archive._headers import options_of as dtype_options
+from aecp.archive._originals import original
 from aecp.archive._outcomes import Outcome
 from aecp.archive._paths import STREAM, Found, Passed, kept_files, originals
 from aecp.archive._pool import Failed
@@ -78,6 +80,20 @@ def keeping_of(asked: argparse.Namespace) -> _keeping.Keeping:
     )
 
 
+def lacks_bits(how: _keeping.Keeping, found: Found) -> bool:
+    """Returns whether the bits of a file that isn't kept yet are neither given nor in a header."""
+    if "bits" in how.given or how.dtype is not None or how.repair:
+        return False
+    target = found.path if how.to is None else os.path.join(how.to, found.below)
+    if os.path.lexists(target + STREAM):
+        return False
+    try:
+        with original(found.path) as file:
+            return how.is_raw or how.skip > 0 or layout_of(file) is None
+    except (OSError, Refused):
+        return False
+
+
 def say_outcome(console: Console, found: Found, outcome: Outcome) -> None:
     """Prints what there is to say of a file that was to be kept."""
     text = f"{shown(found.name)}: {outcome.said}"
@@ -97,6 +113,9 @@ def do_keep(asked: argparse.Namespace, console: Console) -> int:
     how = keeping_of(asked)
     passed: list[Passed] = []
     found = list(originals(asked.paths, asked.include, asked.exclude, passed))
+    if found and lacks_bits(how, found[0]):
+        text = f"-n N is needed: {shown(found[0].name)} has no header that says its bits"
+        raise Wrong(f"{text} (.npy and FITS files have)")
     status = say_passed(console, passed)
     counts, hints = Counts(), []
     for it, outcome in dealt(asked, console, partial(_keeping.keep, how), found):
