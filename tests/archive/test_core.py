@@ -133,6 +133,26 @@ def test_parts_are_those_of_the_array(tmp_path: Any, key: Any) -> None:
         assert (pickle.loads(pickle.dumps(samples))[3] == array[3]).all()
 
 
+@pytest.mark.parametrize("key", [5, -1, slice(3, 9), slice(9, 3), slice(70_000, 2, -70), slice(-5, None)])
+def test_parts_of_a_list(key: Any) -> None:
+    values = numpy.random.default_rng(2).integers(0, 4000, 150_000).astype("<i2")
+    found = archive.Samples(archive.ArchiveFile.of_bytes(aecp.pack(values)))
+    assert found[key].dtype == values.dtype
+    assert numpy.array_equal(found[key], values[key])
+    assert found._plain_item(3) == values[3]
+    assert all(mine == value for mine, value in zip(found, values))
+    with pytest.raises(IndexError):
+        found[150_000]
+
+
+def test_an_array_without_dimensions() -> None:
+    found = archive.Samples(archive.ArchiveFile.of_bytes(aecp.pack(numpy.array(7, "<u2"))))
+    assert found[()] == 7 and found.shape == () and numpy.asarray(found).shape == ()
+    for refused in (len, list):
+        with pytest.raises(TypeError):
+            refused(found)
+
+
 def test_damage_is_local(tmp_path: Any) -> None:
     samples = stored(Options(16), 200_000)
     data = bytearray(written(Options(16), samples))
