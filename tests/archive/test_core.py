@@ -144,6 +144,14 @@ def test_damage_is_local(tmp_path: Any) -> None:
             file.judge_all()
         assert (caught.value.kind, caught.value.range) == ("bad group", lost)
         assert b"".join(file.pieces(0, lost.first)) == samples[: 2 * lost.first]
+        for first, length in (lost, (lost.first, 1), (lost.first + lost.length - 1, 2)):
+            with pytest.raises(archive.Damaged):
+                list(file.pieces(first, length))
+        found = archive.Samples(file)
+        with pytest.raises(archive.Damaged):
+            found[lost.first]
+        assert found[lost.first - 1] == int.from_bytes(samples[2 * lost.first - 2 :][:2], "little")
+        assert found.bad_ranges() == [lost]
 
 
 def test_a_file_of_bytes_in_pieces(tmp_path: Any) -> None:

@@ -121,7 +121,8 @@ def stored_pieces(given: Any, options: Options, dtype: Optional[str]) -> Iterato
 
     Raises TypeError for another array; SampleRefused for a sample that doesn't fit.
     """
-    if dtype is None and options.storage != 3 or isinstance(given, (bytes, bytearray)):
+    is_plain = dtype is None and (options.storage != 3 or isinstance(given, memoryview))
+    if is_plain or isinstance(given, (bytes, bytearray)):
         yield given
         return
     wanted = stored_dtype(options) if dtype is None else dtype

@@ -6,7 +6,7 @@ from collections.abc import Iterator
 from typing import Any, Callable, Optional
 
 from aecp import calls
-from aecp.archive._index import interval_of
+from aecp.archive._form import interval_of
 from aecp.calls import decode_bytes, encode
 from aecp.faults import StreamRefused
 from aecp.library import LIBRARY, c_options

@@ -21,10 +21,11 @@ from aecp.archive._form import (
     Refused,
     Trailer,
     foot_of,
+    interval_of,
     trailer_of,
 )
-from aecp.archive._history import Entry, history_of
-from aecp.archive._index import Group, Index, interval_of
+from aecp.archive._history import MOST_HISTORY, Entry, history_of
+from aecp.archive._index import Group, Index, judge_size
 from aecp.faults import LimitPassed, StreamRefused
 from aecp.options import Options
 
@@ -154,6 +155,7 @@ class ArchiveFile:
     @functools.cached_property
     def index(self) -> Index:
         """The groups. Raises Damaged("bad index") if the index is damaged, OSError."""
+        judge_size(self._index_part.bytes, self.facts)
         at = self.facts.stream.bytes
         return Index(self._checked(at, self._index_part, "index"), self.facts)
 
@@ -166,6 +168,8 @@ class ArchiveFile:
 
     def history(self) -> list[Entry]:
         """Reads the history. Raises Damaged("bad history"), OSError."""
+        if self._history_part.bytes > MOST_HISTORY:
+            raise Damaged("bad history", "the history is damaged: it has an impossible length")
         at = self.facts.stream.bytes + self._index_part.bytes
         return history_of(self._checked(at, self._history_part, "history"))
 

@@ -26,10 +26,10 @@ from aecp.archive._strict import (
     flag,
     members,
     number,
-    parse,
     text,
     time_of,
     unpack,
+    unpack_json,
 )
 from aecp.options import FLAGS, NUMBERS, Options
 
@@ -43,6 +43,7 @@ MOST_SIDE = 1 << 20  # bytes of a source's head, and of its tail
 MOST_COUNT = 1 << 32  # samples
 MOST_BYTES = 1 << 40  # of a stream, and of all else
 MOST_DIMENSIONS = 32
+SPARE_BYTES = 1 << 13
 MOST_CONTAINERS = 64  # lists and objects in a trailer
 MOST_RESTRICTED = 4  # bits of a sample with the restricted set of code options
 MOST_SAMPLES_A_BYTE = 64 * 64 * 8  # no byte of a stream can mean more
@@ -271,7 +272,7 @@ def trailer_of(data: bytes, part: Part) -> Trailer:
     try:
         if zlib.crc32(data) != part.crc32:
             raise Wrong("its CRC-32 is another")
-        return trailer_in(parse(unpack(data, MOST_TRAILER), MOST_CONTAINERS))
+        return trailer_in(unpack_json(data, MOST_TRAILER, MOST_CONTAINERS))
     except Wrong as wrong:
         raise Damaged("bad trailer", f"the trailer is damaged: {wrong}") from None
 
@@ -282,6 +283,8 @@ def trailer_in(value: Any) -> Trailer:
     number(fields["format"], FORMAT, FORMAT, "format")
     options = options_in(fields["options"])
     state = state_in({name: fields[name] for name in STATE_FIELDS}, options.storage)
+    if state.stream.bytes > most_stream(options, state.count):
+        raise Wrong(f"{state.count} samples can't need {state.stream.bytes} bytes")
     source = fields["source"]
     facts = Facts(
         options,
@@ -334,6 +337,17 @@ def state_in(value: Any, storage: Optional[int] = None) -> State:
     if count > stream.bytes * MOST_SAMPLES_A_BYTE:
         raise Wrong(f"a stream of {stream.bytes} bytes can't mean {count} samples")
     return State(count, samples, stream)
+
+
+def most_stream(options: Options, count: int) -> int:
+    """Returns more bytes than a stream of so many samples has. An interval takes at most half of
+    what is allowed here, if its coder chooses the code options well."""
+    return SPARE_BYTES + (count + interval_of(options)) * (options.bits + 8) // 4
+
+
+def interval_of(options: Options) -> int:
+    """Returns the number of samples of an interval."""
+    return options.block_size * options.interval
 
 
 def shape_in(value: Any, count: int) -> Optional[tuple[int, ...]]:

@@ -27,10 +27,10 @@ from aecp.archive._strict import (
     base64_of,
     members,
     number,
-    parse,
     text,
     time_of,
     unpack,
+    unpack_json,
 )
 
 WRITER = f"aecp {__version__}"
@@ -260,7 +260,7 @@ def packed_json(name: str, value: Inverse) -> Any:
 def history_of(data: bytes) -> list[Entry]:
     """Returns the history in these bytes of a file. Raises Damaged("bad history")."""
     try:
-        listed = parse(unpack(data, MOST_HISTORY), CONTAINERS * MOST_ENTRIES)
+        listed = unpack_json(data, MOST_HISTORY, CONTAINERS * MOST_ENTRIES)
         if type(listed) is not list or len(listed) > MOST_ENTRIES:
             raise Wrong(f"it isn't a list of at most {MOST_ENTRIES} entries")
         listed.reverse()

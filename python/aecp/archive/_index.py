@@ -11,12 +11,10 @@ import struct
 from collections.abc import Iterable, Iterator
 from typing import NamedTuple, Optional
 
-from aecp.archive._form import MOST_SAMPLES_A_BYTE, Damaged, Facts
-from aecp.options import Options
+from aecp.archive._form import MOST_SAMPLES_A_BYTE, Damaged, Facts, interval_of, most_stream
 
 ENTRY = struct.Struct("<QII")
 GROUP_BITS = 16 * 1024 * 8
-SPARE_BITS = 1 << 16
 
 
 class Group(NamedTuple):
@@ -46,20 +44,23 @@ class Group(NamedTuple):
         return -(-self.end // 8) - self.at
 
 
-def interval_of(options: Options) -> int:
-    """Returns the number of samples of an interval."""
-    return options.block_size * options.interval
-
-
-def most_bits(options: Options) -> int:
-    """Returns more bits than a group has. An interval takes at most half of what is allowed here,
-    if its coder chooses the code options well."""
-    return GROUP_BITS + SPARE_BITS + 2 * interval_of(options) * (options.bits + 8)
-
-
 def index_bytes(entries: Iterable[tuple[int, int, int]]) -> bytes:
     """Returns the bytes of an index. An entry is a group's first bit, first interval and CRC-32."""
     return b"".join(ENTRY.pack(*entry) for entry in entries)
+
+
+def bad_index(text: str) -> Damaged:
+    """Returns the exception for a damaged index."""
+    return Damaged("bad index", f"the index is damaged: {text}")
+
+
+def judge_size(size: int, facts: Facts) -> None:
+    """Raises Damaged("bad index") if an index can't have so many bytes."""
+    number, rest = divmod(size, ENTRY.size)
+    intervals = -(-facts.count // interval_of(facts.options))
+    most = min(intervals, 1 + 8 * facts.stream.bytes // GROUP_BITS)
+    if rest or number > most or (number > 0) != (intervals > 0):
+        raise bad_index("it has an impossible number of bytes")
 
 
 class Index:
@@ -73,16 +74,9 @@ class Index:
         options = facts.options
         self._data, self._count, self._bits = data, facts.count, 8 * facts.stream.bytes
         self._interval, self._is_padded = interval_of(options), options.pad
-        self._most_bits = most_bits(options)
-        self._number, rest = divmod(len(data), ENTRY.size)
-        intervals = -(-facts.count // self._interval)
-        most = min(intervals, 1 + self._bits // GROUP_BITS)
-        if rest or self._number > most or (self._number > 0) != (intervals > 0):
-            raise self._bad("it has an impossible number of bytes")
-
-    @staticmethod
-    def _bad(text: str) -> Damaged:
-        return Damaged("bad index", f"the index is damaged: {text}")
+        self._most_bits = GROUP_BITS + 8 * most_stream(options, self._interval)
+        judge_size(len(data), facts)
+        self._number = len(data) // ENTRY.size
 
     def __len__(self) -> int:
         """Returns the number of groups."""
@@ -124,7 +118,7 @@ class Index:
             and not (self._is_padded and group.bit % 8)
         )
         if not is_right:
-            raise self._bad(f"group {group.number} has impossible numbers")
+            raise bad_index(f"group {group.number} has impossible numbers")
 
     def group_of(self, sample: int) -> Group:
         """Returns the group that contains a sample. Raises as __getitem__."""
@@ -139,7 +133,7 @@ class Index:
                 most = middle - 1
         group = self[least]
         if not group.first <= sample < group.first + group.length:
-            raise self._bad(f"group {least} has impossible numbers")
+            raise bad_index(f"group {least} has impossible numbers")
         return group
 
     def groups(self, first: int = 0, length: Optional[int] = None) -> Iterator[Group]:

@@ -5,6 +5,7 @@ from __future__ import annotations
 import contextlib
 import functools
 import hashlib
+import math
 import os
 import stat
 from collections.abc import Iterator
@@ -193,6 +194,8 @@ def coded(
         raise Refused(f"it has {length} bytes, no whole samples of {options.storage}")
     if how.limit is not None and length // options.storage > how.limit:
         raise Refused(f"it has {length // options.storage} samples, more than the limit")
+    if layout.shape is not None and math.prod(layout.shape) != length // options.storage:
+        raise Refused(f"it has {length // options.storage} samples, and its shape another number")
     reading = Reading(file, before.st_size, layout.head, length)
     with _saving.new_file(target, before.st_mode & 0o666) as out:
         writer = Writer(out, options)
@@ -377,7 +380,7 @@ def repaired(found: Found, target: str, status: os.stat_result) -> Outcome:
             facts = kept.facts
             try:
                 judge(kept)
-                return Outcome("skipped", "it isn't damaged")
+                return Outcome("skipped")
             except Damaged:
                 history = history_or_none(kept)
     except Damaged as error:

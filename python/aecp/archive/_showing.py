@@ -159,6 +159,8 @@ def compared(first: ArchiveFile, second: ArchiveFile, shape: Optional[tuple[int,
     if (a.bits, a.signed, a.storage, a.msb_first) != (b.bits, b.signed, b.storage, b.msb_first):
         raise Refused("its samples are stored in another way than those of the first file")
     grid = grid_of(shape, has_frames=False) if shape else None
+    if grid is not None and grid.rows * grid.columns == first.facts.count:
+        grid = grid._replace(frames=1)
     if grid is None and first.facts.shape == second.facts.shape:
         grid = grid_of(first.facts.shape)
     if first.facts.count != second.facts.count:

@@ -43,11 +43,29 @@ def parse(data: bytes, most: int) -> Any:
     """Parses JSON in ASCII, with at most `most` containers, and eight times as many values. So the
     result needs a bounded amount of memory. Raises Wrong for anything else, also for numbers with a
     point, long numbers and names that occur twice."""
-    if data.count(b"[") + data.count(b"{") > most or data.count(b",") > 8 * most:
+    return parse_text(in_ascii(data), most)
+
+
+def unpack_json(data: bytes, most_bytes: int, most: int) -> Any:
+    """Unpacks and parses JSON. Raises Wrong as `unpack` and `parse`. Never holds the JSON twice."""
+    return parse_text(in_ascii(unpack(data, most_bytes)), most)
+
+
+def in_ascii(data: bytes) -> str:
+    """Returns a text. Raises Wrong if it isn't in ASCII."""
+    try:
+        return data.decode("ascii")
+    except UnicodeDecodeError:
+        raise Wrong("it isn't in ASCII") from None
+
+
+def parse_text(given: str, most: int) -> Any:
+    """Parses JSON as `parse`."""
+    if given.count("[") + given.count("{") > most or given.count(",") > 8 * most:
         raise Wrong("it has too many values")
     try:
         return json.loads(
-            data.decode("ascii"),
+            given,
             object_pairs_hook=once,
             parse_int=short_number,
             parse_float=no_number,

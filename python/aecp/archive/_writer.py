@@ -14,7 +14,6 @@ from aecp.archive._arrays import auto_options, dtype_of, flat_array, shaped, sto
 from aecp.archive._at import offsets
 from aecp.archive._file import ArchiveFile, Progress, decoded
 from aecp.archive._form import (
-    MOST_BYTES,
     MOST_SIDE,
     Damaged,
     Facts,
@@ -24,11 +23,13 @@ from aecp.archive._form import (
     Sum,
     dtype_in,
     ending,
+    interval_of,
+    most_stream,
     now,
     shape_in,
 )
 from aecp.archive._history import WRITER, Entry, keep_entry, packed_history
-from aecp.archive._index import GROUP_BITS, Index, index_bytes, interval_of
+from aecp.archive._index import GROUP_BITS, Index, index_bytes
 from aecp.archive._saving import new_file
 from aecp.archive._strict import Wrong
 from aecp.buffers import Readable
@@ -216,8 +217,8 @@ def judge_facts(facts: Facts) -> None:
     source = facts.source
     if source is not None and max(len(source.head), len(source.tail)) > MOST_SIDE:
         raise Refused(f"more than {MOST_SIDE} bytes are before or after the samples")
-    if facts.stream.bytes > MOST_BYTES:
-        raise Refused("the stream is too long")
+    if facts.stream.bytes > most_stream(facts.options, facts.count):
+        raise Refused("the stream has far more bytes than its samples need")
 
 
 class Creation:
@@ -228,11 +229,16 @@ class Creation:
         self, path: str, options: Options, shape: Optional[Sequence[int]], dtype: Optional[str]
     ) -> None:
         self.options, self.shape, self.dtype = options, shape, dtype
-        self._context = new_file(path)
         self._facts: Optional[Facts] = None
         self._is_open = False
-        self._writer = Writer(self._context.__enter__(), options)
+        self._context = new_file(path)
+        file = self._context.__enter__()
         self._is_open = True
+        try:
+            self._writer = Writer(file, options)
+        except BaseException:
+            self.discard()
+            raise
 
     def write(self, samples: Union[Readable, BinaryIO]) -> None:
         """Writes more samples: an array, stored samples as bytes, or a binary file that is read to
@@ -336,5 +342,15 @@ def unpack(data: Readable, limit: Optional[int] = None) -> Any:
     """Returns the array in the bytes of a FILE.aec. All of it is checked. Without numpy, returns an
     array of the module array. Raises Damaged; Refused if there are more samples than the limit."""
     with ArchiveFile.of_bytes(data, limit) as file:
-        file.judge_all()
-        return shaped(file.facts, flat_array(file.facts, file.facts.count, file.pieces()))
+        digest = hashlib.sha256()
+        made = flat_array(file.facts, file.facts.count, hashed(file.pieces(), digest))
+        if digest.hexdigest() != file.facts.samples.sha256:
+            raise Damaged("other samples", "the samples have another SHA-256 than the trailer says")
+        return shaped(file.facts, made)
+
+
+def hashed(pieces: Iterator[bytearray], digest: Any) -> Iterator[bytearray]:
+    """Yields the same pieces, and adds each to a sum."""
+    for piece in pieces:
+        digest.update(piece)
+        yield piece
