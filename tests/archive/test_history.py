@@ -8,7 +8,7 @@ import random
 from typing import Any
 
 import pytest
-from making import FAST, USUAL, keep, leftovers, noise, parts_at, read, samples_at, sound_parts, walk, write
+from making import FAST, USUAL, flip, keep, leftovers, noise, parts_at, read, samples_at, sound_parts, walk, write
 from plain_form import as_packed, packed
 from running import command, done, refused
 from settings import Settings
@@ -234,3 +234,27 @@ def test_info(place: str) -> None:
     assert ran.status == 1 and "500" in ran.out
     refused(place, "info", "none.aec")
     assert USUAL.bits == 16
+
+
+def test_a_damaged_history_costs_no_samples(place: str) -> None:
+    """`check` names it, `rescue` and aecp.open give all samples, and a new `forget` or `edit` doesn't hide it."""
+    import aecp
+
+    samples = walk(1, 3000)
+    path = keep(place, "f", samples)
+    parts = parts_at(path)
+    at = len(parts.stream) + 16 * len(parts.groups)
+    flip(path, 8 * at + 100)
+    assert "history" in refused(place, "check", "f.aec").said
+    ran = command(place, "back", "f.aec", "out")
+    assert ran.status == 1 or read(place, "out") == USUAL.stored(samples)
+    command(place, "rescue", "f.aec", "rescued")
+    assert read(place, "rescued") == USUAL.stored(samples)
+    with aecp.open(path) as file:
+        assert list(file) == samples
+    before = read(path)
+    for words in (["edit", "f.aec", "-"], ["undo", "f.aec"], ["forget", "f.aec", "--keep", "0"]):
+        refused(place, *words, given=b"append 1\n")
+        assert read(path) == before
+    done(place, "keep", "f", *USUAL.options(), "--repair")
+    assert sound_parts(path).stream == parts.stream
