@@ -31,6 +31,8 @@ Classifier: Typing :: Typed
 Requires-Python: {python}
 Provides-Extra: arrays
 Requires-Dist: numpy; extra == 'arrays'
+Provides-Extra: dask
+Requires-Dist: distributed; extra == 'dask'
 Provides-Extra: zarr
 Requires-Dist: numcodecs; extra == 'zarr'
 Description-Content-Type: text/markdown
@@ -100,10 +102,12 @@ def build(top, folder, version, moment, proved):
         python=project_value(project, "requires-python"),
         readme=data_of(os.path.join(source, "README.md")).decode(),
     )
-    info = f"aecp-{version}.dist-info"
+    info, share = f"aecp-{version}.dist-info", f"aecp-{version}.data/data/share"
     files = {
         **module_files(source, libraries),
-        f"aecp-{version}.data/data/share/man/man1/aecp.1": data_of(os.path.join(top, "man", "aecp.1")),
+        f"{share}/man/man1/aecp.1": data_of(os.path.join(top, "man", "aecp.1")),
+        f"{share}/bash-completion/completions/aecp": data_of(os.path.join(top, "completions", "aecp.bash")),
+        f"{share}/zsh/site-functions/_aecp": data_of(os.path.join(top, "completions", "_aecp")),
         f"{info}/LICENSE": data_of(os.path.join(top, "LICENSE")),
         f"{info}/METADATA": metadata.encode(),
         f"{info}/NOTICES": stage.notices(top),
