@@ -47,10 +47,9 @@ def damages(chance: random.Random) -> dict[str, Callable[[str], Any]]:
         "no options": lambda path: sealed(path, lambda it: it.fields.pop("options")),
         "negative count": lambda path: sealed(path, lambda it: it.fields["samples"].update(count=-1)),
         "no history": lambda path: sealed(path, lambda it: it.history[0].pop("after")),
-        "other state": lambda path: sealed(path, lambda it: it.history[-1]["after"]["stream"].update(sha256="1" * 64)),
     }
     for name in FORGERIES:
-        if name not in ("bit", "interval", "order of groups"):
+        if name != "head":  # the file was edited since, so no sum says what its head was
             ways[name] = lambda path, how=name: write(os.path.dirname(path), path, forged(parts_at(path), how))
     return ways
 
