@@ -258,3 +258,21 @@ def test_a_damaged_history_costs_no_samples(place: str) -> None:
         assert read(path) == before
     done(place, "keep", "f", *USUAL.options(), "--repair")
     assert sound_parts(path).stream == parts.stream
+
+
+def test_forget_moves_the_places_of_undone_edits(place: str) -> None:
+    path = keep(place, "f", walk(1, 3000))
+    for number in range(3):
+        done(place, "edit", "f.aec", "-", given=b"overwrite %d 9\n" % number)
+    done(place, "undo", "f.aec")
+    done(place, "edit", "f.aec", "-", given=b"overwrite 7 9\n")
+    done(place, "forget", "f.aec", "--keep", "3")
+    history = sound_parts(path).history
+    assert [it["what"] for it in history] == ["forget", "edit", "undo", "edit"]
+    assert history[2]["edit"] == 1 and history[1]["inverse"] is None
+    assert packed(history[1]["script"]) == b"overwrite 2 9\n"
+    done(place, "forget", "f.aec", "--keep", "2")
+    history = sound_parts(path).history
+    assert [it["what"] for it in history] == ["forget", "undo", "edit"] and history[1]["edit"] is None
+    done(place, "undo", "f.aec")
+    refused(place, "undo", "f.aec")
