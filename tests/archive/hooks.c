@@ -17,11 +17,16 @@
 
 static long stop_at, calls, room = -1, fail_at, fail_calls;
 static int stop_after, log_to = -1, refused_error, fail_error;
-static char refused[400], fail_name[40], planted[4096], fail_path[400];
+static char refused[400], fail_name[40], planted[4096], fail_path[400], made[400];
+static long make_at;
 
 void hooks_reset(void) {
     stop_at = calls = fail_at = fail_calls = 0, room = -1, log_to = -1;
-    refused[0] = fail_name[0] = planted[0] = fail_path[0] = 0;
+    refused[0] = fail_name[0] = planted[0] = fail_path[0] = made[0] = 0;
+}
+/* Makes the file `path` with the text "mine" before the call with this number, and the file `path`.made, if there is no such file. */
+void hooks_make(const char *path, long number) {
+    snprintf(made, sizeof made, "%s", path), make_at = number, calls = 0;
 }
 void hooks_log(int file) { log_to = file; }
 void hooks_stop(long number, int after) { stop_at = number, stop_after = after, calls = 0; }
@@ -53,10 +58,22 @@ static int is_in(const char *list, const char *name) {
     return strstr(list, word) != NULL;
 }
 
+static void make(void) {
+    char mark[420];
+    int (*open_it)(const char *, int, ...) = dlsym(RTLD_NEXT, "open");
+    ssize_t (*write_it)(int, const void *, size_t) = dlsym(RTLD_NEXT, "write");
+    int file = open_it(made, O_CREAT | O_EXCL | O_WRONLY, 0644);
+    snprintf(mark, sizeof mark, "%s.made", made);
+    if (file < 0) return;
+    if (write_it(file, "mine", 4) == 4) close(open_it(mark, O_CREAT | O_WRONLY, 0644));
+    close(file);
+}
+
 /* Returns whether the call is to fail, with errno set. Stops the process if its time has come. */
 static int begun(const char *name, const char *first, const char *second, int counts) {
     int number = errno;
     if (counts && ++calls == stop_at && !stop_after) kill(getpid(), SIGKILL);
+    if (counts && made[0] && calls == make_at) make();
     if (refused[0] && is_in(refused, name)) return errno = refused_error, 1;
     if (fail_name[0] && !strcmp(fail_name, name) && (strstr(first, fail_path) || strstr(second, fail_path)))
         if (++fail_calls == fail_at || !fail_at) return errno = fail_error, 1;

@@ -58,6 +58,8 @@ class Hooks:
     fail_at: int = 0
     fail_path: str = ""
     plant: str = ""
+    make: str = ""
+    make_at: int = 0
     logs: bool = False
 
 
@@ -79,6 +81,7 @@ def hooks_library() -> Any:
     library.hooks_stop.argtypes = [ctypes.c_long, ctypes.c_int]
     library.hooks_room.argtypes = [ctypes.c_long]
     library.hooks_calls.restype = ctypes.c_long
+    library.hooks_make.argtypes = [ctypes.c_char_p, ctypes.c_long]
     library.hooks_fail.argtypes = [ctypes.c_char_p, ctypes.c_long, ctypes.c_int, ctypes.c_char_p]
     return library
 
@@ -94,6 +97,8 @@ def arm(hooks: Hooks, log: int) -> None:
         library.hooks_fail(hooks.fail.encode(), hooks.fail_at, hooks.error, os.fsencode(hooks.fail_path))
     if hooks.plant:
         library.hooks_plant(os.fsencode(hooks.plant))
+    if hooks.make:
+        library.hooks_make(os.fsencode(hooks.make), hooks.make_at)
     if hooks.room is not None:
         library.hooks_room(hooks.room)
     if hooks.logs:

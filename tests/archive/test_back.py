@@ -165,33 +165,21 @@ def test_a_file_of_another_source_does_not_come_back(place: str) -> None:
 
 @pytest.mark.parametrize("refuse", [(), ("renameat2",), ("renameat2", "link", "linkat")], ids=len)
 def test_never_over_a_file_that_appears_meanwhile(place: str, refuse: tuple[str, ...]) -> None:
+    """A file of the same name appears before each call that writes: it stays, and the run is refused."""
     path = keep(place, "f", SAMPLES)
     os.unlink(path[:-4])
-    mark = os.path.join(os.path.dirname(place), "appeared")
-    for number in range(1, 40):
-        for name in (os.path.join(place, "out"), mark):
+    out = os.path.join(place, "out")
+    for number in range(1, 60):
+        for name in (out, out + ".made"):
             if os.path.lexists(name):
                 os.unlink(name)
-        hooks = Hooks(refuse=refuse, error=22)
-        ran = command(place, "back", "f.aec", "out", how=How(before=lambda: appearing(number), hooks=hooks))
-        if os.path.exists(mark):
-            assert read(place, "out") == b"mine", f"call {number}"
-            assert ran.status == 1
-        else:
-            assert ran.status == 0 and read(place, "out") == DATA
-    assert leftovers(place) == []
-
-
-def appearing(number: int) -> None:
-    """Makes the file `out` before the hooks' call with this number, in this process."""
-    from test_keep_remove import patch_calls
-
-    def appear() -> None:
-        with open("out", "xb") as file:
-            file.write(b"mine")
-        open("../appeared", "wb").close()
-
-    patch_calls(number, lambda: None if os.path.exists("out") else appear())
+        hooks = Hooks(refuse=refuse, error=22, make=out, make_at=number)
+        ran = command(place, "back", "f.aec", "out", how=How(hooks=hooks))
+        if not os.path.exists(out + ".made"):
+            assert ran.status == 0 and read(out) == DATA
+            break
+        assert read(out) == b"mine" and ran.status == 1, f"call {number}: {ran}"
+    assert number > 4 and leftovers(place) == []
 
 
 @pytest.mark.parametrize("names", [("renameat2",), ("renameat2", "link", "linkat")])

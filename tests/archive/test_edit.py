@@ -315,7 +315,7 @@ def test_pixels(place: str) -> None:
     for row in (b"0,20,1", b"10,0,1", b"-1,0,1", b"0,-1,1", b"3,20,1"):
         refused(place, "pixels", "--shape", "10x20", "-", given=row + b"\n")
     refused(place, "pixels", "--shape", "9x9", "-", given=b"1," + b"x" * 200000)
-    assert done(place, "pixels", "--shape", "9x9", "-", given=b"0,1,5\r0,2,6\r\n").out == "overwrite 1 5 6\n"
+    assert done(place, "pixels", "--shape", "9x9", "-", given=b"0,1,5\r0,2,6\r\n").out == "overwrite 1 5\noverwrite 2 6\n"
     assert command(place, "pixels", "--shape", "1", "table.csv").status == 2
     ran = refused(place, "pixels", "--shape", "10x20", "-", given=b"0,2,7\n0,2,8\n1,x,2\n")
     assert "line 2" in ran.err and "line 3" in ran.err

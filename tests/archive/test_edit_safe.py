@@ -125,8 +125,9 @@ def test_a_full_disk_changes_nothing(place: str) -> None:
             assert read(path) == before and leftovers(place) == []
 
 
-def test_a_wrong_coder_is_noticed(place: str) -> None:
-    """A stream that decodes to other samples never replaces the file."""
+@pytest.mark.parametrize("words,cut", [("edit f.aec -", 0), ("edit f.aec -", 3), ("undo f.aec", 0), ("undo f.aec", 3)])
+def test_a_wrong_coder_is_noticed(place: str, words: str, cut: int) -> None:
+    """A stream that is cut, or that decodes to other samples, never replaces the file."""
 
     def wrong() -> None:
         import sys
@@ -137,13 +138,15 @@ def test_a_wrong_coder_is_noticed(place: str) -> None:
             stream, number = real(coded, count, script, options)
             samples = bytearray(aecp.decode_bytes(stream, number, options))
             samples[100] ^= 1
-            return bytes(aecp.encode(bytes(samples), options))[:-3], number
+            coded = bytes(aecp.encode(bytes(samples), options))
+            return coded[: len(coded) - cut], number
 
         for module in [it for name, it in sys.modules.items() if name.startswith("aecp")]:
             if getattr(module, "edit", None) is real:
                 module.edit = other  # type: ignore[attr-defined]
 
     path = keep(place, "f", walk(1, 3000))
+    done(place, "edit", "f.aec", "-", given=b"overwrite 7 9\n")
     before = read(path)
-    ran = command(place, "edit", "f.aec", "-", given=b"overwrite 5 9\n", how=How(before=wrong))
+    ran = command(place, *words.split(), given=b"overwrite 5 9\n", how=How(before=wrong))
     assert ran.status == 1 and read(path) == before, ran

@@ -8,7 +8,7 @@ import random
 from typing import Any
 
 import pytest
-from making import FAST, USUAL, keep, leftovers, noise, parts_at, read, samples_at, sound_parts, walk, write
+from making import FAST, USUAL, flip, keep, leftovers, noise, parts_at, read, samples_at, sound_parts, walk, write
 from plain_form import as_packed, packed
 from running import command, done, refused
 from settings import Settings
@@ -234,3 +234,45 @@ def test_info(place: str) -> None:
     assert ran.status == 1 and "500" in ran.out
     refused(place, "info", "none.aec")
     assert USUAL.bits == 16
+
+
+def test_a_damaged_history_costs_no_samples(place: str) -> None:
+    """`check` names it, `rescue` and aecp.open give all samples, and a new `forget` or `edit` doesn't hide it."""
+    import aecp
+
+    samples = walk(1, 3000)
+    path = keep(place, "f", samples)
+    parts = parts_at(path)
+    at = len(parts.stream) + 16 * len(parts.groups)
+    flip(path, 8 * at + 100)
+    assert "history" in refused(place, "check", "f.aec").said
+    ran = command(place, "back", "f.aec", "out")
+    assert ran.status == 1 or read(place, "out") == USUAL.stored(samples)
+    command(place, "rescue", "f.aec", "rescued")
+    assert read(place, "rescued") == USUAL.stored(samples)
+    with aecp.open(path) as file:
+        assert list(file) == samples
+    before = read(path)
+    for words in (["edit", "f.aec", "-"], ["undo", "f.aec"], ["forget", "f.aec", "--keep", "0"]):
+        refused(place, *words, given=b"append 1\n")
+        assert read(path) == before
+    done(place, "keep", "f", *USUAL.options(), "--repair")
+    assert sound_parts(path).stream == parts.stream
+
+
+def test_forget_moves_the_places_of_undone_edits(place: str) -> None:
+    path = keep(place, "f", walk(1, 3000))
+    for number in range(3):
+        done(place, "edit", "f.aec", "-", given=b"overwrite %d 9\n" % number)
+    done(place, "undo", "f.aec")
+    done(place, "edit", "f.aec", "-", given=b"overwrite 7 9\n")
+    done(place, "forget", "f.aec", "--keep", "3")
+    history = sound_parts(path).history
+    assert [it["what"] for it in history] == ["forget", "edit", "undo", "edit"]
+    assert history[2]["edit"] == 1 and history[1]["inverse"] is None
+    assert packed(history[1]["script"]) == b"overwrite 2 9\n"
+    done(place, "forget", "f.aec", "--keep", "2")
+    history = sound_parts(path).history
+    assert [it["what"] for it in history] == ["forget", "undo", "edit"] and history[1]["edit"] is None
+    done(place, "undo", "f.aec")
+    refused(place, "undo", "f.aec")

@@ -52,7 +52,7 @@ def test_remove_takes_the_very_file_that_was_read(place: str, how: str) -> None:
     """Another changes the original before each call that the run makes: what it wrote is never lost."""
     samples, calls = FAST.stored(walk(1, 20000)), 0
     other = {"appended": samples + b"\1\2", "replaced": samples[::-1], "rewritten": samples[::-1]}[how]
-    for number in range(1, 90):
+    for number in range(1, 200):
         for name in os.listdir(place):
             os.unlink(os.path.join(place, name))
         path = write(place, "a", samples)
@@ -158,7 +158,7 @@ def test_a_file_that_changes_while_it_is_read(place: str, change: str) -> None:
         else:
             write(place, "a", FAST.stored(walk(2, 20000)))
 
-    for number in range(1, 30):
+    for number in range(1, 60):
         for name in os.listdir(place):
             os.unlink(os.path.join(place, name))
         write(place, "a", FAST.stored(walk(1, 20000)))

@@ -243,7 +243,8 @@ def test_little_memory(place: str) -> None:
 
     for line in ("keep f -n 16 --jobs 1", "check f.aec --jobs 1", "back f.aec out", "rescue f.aec out2"):
         words = line.split()
-        ended = subprocess.run([sys.executable, "-c", LIMITED, *words], cwd=place, env=environment, capture_output=True, text=True, check=False)
+        words = [sys.executable, "-c", LIMITED, *words]
+        ended = subprocess.run(words, cwd=place, env=environment, capture_output=True, text=True, check=False)
         assert ended.returncode == 0, (words, ended.stdout, ended.stderr)
     for name in ("out", "out2"):
         assert subprocess.run(["cmp", "f", name], cwd=place, check=False).returncode == 0

@@ -13,7 +13,7 @@ from typing import Any
 import aecp
 import pytest
 from making import FAST, USUAL, flip, keep, made, noise, read, tree, walk, write
-from running import command, done, start
+from running import How, command, done, start
 
 
 def many(place: str, count: int) -> None:
@@ -103,6 +103,31 @@ def test_a_killed_process_of_the_pool(place: str, verb: str) -> None:
     done(place, "keep", ".", "-n", "16", "--anyway")
     assert f"{count} checked, {count} sound, 0 damaged" in done(place, "check", ".").out
     assert not [it for it in os.listdir(place) if it.startswith(".")]
+
+
+@pytest.mark.parametrize("verb", ["keep", "check"])
+def test_a_file_that_kills_each_process(place: str, verb: str) -> None:
+    """A file that no process survives is named, with status 1, and all others are done."""
+    many(place, 8)
+    if verb == "check":
+        done(place, "keep", ".", "-n", "16", "--anyway")
+    bad = "f003.aec" if verb == "check" else "f003"
+
+    def deadly() -> None:
+        first, real = os.getpid(), os.open
+
+        def opened(path: Any, *more: Any, **named: Any) -> int:
+            if os.getpid() != first and str(path).endswith(bad):
+                os.kill(os.getpid(), signal.SIGKILL)
+            return real(path, *more, **named)
+
+        os.open = opened  # type: ignore[assignment]
+
+    words = ["keep", ".", "-n", "16", "--anyway"] if verb == "keep" else ["check", "."]
+    ran = command(place, *words, "--jobs", "2", how=How(before=deadly))
+    assert ran.status == 1 and "f003" in ran.said, ran
+    assert sum(name.endswith(".aec") for name in os.listdir(place)) == (8 if verb == "check" else 7)
+    assert kept_in(ran.out) == 7 if verb == "keep" else "7 sound" in ran.out, ran
 
 
 @pytest.fixture(scope="module")
