@@ -69,9 +69,10 @@ test:
 pages:
 	@python3 tools/modules.py
 
-# Writes man/aec.1 from docs/COMMAND.md, and man/aecp.1 from docs/ARCHIVE.md.
+# Writes man/aec.1 from docs/COMMAND.md, man/aecp.1 from docs/ARCHIVE.md, and the completions of aecp from its parser.
 man:
 	@python3 tools/man.py
+	@python3 tools/completions.py
 
 # Writes the version of the file VERSION into each file that contains a copy of it.
 version:
@@ -194,8 +195,10 @@ install-c:
 
 install-python:
 	@test -e bin/libaecp.so || { echo "there is no bin/libaecp.so: run make library first" >&2; exit 1; }
-	install -d $(DESTDIR)$(PREFIX)/bin $(share)/man/man1 $(DESTDIR)$(PYTHON_DIR)/aecp $(info)
+	install -d $(DESTDIR)$(PREFIX)/bin $(share)/man/man1 $(DESTDIR)$(PYTHON_DIR)/aecp/archive $(info)
+	install -d $(share)/bash-completion/completions $(share)/zsh/site-functions
 	install -m 644 python/aecp/*.py python/aecp/py.typed $(DESTDIR)$(PYTHON_DIR)/aecp
+	install -m 644 python/aecp/archive/*.py $(DESTDIR)$(PYTHON_DIR)/aecp/archive
 	install -m 755 bin/libaecp.so $(DESTDIR)$(PYTHON_DIR)/aecp/libaecp.so
 	if [ -e bin/x86-64-v3/libaecp.so ]; then \
 	    install -D -m 755 bin/x86-64-v3/libaecp.so $(DESTDIR)$(PYTHON_DIR)/aecp/x86-64-v3/libaecp.so; \
@@ -203,6 +206,8 @@ install-python:
 	printf '#!/usr/bin/env python3\nfrom aecp.cli import main\n\nmain()\n' > $(DESTDIR)$(PREFIX)/bin/aecp
 	chmod 755 $(DESTDIR)$(PREFIX)/bin/aecp
 	install -m 644 man/aecp.1 $(share)/man/man1/aecp.1
+	install -m 644 completions/aecp.bash $(share)/bash-completion/completions/aecp
+	install -m 644 completions/_aecp $(share)/zsh/site-functions/_aecp
 	printf 'Metadata-Version: 2.1\nName: aecp\nVersion: $(VERSION)\n' > $(info)/METADATA
 	install -m 644 python/entry_points.txt $(info)/entry_points.txt
 
@@ -210,6 +215,7 @@ install-python:
 uninstall-library:
 	rm -f $(DESTDIR)$(PREFIX)/include/aecp.h $(DESTDIR)$(PREFIX)/bin/aecp $(DESTDIR)$(LIBDIR)/pkgconfig/aecp.pc
 	rm -f $(DESTDIR)$(LIBDIR)/libaecp.a $(DESTDIR)$(LIBDIR)/libaecp.so.0 $(DESTDIR)$(LIBDIR)/libaecp.so
+	rm -f $(share)/bash-completion/completions/aecp $(share)/zsh/site-functions/_aecp
 	rm -f $(share)/man/man1/aecp.1 $(share)/man/man3/aecp.3 $(DESTDIR)$(LIBDIR)/$(hwcaps)/libaecp.so.0
 	rm -rf $(DESTDIR)$(LIBDIR)/cmake/aecp $(DESTDIR)$(PYTHON_DIR)/aecp $(info)
 	-rmdir $(DESTDIR)$(LIBDIR)/cmake 2> /dev/null

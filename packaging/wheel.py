@@ -31,6 +31,8 @@ Classifier: Typing :: Typed
 Requires-Python: {python}
 Provides-Extra: arrays
 Requires-Dist: numpy; extra == 'arrays'
+Provides-Extra: dask
+Requires-Dist: distributed; extra == 'dask'
 Provides-Extra: zarr
 Requires-Dist: numcodecs; extra == 'zarr'
 Description-Content-Type: text/markdown
@@ -62,8 +64,9 @@ def project_value(text, name):
 
 def module_files(folder, libraries):
     """Returns the files of the module, by their names in the wheel. `libraries` are the paths of the libraries, by their names in bin/."""
-    names = sorted(it for it in os.listdir(os.path.join(folder, "aecp")) if it.endswith(".py") or it == "py.typed")
-    found = {f"aecp/{name}": data_of(os.path.join(folder, "aecp", name)) for name in names}
+    places = (os.path.join(at, name) for at, _, names in os.walk(os.path.join(folder, "aecp")) for name in names)
+    taken = sorted(it for it in places if it.endswith(".py") or os.path.basename(it) == "py.typed")
+    found = {os.path.relpath(place, folder): data_of(place) for place in taken}
     return {**found, **{place: data_of(libraries[name]) for name, place in PLACES.items()}}
 
 
@@ -99,10 +102,12 @@ def build(top, folder, version, moment, proved):
         python=project_value(project, "requires-python"),
         readme=data_of(os.path.join(source, "README.md")).decode(),
     )
-    info = f"aecp-{version}.dist-info"
+    info, share = f"aecp-{version}.dist-info", f"aecp-{version}.data/data/share"
     files = {
         **module_files(source, libraries),
-        f"aecp-{version}.data/data/share/man/man1/aecp.1": data_of(os.path.join(top, "man", "aecp.1")),
+        f"{share}/man/man1/aecp.1": data_of(os.path.join(top, "man", "aecp.1")),
+        f"{share}/bash-completion/completions/aecp": data_of(os.path.join(top, "completions", "aecp.bash")),
+        f"{share}/zsh/site-functions/_aecp": data_of(os.path.join(top, "completions", "_aecp")),
         f"{info}/LICENSE": data_of(os.path.join(top, "LICENSE")),
         f"{info}/METADATA": metadata.encode(),
         f"{info}/NOTICES": stage.notices(top),

@@ -254,7 +254,8 @@ def try_imports(tally, folder):
         pass
     for name in (os.path.join(folder, "none.so"), empty, "libc.so.6"):
         given = {**os.environ, "AECP_LIBRARY": name}
-        ended = subprocess.run([sys.executable, "-c", "import aecp"], env=given, capture_output=True, text=True, check=False)
+        call = "import aecp; aecp.encode(b'', aecp.Options(8))"  # the library is loaded at the first call
+        ended = subprocess.run([sys.executable, "-c", call], env=given, capture_output=True, text=True, check=False)
         lines = [line for line in ended.stderr.splitlines() if re.match(r"\w+Error: |During|The above", line)]
         is_so = len(lines) == 1 and lines[0].startswith(f"ImportError: aecp can't use the library {name}: ")
         tally.holds(is_so, f"the library {name}: {ended.stderr}")

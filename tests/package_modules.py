@@ -125,7 +125,7 @@ def try_library(python, tally):
     levels = runpy.run_path(os.path.join(TOP, "python/aecp/levels.py"))
     here = levels["level"]()
     for asked in {"", levels["PLAIN"], here}:
-        status, said = run([python, "-c", "import aecp.library; print(aecp.library.LIBRARY._name)"], AECP_LEVEL=asked)
+        status, said = run([python, "-c", "import aecp.library; print(aecp.library.LIBRARY.load_now()._name)"], AECP_LEVEL=asked)
         end = "/aecp/x86-64-v3/libaecp.so\n" if (asked or here) == levels["V3"] else "/aecp/libaecp.so\n"
         tally.holds(status == 0 and said.endswith(end), f"the library that the module loads with AECP_LEVEL={asked}: {said}")
 

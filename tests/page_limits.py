@@ -27,7 +27,7 @@ MOST = {
     "CHANGELOG.md": 1000,
     "CONTRIBUTING.md": 2650,
     "docs/ARCHITECTURE.md": 2300,
-    "docs/ARCHIVE.md": 1200,
+    "docs/ARCHIVE.md": 2600,
     "docs/CHECK.md": 900,
     "docs/COMMAND.md": 3000,
     "docs/DECISIONS.md": 4650,
@@ -38,7 +38,7 @@ MOST = {
     "docs/RECIPES.md": 1600,
     "docs/SPEED.md": 1850,
 }
-ALL = 34500
+ALL = 38000
 FOLDERS = ("*.md", "docs/*.md", "examples/*.md", "examples/*/README.md", "crates/*/README.md", "bench/steps.md")
 ALONE = ("python/README.md", "rust/*/README.md")
 RUN = 8

@@ -20,6 +20,7 @@ definitions python3 tests/definitions.py
 modules python3 tools/modules.py --check
 theorems python3 tools/theorem.py --check
 man python3 tools/man.py --check
+completions python3 tools/completions.py --check
 limits python3 tests/limits.py
 edits python3 tests/edits_apply.py
 cited python3 tests/cited.py

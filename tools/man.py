@@ -4,7 +4,7 @@
 The title of a source becomes the section NAME, its first block of code SYNOPSIS, and the text from there to the first heading
 DESCRIPTION. Each other heading begins a section of its own. A row of a table becomes a tagged paragraph: the first cell
 is the tag, the second the text, and each later cell follows the head of its column. A list item that begins with code and a colon
-becomes a paragraph with that code as its tag.
+becomes a paragraph with that code as its tag. Sections of LEFT_OUT stay on their page alone.
 
 With --check nothing is written, and the script fails if a page differs from what it would write.
 """
@@ -20,6 +20,7 @@ TOP = os.path.join(os.path.dirname(os.path.abspath(__file__)), "..")
 SOURCES = {"man/aec.1": "docs/COMMAND.md", "man/aecp.1": "docs/ARCHIVE.md"}
 NOTE = '.\\" Written by `make man` from %s.\n'
 COLUMNS = 100
+LEFT_OUT = ("Speed", "The form of FILE.aec")
 ITEM = re.compile(r"(- |\d+\. )(.*)")
 TAGGED = re.compile(r"`([^`]*)`: (.*)", re.S)
 # Characters that roff would read as something else, and how they are written.
@@ -145,6 +146,8 @@ def page(source):
     """Returns the manual page that a source becomes."""
     with open(os.path.join(TOP, source), encoding="utf-8") as file:
         text = file.read()
+    for name in LEFT_OUT:
+        text = re.sub(rf"(?ms)^## {re.escape(name)}$.*?(?=^## |\Z)", "", text)
     title, synopsis, *rest = blocks(text)
     name, what = title[0].removeprefix("# ").split(": ", 1)
     out = [NOTE % source, f'.TH {name.upper()} 1 "" "{name} {version()}" "User Commands"\n']

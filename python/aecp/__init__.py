@@ -6,33 +6,30 @@ r"""Lossless coding of integer samples in the format CCSDS 121.0-B-3, with the p
     >>> aecp.decode(coded, len(samples), options)       # -> numpy.ndarray
     >>> aecp.decode_range(coded, len(samples), 100, 50, options)
     >>> coded, count = aecp.edit(coded, len(samples), "insert 100 7 8 9\nremove 0 5\n", options)
+    >>> with aecp.create("scan.aec", options) as file:      # FILE.aec has options, count, sums and an index
+    ...     file.write(samples)
+    >>> aecp.open("scan.aec")[1000:1010]                    # reads only what it needs
+    >>> aecp.unpack(aecp.pack(array))                       # the same in memory; any shape and dtype of whole numbers
 
 A coded stream contains neither its options nor its sample count. Keep both with the stream: no call is sure to notice wrong ones.
 `encode`, `decode_bytes` and `decode_range_bytes` need only the standard library; `decode` and `decode_range` return numpy arrays.
+The library is loaded at the first call, which raises ImportError if there is none.
 Several threads may call at once, and their calls run in parallel. While a call runs, no thread may change the memory passed to it.
 """
 
-import os
-import sys
-
 __version__ = "1.0.0"
 
-try:
-    from aecp.calls import decode, decode_bytes, decode_range, decode_range_bytes, encode
-    from aecp.faults import (
-        Fault, LimitPassed, NoMemory, NoRoom, NotOpen, OptionsRefused, RangeRefused, SampleRefused, ScriptRefused, StreamRefused,
-    )  # fmt: skip
-    from aecp.options import Options
-    from aecp.streams import Decoder, Encoder, edit
-    from aecp.workspace import Workspace
-except ImportError:
-    # The command aecp prints a line of its own if there is no library, and gives help without one. While Python looks for the module of
-    # `python -m aecp`, sys.argv is ["-m"].
-    if sys.argv[:1] != ["-m"] and os.path.basename(sys.argv[0]) != "aecp":
-        raise
+from aecp.archive import create, open, pack, unpack
+from aecp.calls import decode, decode_bytes, decode_range, decode_range_bytes, encode
+from aecp.faults import (
+    Fault, LimitPassed, NoMemory, NoRoom, NotOpen, OptionsRefused, RangeRefused, SampleRefused, ScriptRefused, StreamRefused,
+)  # fmt: skip
+from aecp.options import Options
+from aecp.streams import Decoder, Encoder, edit
+from aecp.workspace import Workspace
 
 __all__ = [
     "Decoder", "Encoder", "Fault", "LimitPassed", "NoMemory", "NoRoom", "NotOpen", "Options", "OptionsRefused", "RangeRefused",
-    "SampleRefused", "ScriptRefused", "StreamRefused", "Workspace", "__version__", "decode", "decode_bytes", "decode_range",
-    "decode_range_bytes", "edit", "encode",
+    "SampleRefused", "ScriptRefused", "StreamRefused", "Workspace", "__version__", "create", "decode", "decode_bytes", "decode_range",
+    "decode_range_bytes", "edit", "encode", "open", "pack", "unpack",
 ]  # fmt: skip

@@ -11,7 +11,8 @@ from __future__ import annotations
 from dataclasses import replace
 from typing import Any
 
-from aecp.calls import decode_bytes, encode, refuse_mask
+from aecp.calls import decode_bytes, decode_range_bytes, encode, refuse_mask
+from aecp.faults import OUT_OF_RANGE, fault_of
 from aecp.options import Options
 from numcodecs.abc import Codec  # type: ignore[import]
 from numcodecs.compat import ensure_contiguous_ndarray, ensure_ndarray, ndarray_copy  # type: ignore[import]
@@ -58,10 +59,24 @@ class Aecp(Codec):  # type: ignore[misc]
     def decode(self, buf: Any, out: Any = None) -> Any:
         """Decodes a chunk. Returns its stored samples as a bytearray, or copies them to `out` and returns `out`. Raises what
         aecp.decode_bytes raises."""
+        stream, count, options = self.parts_of(buf)
+        samples = decode_bytes(stream, count, options)
+        return samples if out is None else ndarray_copy(samples, out)
+
+    def decode_partial(self, buf: Any, start: int, nitems: int, out: Any = None) -> Any:
+        """Decodes `nitems` samples of a chunk, from sample `start` on, and no sample after them. Returns them as decode does. Raises what
+        aecp.decode_range_bytes raises."""
+        stream, count, options = self.parts_of(buf)
+        if not 0 <= start <= start + nitems <= count:
+            raise fault_of(OUT_OF_RANGE, count, f"the range {start}:{nitems} is outside the {count} samples of the chunk")
+        samples = decode_range_bytes(stream, start + nitems, start, nitems, options)
+        return samples if out is None else ndarray_copy(samples, out)
+
+    def parts_of(self, buf: Any) -> tuple[memoryview, int, Options]:
+        """Returns the stream of a chunk, its number of samples and its options."""
         chunk = memoryview(ensure_contiguous_ndarray(buf)).cast("B")
         is_other, count = divmod(int.from_bytes(chunk[:HEAD], "little"), OTHER_ORDER)
-        samples = decode_bytes(chunk[HEAD:], count, self.ordered(bool(is_other)))
-        return samples if out is None else ndarray_copy(samples, out)
+        return chunk[HEAD:], count, self.ordered(bool(is_other))
 
     def get_config(self) -> dict[str, Any]:
         """Returns the configuration from which numcodecs.get_codec makes this codec."""

@@ -5,7 +5,8 @@ from __future__ import annotations
 import ctypes
 import functools
 import os
-from typing import Any
+import threading
+from typing import Any, Optional
 
 from aecp.levels import names_of
 from aecp.options import FLAGS, NUMBERS, Options
@@ -138,7 +139,35 @@ def judge_version(library: ctypes.CDLL) -> None:
             raise OSError(f"it has version {number // 10000}.{number // 100 % 100}.{number % 100}, and the module needs {needed}")
 
 
-LIBRARY = load()
+class Library:
+    """The calls of libaecp.so, as attributes. The library is loaded when the first one is asked for, or by `load_now`."""
+
+    def __init__(self) -> None:
+        self._lock = threading.Lock()
+        self._loaded: Optional[ctypes.CDLL] = None
+
+    def __getattr__(self, name: str) -> Any:
+        """Returns a call. Raises ImportError as `load`."""
+        if name.startswith("__"):
+            raise AttributeError(name)
+        library = self.load_now()
+        call = getattr(library, name)
+        self.__dict__[name] = call  # from now on it is found there, without this method
+        return call
+
+    def load_now(self) -> ctypes.CDLL:
+        """Loads the library, if it isn't loaded yet. Raises ImportError as `load`."""
+        with self._lock:
+            if self._loaded is None:
+                self._loaded = load()
+            return self._loaded
+
+    @property
+    def is_loaded(self) -> bool:
+        return self._loaded is not None
+
+
+LIBRARY = Library()
 
 
 def c_options(options: Options) -> COptions:

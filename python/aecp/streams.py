@@ -101,7 +101,7 @@ class Encoder(Alone):
         return bytes(target.view)
 
     def __del__(self) -> None:
-        if hasattr(self, "_coder"):
+        if hasattr(self, "_coder") and LIBRARY.is_loaded:
             LIBRARY.aecp_coder_close(self._coder)
 
 
@@ -156,7 +156,7 @@ class Decoder(Alone):
         return reply.len
 
     def __del__(self) -> None:
-        if hasattr(self, "_reader"):
+        if hasattr(self, "_reader") and LIBRARY.is_loaded:
             LIBRARY.aecp_reader_close(self._reader)
 
 

@@ -333,5 +333,5 @@ class Workspace(MutableSequence[int]):
         self.close()
 
     def __del__(self) -> None:
-        if hasattr(self, "_handle"):
+        if hasattr(self, "_handle") and LIBRARY.is_loaded:
             self.close()

@@ -1,4 +1,8 @@
-"""Scripts of edits: checks them, applies them to stored samples, and makes them from the difference of two lists of samples."""
+"""Scripts of edits: checks their lines, makes them from tables, and makes them from the difference
+of two lists of samples.
+
+The library's call `edit` applies scripts. The check here only finds all bad lines at once, before
+anything is done."""
 
 from __future__ import annotations
 
@@ -15,9 +19,22 @@ SMALL_PART = 1 << 11  # samples of a part that is searched for differences
 LEAF = 16  # samples that are compared one by one
 A_LINE = 1000  # the most values in a line that is written
 SHOWN = 30  # characters of a word in a complaint
+MOST_SHOWN = 20  # complaints that are shown
 # For each name, how many places follow it, and whether values follow them.
-FORMS = {"overwrite": (1, True), "append": (0, True), "truncate": (1, False), "insert": (1, True), "remove": (2, False)}
-PLACES = {"overwrite": "FIRST V..", "append": "V..", "truncate": "COUNT", "insert": "FIRST V..", "remove": "FIRST LEN"}
+FORMS = {
+    "overwrite": (1, True),
+    "append": (0, True),
+    "truncate": (1, False),
+    "insert": (1, True),
+    "remove": (2, False),
+}
+PLACES = {
+    "overwrite": "FIRST V..",
+    "append": "V..",
+    "truncate": "COUNT",
+    "insert": "FIRST V..",
+    "remove": "FIRST LEN",
+}
 
 
 class Edit(NamedTuple):
@@ -29,7 +46,8 @@ class Edit(NamedTuple):
     values: list[int]
 
     def exchanged(self, count: int) -> tuple[int, int]:
-        """Returns which places, of `count` samples, the values replace: the first one, and the one after the last."""
+        """Returns which places, of `count` samples, the values replace: the first one, and the one
+        after the last."""
         first = self.places[0] if self.places else count
         if self.name == "overwrite":
             return first, first + len(self.values)
@@ -43,7 +61,8 @@ class BadLine(Exception):
 
 
 class Judged(NamedTuple):
-    """The edits of a script, what is wrong with its other lines, and the number of samples after the edits."""
+    """The edits of a script, what is wrong with its other lines, and the number of samples after
+    the edits."""
 
     edits: list[Edit]
     complaints: list[str]
@@ -56,7 +75,8 @@ def cut(word: str) -> str:
 
 
 def number_in(word: str, least: int, end: int, what: str) -> int:
-    """Returns a word as a number. Raises BadLine, which calls it a `what`, if it isn't one from `least` to `end` - 1."""
+    """Returns a word as a number. Raises BadLine, which calls it a `what`, if it isn't one from
+    `least` to `end` - 1."""
     if not re.fullmatch(r"-?[0-9]+" if least < 0 else r"[0-9]+", word):
         raise BadLine(f"{cut(word)!r} is no {what}")
     if len(word) > 25 or not least <= int(word) < end:
@@ -75,14 +95,18 @@ def edit_of(line: int, words: list[str], allow_empty: bool) -> Edit:
     if has_values and len(rest) == many and not allow_empty:
         raise BadLine(f"{name} has no value (--allow-empty takes such lines)")
     places = [number_in(word, 0, 2**64, "place") for word in rest[:many]]
-    return Edit(line, name, places, [number_in(word, -(2**63), 2**63, "value") for word in rest[many:]])
+    values = [number_in(word, -(2**63), 2**63, "value") for word in rest[many:]]
+    return Edit(line, name, places, values)
 
 
 def judge(edit: Edit, count: int, options: Options) -> int:
-    """Returns the number of samples after an edit of `count` samples. Raises BadLine if the edit doesn't fit."""
+    """Returns the number of samples after an edit of `count` samples. Raises BadLine if the edit
+    doesn't fit."""
     first, end = edit.exchanged(count)
     if end > count:
-        what = f"the {len(edit.values)} samples from place {first} on reach" if end - first > 1 and first < count else f"place {first} is"
+        what = f"place {first} is"
+        if end - first > 1 and first < count:
+            what = f"the {len(edit.values)} samples from place {first} on reach"
         if edit.name == "remove":
             what = f"{edit.places[1]} samples from place {first} on reach"
         raise BadLine(f"{what} outside the {count} samples")
@@ -93,12 +117,14 @@ def judge(edit: Edit, count: int, options: Options) -> int:
     if edit.values and not least <= min(edit.values) <= max(edit.values) <= most:
         index = next(i for i, value in enumerate(edit.values) if not least <= value <= most)
         place = (count if edit.name == "append" else first) + index
-        raise BadLine(f"the value {edit.values[index]} for place {place} is out of range: {least} to {most}")
+        value = edit.values[index]
+        raise BadLine(f"the value {value} for place {place} is out of range: {least} to {most}")
     return left
 
 
 def judged(script: bytes, count: int, options: Options, allow_empty: bool = False) -> Judged:
-    """Returns the edits of a script for `count` samples. Each bad line is a complaint, and the lines after it are checked without it."""
+    """Returns the edits of a script for `count` samples. Each bad line is a complaint, and the
+    lines after it are checked without it."""
     edits, complaints = [], []
     for line, data in enumerate(script.split(b"\n"), 1):
         text = data.removesuffix(b"\r").decode("utf-8", "backslashreplace")
@@ -128,7 +154,8 @@ class Store:
         """Returns numbers as stored samples."""
         if self.letter:
             return struct.pack(f"{self.order}{len(values)}{self.letter}", *values)
-        return b"".join(value.to_bytes(self.width, self.byte_order, signed=self.signed) for value in values)
+        order, signed = self.byte_order, self.signed
+        return b"".join(value.to_bytes(self.width, order, signed=signed) for value in values)
 
     def values_of(self, data: bytes) -> list[int]:
         """Returns stored samples as numbers."""
@@ -139,7 +166,8 @@ class Store:
 
 
 def edited(samples: bytearray, edits: list[Edit], options: Options) -> bytearray:
-    """Applies checked edits to stored samples, and returns these samples."""
+    """Applies checked edits to stored samples, and returns these samples: what an edited stream is
+    compared with."""
     store = Store(options)
     for edit in edits:
         first, end = edit.exchanged(len(samples) // store.width)
@@ -148,8 +176,9 @@ def edited(samples: bytearray, edits: list[Edit], options: Options) -> bytearray
 
 
 def parts_of(edits: list[Edit], width: int) -> Optional[list[tuple[int, int]]]:
-    """Returns the parts of the stored samples that overwrites may have changed: the first byte and the length of each, in order. Returns
-    None if there are other edits, which may have moved samples."""
+    """Returns the parts of the stored samples that overwrites may have changed: the first byte and
+    the length of each, in order. Returns None if there are other edits, which may have moved
+    samples."""
     if any(edit.name != "overwrite" for edit in edits):
         return None
     parts: list[tuple[int, int]] = []
@@ -168,9 +197,11 @@ def all_parts(size: int, width: int) -> Iterator[tuple[int, int]]:
         yield first, SMALL_PART * width
 
 
-def differing_runs(before: bytes, after: bytes, width: int, parts: Optional[list[tuple[int, int]]] = None) -> Iterator[tuple[int, int]]:
-    """Yields the runs of samples that differ in two lists of the same length: the first place of each run, and the place after its last.
-    With `parts`, only these are compared."""
+def differing_runs(
+    before: bytes, after: bytes, width: int, parts: Optional[list[tuple[int, int]]] = None
+) -> Iterator[tuple[int, int]]:
+    """Yields the runs of samples that differ in two lists of the same length: the first place of
+    each run, and the place after its last. With `parts`, only these are compared."""
     begun = end = -1
     for first, length in all_parts(len(before), width) if parts is None else parts:
         for at in differing_places(before, after, first, length, width):
@@ -183,13 +214,18 @@ def differing_runs(before: bytes, after: bytes, width: int, parts: Optional[list
         yield begun, end
 
 
-def differing_places(before: bytes, after: bytes, first: int, length: int, width: int) -> Iterator[int]:
-    """Yields the places of samples that differ, in a part of the bytes. Halves that are equal are skipped."""
+def differing_places(
+    before: bytes, after: bytes, first: int, length: int, width: int
+) -> Iterator[int]:
+    """Yields the places of samples that differ, in a part of the bytes. Halves that are equal are
+    skipped."""
     ours, theirs = before[first : first + length], after[first : first + length]
     if ours == theirs:
         return
     if length <= LEAF * width:
-        yield from ((first + at) // width for at in range(0, len(ours), width) if ours[at : at + width] != theirs[at : at + width])
+        for at in range(0, len(ours), width):
+            if ours[at : at + width] != theirs[at : at + width]:
+                yield (first + at) // width
         return
     half = (length // width + 1) // 2 * width
     yield from differing_places(before, after, first, half, width)
@@ -197,8 +233,9 @@ def differing_places(before: bytes, after: bytes, first: int, length: int, width
 
 
 def longest(most: int, is_equal: Callable[[int, int], bool]) -> int:
-    """Returns how many samples are equal before the first that differs, at most `most`. `is_equal(first, last)` compares those from place
-    `first` on and before place `last`. All places count from the front, or all from the end."""
+    """Returns how many samples are equal before the first that differs, at most `most`.
+    `is_equal(first, last)` compares those from place `first` on and before place `last`. All places
+    count from the front, or all from the end."""
     count, step = 0, PART
     while count < most:
         step = min(step, most - count)
@@ -224,15 +261,16 @@ def equal_end(before: bytes, after: bytes, width: int, front: int) -> int:
     """Returns how many samples at the end are equal, without the front."""
 
     def is_equal(first: int, last: int) -> bool:
-        ours, theirs = (data[len(data) - last * width : len(data) - first * width] for data in (before, after))
-        return ours == theirs
+        ours = before[len(before) - last * width : len(before) - first * width]
+        return ours == after[len(after) - last * width : len(after) - first * width]
 
     return longest(min(len(before), len(after)) // width - front, is_equal)
 
 
 class Change(NamedTuple):
-    """How two lists of samples differ. Either `runs` are the ranges of places that differ, and the longer list has more samples at its
-    end; or `runs` is None, and the samples after the first `front` and before the last `end` are replaced."""
+    """How two lists of samples differ. Either `runs` are the ranges of places that differ, and the
+    longer list has more samples at its end; or `runs` is None, and the samples after the first
+    `front` and before the last `end` are replaced."""
 
     runs: Optional[list[tuple[int, int]]]
     front: int
@@ -240,7 +278,9 @@ class Change(NamedTuple):
     samples: int
 
 
-def change_of(before: bytes, after: bytes, width: int, parts: Optional[list[tuple[int, int]]] = None) -> Change:
+def change_of(
+    before: bytes, after: bytes, width: int, parts: Optional[list[tuple[int, int]]] = None
+) -> Change:
     """Returns the change that names fewer samples. With `parts`, only these are compared."""
     both = min(len(before), len(after))
     number = abs(len(before) - len(after)) // width
@@ -260,7 +300,8 @@ def change_of(before: bytes, after: bytes, width: int, parts: Optional[list[tupl
 
 
 def difference(before: bytes, after: bytes, change: Change, options: Options) -> Iterator[bytes]:
-    """Yields the lines of a script that makes the samples `after` from the samples `before`. `change` is how they differ."""
+    """Yields the lines of a script that makes the samples `after` from the samples `before`.
+    `change` is how they differ."""
     store = Store(options)
     width, front, end = store.width, change.front * store.width, change.end * store.width
     if change.runs is not None:

@@ -1,0 +1,199 @@
+#!/usr/bin/env python3
+"""Measures the archive of one file: archive.py FOLDER [--place DIR] [--full] [--only NAME]
+
+FOLDER contains libaecp.so. Prints a table for each of
+    ends     ten samples at the end of 64 MiB and of 1 GiB, by aecp.open, and by flac, where it can seek
+    files    keep and check of 10,000 files of 8 KiB, beside zstd
+    large    keep and check of 1 GiB (with --full 4 GiB), beside flac and zstd
+    growth   the history: 100 edits of 3,000 samples in 256 KiB, the same places each time, and others
+Each time is the least of some runs, in seconds of the clock. Without --full the numbers of files and bytes are an eighth.
+"""
+
+from __future__ import annotations
+
+import argparse
+import os
+import random
+import shutil
+import subprocess
+import sys
+import tempfile
+import time
+from pathlib import Path
+from typing import Any, Callable
+
+TOP = Path(__file__).resolve().parents[1]
+MIB = 1 << 20
+
+
+def clock(work: Callable[[], Any], runs: int = 1, before: Callable[[], Any] = lambda: None) -> float:
+    """Returns the least time of some runs."""
+    times = []
+    for _ in range(runs):
+        before()
+        begun = time.perf_counter()
+        work()
+        times.append(time.perf_counter() - begun)
+    return min(times)
+
+
+def row(*cells: Any) -> None:
+    print("| " + " | ".join(str(it) for it in cells) + " |", flush=True)
+
+
+def head(*cells: str) -> None:
+    print()
+    row(*cells)
+    row(*("---" for _ in cells))
+
+
+def run(*words: Any, where: str) -> None:
+    line = [str(it) for it in words]
+    subprocess.run(line, cwd=where, check=True, stdout=subprocess.DEVNULL, stderr=subprocess.DEVNULL)
+
+
+def aecp_words(*words: Any) -> list[str]:
+    return [sys.executable, "-m", "aecp", *map(str, words)]
+
+
+def detector(seed: int, samples: int) -> bytes:
+    """Returns samples of 16 bits: a level that moves, noise of some bits, and bright pixels."""
+    chance = random.Random(seed)
+    block = bytearray()
+    level = 1000
+    for _ in range(4096):
+        level = min(max(level + chance.randint(-3, 3), 200), 3000)
+        x = level + chance.getrandbits(4) + (chance.getrandbits(12) if chance.random() < 0.001 else 0)
+        block += x.to_bytes(2, "little")
+    out = bytearray()
+    while len(out) < 2 * samples:
+        cut = 2 * chance.randrange(4096)
+        out += block[cut:] + block[:cut]
+    return bytes(out[: 2 * samples])
+
+
+def write_large(path: str, size: int) -> None:
+    piece = detector(1, MIB // 2)
+    with open(path, "wb") as file:
+        for number in range(size // MIB):
+            cut = 2 * (number * 7919 % (MIB // 2))
+            file.write(piece[cut:] + piece[:cut])
+
+
+def ends(place: str, full: bool) -> None:
+    """Ten samples at the end, with opening the file."""
+    import aecp
+
+    head("ten samples at the end of", "by aecp.open, us", "bytes of FILE.aec")
+    for mib in (64, 1024) if full else (8, 128):
+        raw, path = os.path.join(place, "raw"), os.path.join(place, "f.aec")
+        write_large(raw, mib * MIB)
+        with aecp.create(path, aecp.Options(16)) as made, open(raw, "rb") as file:
+            made.write(file)
+
+        def last() -> None:
+            with aecp.open(path) as samples:
+                list(samples[-10:])
+
+        row(f"{mib} MiB", round(clock(last, 50) * 1e6), os.path.getsize(path))
+        for name in (raw, path):
+            os.unlink(name)
+
+
+def files(place: str, full: bool) -> None:
+    """Many small files."""
+    many = 10000 if full else 1250
+    folder = os.path.join(place, "many")
+    os.mkdir(folder)
+    for number in range(many):
+        Path(folder, f"f{number:05}.raw").write_bytes(detector(number % 50, 4096))
+    head(f"{many} files of 8 KiB", "seconds", "files a second")
+    for name, words in {
+        "aecp keep": aecp_words("keep", folder, "-n", 16),
+        "aecp check": aecp_words("check", folder),
+        "aecp back --to": aecp_words("back", folder, "--to", "restored"),
+        "aecp keep --jobs 1 --to": aecp_words("keep", folder, "-n", 16, "--jobs", 1, "--to", "other"),
+    }.items():
+        took = clock(lambda: run(*words, where=place))
+        row(name, f"{took:.1f}", round(many / took))
+    if shutil.which("zstd"):
+        took = clock(lambda: run("sh", "-c", "find many -name '*.raw' | xargs zstd -q -T0 --output-dir-flat zstd", where=place))
+        row("zstd -3 (not synced)", f"{took:.1f}", round(many / took))
+        took = clock(lambda: run("sh", "-c", "find zstd -name '*.zst' | xargs zstd -q -t", where=place))
+        row("zstd -t", f"{took:.1f}", round(many / took))
+    for name in ("many", "restored", "other", "zstd"):
+        shutil.rmtree(os.path.join(place, name), ignore_errors=True)
+
+
+def large(place: str, full: bool) -> None:
+    """One large file."""
+    size = (4096 if full else 256) * MIB
+    raw = os.path.join(place, "raw")
+    write_large(raw, size)
+    head(f"{size // MIB} MiB", "seconds", "bytes")
+
+    def measured(name: str, result: str, *words: Any) -> None:
+        took = clock(lambda: run(*words, where=place))
+        row(name, f"{took:.1f}", os.path.getsize(os.path.join(place, result)) if result else "")
+
+    measured("aecp keep", "raw.aec", *aecp_words("keep", "raw", "-n", 16, "--jobs", 1))
+    measured("aecp check", "", *aecp_words("check", "raw.aec", "--jobs", 1))
+    measured("aecp back", "again", *aecp_words("back", "raw.aec", "again"))
+    os.unlink(os.path.join(place, "again"))
+    if shutil.which("zstd"):
+        measured("zstd -3", "raw.zst", "zstd", "-q", "-3", "raw", "-o", "raw.zst")
+        measured("zstd -t", "", "zstd", "-q", "-t", "raw.zst")
+    if shutil.which("flac") and size < 2 << 30:
+        shape = ["--force-raw-format", "--endian=little", "--sign=unsigned", "--channels=1", "--bps=16", "--sample-rate=48000"]
+        measured("flac -5", "raw.flac", "flac", "-s", "-5", *shape, "raw", "-o", "raw.flac")
+        measured("flac -t", "", "flac", "-s", "-t", "raw.flac")
+    for name in ("raw", "raw.aec", "raw.zst", "raw.flac"):
+        if os.path.exists(os.path.join(place, name)):
+            os.unlink(os.path.join(place, name))
+
+
+def growth(place: str, full: bool) -> None:
+    """The bytes of the file after 100 edits."""
+    edits = 100 if full else 25
+    samples = 1 << 17
+    head(f"{edits} edits of 3,000 samples in 256 KiB", "stream, bytes", "FILE.aec, bytes", "times the stream", "seconds an edit")
+    for name, same in (("the same places each time", True), ("other places each time", False)):
+        chance = random.Random(1)
+        Path(place, "g").write_bytes(detector(1, samples))
+        run(*aecp_words("keep", "g", "-n", 16), where=place)
+        places = sorted(chance.sample(range(samples), 3000))
+        spent = 0.0
+        for _ in range(edits):
+            if not same:
+                places = sorted(chance.sample(range(samples), 3000))
+            script = "".join(f"overwrite {at} {chance.randrange(900, 1100)}\n" for at in places)
+            Path(place, "script").write_text(script, encoding="ascii")
+            spent += clock(lambda: run(*aecp_words("edit", "g.aec", "script"), where=place))
+        run(*aecp_words("export", "g.aec", "bare"), where=place)
+        stream, size = (os.path.getsize(os.path.join(place, it)) for it in ("bare", "g.aec"))
+        row(name, stream, size, f"{size / stream:.2f}", f"{spent / edits:.2f}")
+        for it in ("g", "g.aec", "bare", "script"):
+            os.unlink(os.path.join(place, it))
+
+
+TABLES = {"ends": ends, "files": files, "large": large, "growth": growth}
+
+
+def main() -> None:
+    asked = argparse.ArgumentParser(description=__doc__, allow_abbrev=False)
+    asked.add_argument("library", metavar="FOLDER")
+    asked.add_argument("--place", help="the folder for the files, which needs three times the bytes of the largest")
+    asked.add_argument("--full", action="store_true")
+    asked.add_argument("--only", choices=TABLES)
+    words = asked.parse_args()
+    os.environ["AECP_LIBRARY"] = os.path.abspath(os.path.join(words.library, "libaecp.so"))
+    os.environ["PYTHONPATH"] = str(TOP / "python")
+    sys.path.insert(0, str(TOP / "python"))
+    with tempfile.TemporaryDirectory(dir=words.place) as place:
+        for name, table in TABLES.items():
+            if words.only in (None, name):
+                table(place, words.full)
+
+
+if __name__ == "__main__":
+    main()

@@ -1,0 +1,185 @@
+"""Which files a run works on, and where it writes."""
+
+from __future__ import annotations
+
+import fnmatch
+import os
+import re
+from collections.abc import Iterable, Iterator
+from typing import Callable, NamedTuple
+
+STREAM, NOTE, OLD_NOTE = ".aec", ".aec.json", ".aec.note"
+OURS = (STREAM, NOTE, OLD_NOTE)
+# Files that are being written, by this form and by the one before.
+HIDDEN = re.compile(r"\.aecp-.{8}\.new|\..*\.aec\.([0-9a-f]{12}\.new|json\.new|lock)", re.S)
+ENDS = "txt md csv tsv json xml html log py sh toml yaml yml".split()
+TEXTS = ["README*", *(f"*.{end}" for end in ENDS)]
+
+
+class Found(NamedTuple):
+    """A file to work on.
+
+    path      where it is
+    name      what messages call it
+    below     its path below the folder of --to
+    size      its bytes when it was found
+    is_named  it was named itself, instead of found in a folder
+    """
+
+    path: str
+    name: str
+    below: str
+    size: int
+    is_named: bool
+
+
+class Passed(NamedTuple):
+    """A path that isn't worked on, and why. `is_bad` makes the run fail."""
+
+    name: str
+    why: str
+    is_bad: bool
+
+
+Wanted = Callable[[os.DirEntry[str], str], "bool | str"]
+
+
+def names_below(path: str) -> str:
+    """Returns the name that a named path has below the folder of --to: as `cp -r` does, its last
+    part."""
+    name = os.path.basename(path)
+    return "" if name in (".", "..") else name
+
+
+def file_of(path: str, below: str, is_named: bool) -> Found:
+    """Returns a file with its size."""
+    try:
+        size = os.stat(path).st_size
+    except OSError:
+        size = 0
+    return Found(os.path.abspath(path), path, below, size, is_named)
+
+
+def walked(top: str, passed: list[Passed]) -> Iterator[tuple[os.DirEntry[str], str]]:
+    """Yields each entry below a folder that is no folder, sorted by name, with its path from the
+    folder on. Folders that are links aren't entered."""
+    waiting = [sorted_entries(top, "", passed)]
+    while waiting:
+        entry, below = next(waiting[-1], (None, ""))
+        if entry is None:
+            waiting.pop()
+        elif entry.is_dir(follow_symlinks=False):
+            waiting.append(sorted_entries(entry.path, below, passed))
+        else:
+            yield entry, below
+
+
+def sorted_entries(
+    folder: str, below: str, passed: list[Passed]
+) -> Iterator[tuple[os.DirEntry[str], str]]:
+    """Yields the entries of a folder, sorted by name, each with its path below the top."""
+    try:
+        with os.scandir(folder) as scanned:
+            entries = sorted(scanned, key=lambda it: it.name)
+    except OSError as error:
+        passed.append(Passed(folder, str(error.strerror or error), True))
+        return
+    for entry in entries:
+        yield entry, os.path.join(below, entry.name)
+
+
+def matches(names: Iterable[str], patterns: list[str]) -> bool:
+    """Returns whether one of the names matches one of the patterns."""
+    return any(fnmatch.fnmatchcase(name, pattern) for name in names for pattern in patterns)
+
+
+def originals(
+    paths: Iterable[str], include: list[str], exclude: list[str], passed: list[Passed]
+) -> Iterator[Found]:
+    """Yields the files to keep: those that are named, and those in folders that are named."""
+    for path in paths:
+        if os.path.islink(path):
+            passed.append(Passed(path, "it is a symbolic link: name what it points to", True))
+        elif os.path.isdir(path):
+            yield from originals_in(path, include, exclude, passed)
+        elif not os.path.lexists(path):
+            passed.append(Passed(path, "there is no such file", True))
+        elif not os.path.isfile(path):
+            passed.append(Passed(path, "it is no plain file", True))
+        elif path.endswith(OURS):
+            passed.append(Passed(path, "it is a kept file: only originals are kept", True))
+        else:
+            yield file_of(path, names_below(path), True)
+
+
+def originals_in(
+    folder: str, include: list[str], exclude: list[str], passed: list[Passed]
+) -> Iterator[Found]:
+    """Yields the files to keep in a folder and below it."""
+    top = names_below(folder.rstrip("/") or "/")
+    for entry, below in walked(folder, passed):
+        names = entry.name, below
+        if entry.is_symlink():
+            passed.append(Passed(entry.path, "a symbolic link, passed over", False))
+        elif entry.name.endswith(OURS) or HIDDEN.fullmatch(entry.name):
+            continue
+        elif not entry.is_file(follow_symlinks=False):
+            passed.append(Passed(entry.path, "no plain file, passed over", False))
+        elif matches(names, exclude) or (include and not matches(names, include)):
+            continue
+        elif not include and matches((entry.name,), TEXTS):
+            why = "passed over: its name is that of a text (--include keeps it)"
+            passed.append(Passed(entry.path, why, False))
+        else:
+            yield file_of(entry.path, os.path.join(top, below), False)
+
+
+def kept_path(path: str) -> str:
+    """Returns the path of the kept file that a path names: its own, that of its original, or that
+    of its note."""
+    for end in (NOTE, OLD_NOTE):
+        if path.endswith(end):
+            return path[: -len(end)] + STREAM
+    return path if path.endswith(STREAM) or os.path.isdir(path) else path + STREAM
+
+
+def kept_files(paths: Iterable[str], passed: list[Passed]) -> Iterator[Found]:
+    """Yields the kept files that are named, and those in folders that are named, each once."""
+    seen: set[str] = set()
+    for path in paths:
+        if os.path.isdir(path):
+            found = kept_in(path, passed)
+        elif os.path.lexists(kept_path(path)):
+            found = iter([file_of(kept_path(path), names_below(kept_path(path)), True)])
+        else:
+            found = iter([])
+            why = "there is no such file"
+            if os.path.lexists(path):
+                why = "it isn't kept: there is no such FILE.aec"
+            passed.append(Passed(path, why, True))
+        for it in found:
+            if it.path not in seen:
+                seen.add(it.path)
+                yield it
+
+
+def kept_in(folder: str, passed: list[Passed]) -> Iterator[Found]:
+    """Yields the kept files in a folder and below it."""
+    top = names_below(folder.rstrip("/") or "/")
+    for entry, below in walked(folder, passed):
+        if HIDDEN.fullmatch(entry.name) or not entry.name.endswith(OURS):
+            continue
+        if entry.is_symlink():
+            passed.append(Passed(entry.path, "a symbolic link, passed over", False))
+        elif entry.name.endswith(STREAM):
+            yield file_of(entry.path, os.path.join(top, below), False)
+        elif not os.path.lexists(kept_path(entry.path)):
+            passed.append(Passed(entry.path, "a note without its stream", True))
+
+
+def place_below(folder: str, below: str) -> str:
+    """Returns a path below a folder, whose missing folders are made. Raises OSError if one can't be
+    made."""
+    path = os.path.join(folder, below)
+    os.makedirs(os.path.dirname(path) or ".", exist_ok=True)
+    return path

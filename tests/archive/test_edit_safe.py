@@ -1,0 +1,152 @@
+"""`aecp edit` and `undo`: nothing is written before sums are compared, and nothing else changes."""
+
+from __future__ import annotations
+
+import os
+from typing import Any
+
+import aecp
+import pytest
+from making import FAST, keep, leftovers, noise, parts_at, read, samples_at, walk, write
+from running import How, Hooks, command, done, refused
+from settings import Settings
+
+
+@pytest.mark.parametrize("how", ["inverse", "inverse stream", "stream", "sum"])
+def test_undo_compares_sums(place: str, how: str) -> None:
+    """An inverse or a stream that was changed, and sealed again, is noticed before anything is written."""
+    from plain_form import as_packed
+
+    path = keep(place, "f", walk(1, 3000))
+    keep(place, "g", walk(2, 3000))
+    script = b"truncate 10\n" if how == "inverse stream" else b"overwrite 5 9\n"
+    done(place, "edit", "f.aec", "-", given=script)
+    parts = parts_at(path)
+    entry = parts.history[-1]
+    if how == "inverse":
+        entry["inverse"] = {"script": as_packed(b"overwrite 5 10\n")}
+    elif how == "inverse stream":
+        other = parts_at(os.path.join(place, "g.aec")).stream
+        entry["inverse"] = {"difference": {"front": 0, "end": 0, "middle": as_packed(other)}}
+    elif how == "stream":
+        entry["before"]["stream"]["sha256"] = "0" * 64
+        parts.history[0]["after"]["stream"]["sha256"] = "0" * 64
+    else:
+        entry["before"]["samples"]["sha256"] = "0" * 64
+        parts.history[0]["after"]["samples"]["sha256"] = "0" * 64
+    write(place, "f.aec", parts.sealed())
+    before = read(path)
+    refused(place, "undo", "f.aec")
+    assert read(path) == before and leftovers(place) == []
+
+
+def test_an_edit_of_a_damaged_stream(place: str) -> None:
+    """A flipped bit of the filler after the last sample changes no sample, and is noticed all the same."""
+    settings = Settings(bits=16, block_size=16, interval=4, preprocess=False)
+    path = keep(place, "f", noise(1, 17), settings)
+    stream = parts_at(path).stream
+    for bit in range(8 * len(stream) - 9, 8 * len(stream)):
+        data = bytearray(read(path))
+        data[bit // 8] ^= 128 >> bit % 8
+        write(place, "g.aec", bytes(data))
+        for words in (["edit", "g.aec", "-"], ["undo", "g.aec"]):
+            assert command(place, *words, given=b"overwrite 0 1\n").status == 1, bit
+        assert read(place, "g.aec") == bytes(data)
+
+
+def test_mode_and_owner_stay(place: str) -> None:
+    path = keep(place, "f", walk(1, 500))
+    os.chmod(path, 0o640)
+    if os.geteuid() == 0:
+        os.chown(path, 65534, 12345)
+    for words in (["edit", "f.aec", "-"], ["undo", "f.aec"], ["forget", "f.aec", "--keep", "0"]):
+        done(place, *words, given=b"append 7\n")
+        status = os.stat(path)
+        assert status.st_mode & 0o7777 == 0o640, words
+        if os.geteuid() == 0:
+            assert (status.st_uid, status.st_gid) == (65534, 12345), words
+
+
+def test_two_that_edit_at_once(place: str) -> None:
+    from running import Started, run_words
+
+    keep(place, "f", walk(1, 500))
+
+    def work() -> None:
+        import contextlib
+
+        for number in range(12):
+            write(place, f"s{os.getpid()}", b"append %d\n" % number)
+            with contextlib.suppress(SystemExit):
+                run_words(["edit", "f.aec", f"s{os.getpid()}"])
+
+    ended = [it.ended() for it in [Started(place, work, How()), Started(place, work, How())]]
+    assert [it.status for it in ended] == [0, 0], ended
+    assert len(samples_at(os.path.join(place, "f.aec"))) == 524
+    parts = parts_at(os.path.join(place, "f.aec"))
+    assert len(parts.history) == 25
+    for earlier, later in zip(parts.history, parts.history[1:]):
+        assert earlier["after"] == later["before"]
+    assert leftovers(place) == []
+
+
+def test_an_edit_goes_through_the_library(place: str) -> None:
+    """`aecp edit` makes its stream by aecp.edit, the proved call."""
+
+    def watching() -> None:
+        import aecp.streams
+
+        real, modules = aecp.edit, [aecp, aecp.streams]
+
+        def watched(*words: Any, **more: Any) -> Any:
+            open("called", "w").close()
+            return real(*words, **more)
+
+        import sys
+
+        for module in modules + [it for name, it in sys.modules.items() if name.startswith("aecp")]:
+            if getattr(module, "edit", None) is real:
+                module.edit = watched  # type: ignore[attr-defined]
+
+    keep(place, "f", walk(1, 500))
+    done(place, "edit", "f.aec", "-", given=b"overwrite 5 9\n", how=How(before=watching))
+    assert os.path.exists(os.path.join(place, "called"))
+
+
+def test_a_full_disk_changes_nothing(place: str) -> None:
+    samples = noise(1, 9000)
+    path = keep(place, "f", samples, FAST)
+    done(place, "edit", "f.aec", "-", given=b"overwrite 1 1\n")
+    before = read(path)
+    for words in (["edit", "f.aec", "-"], ["undo", "f.aec"], ["forget", "f.aec", "--keep", "0"]):
+        for room in (0, 1, 9000, 18000, 18300):
+            ran = command(place, *words, given=b"overwrite 0 7\n", how=How(hooks=Hooks(room=room)))
+            assert ran.status == 1 and "space" in ran.err, (words, room, ran)
+            assert read(path) == before and leftovers(place) == []
+
+
+@pytest.mark.parametrize("words,cut", [("edit f.aec -", 0), ("edit f.aec -", 3), ("undo f.aec", 0), ("undo f.aec", 3)])
+def test_a_wrong_coder_is_noticed(place: str, words: str, cut: int) -> None:
+    """A stream that is cut, or that decodes to other samples, never replaces the file."""
+
+    def wrong() -> None:
+        import sys
+
+        real = aecp.edit
+
+        def other(coded: Any, count: Any, script: Any, options: Any) -> Any:
+            stream, number = real(coded, count, script, options)
+            samples = bytearray(aecp.decode_bytes(stream, number, options))
+            samples[100] ^= 1
+            coded = bytes(aecp.encode(bytes(samples), options))
+            return coded[: len(coded) - cut], number
+
+        for module in [it for name, it in sys.modules.items() if name.startswith("aecp")]:
+            if getattr(module, "edit", None) is real:
+                module.edit = other  # type: ignore[attr-defined]
+
+    path = keep(place, "f", walk(1, 3000))
+    done(place, "edit", "f.aec", "-", given=b"overwrite 7 9\n")
+    before = read(path)
+    ran = command(place, *words.split(), given=b"overwrite 5 9\n", how=How(before=wrong))
+    assert ran.status == 1 and read(path) == before, ran

@@ -1,0 +1,174 @@
+"""`aecp keep --remove`: no original is lost, whatever appends to it, and whatever its archive says."""
+
+from __future__ import annotations
+
+import os
+import time
+from typing import Any
+
+import aecp
+import pytest
+from making import FAST, USUAL, flip, keep, leftovers, options_of, parts_at, read, sound_parts, walk, words_of, write
+from running import How, command, done, start
+
+DATA = USUAL.stored(walk(3, 500))
+
+
+def test_remove_removes_what_decodes_to_it(place: str) -> None:
+    for name in "abc":
+        write(place, name, DATA)
+    done(place, "keep", ".", "-n", "16", "--remove", "--anyway")
+    assert sorted(os.listdir(place)) == ["a.aec", "b.aec", "c.aec"]
+    done(place, "back", "a.aec")
+    assert read(place, "a") == DATA
+    done(place, "keep", "a", "-n", "16", "-j", "16", "-r", "128", "--remove")
+    assert not os.path.exists(os.path.join(place, "a"))
+
+
+@pytest.mark.parametrize("how", ["edited", "flipped", "cut", "other samples"])
+def test_remove_decodes_first(place: str, how: str) -> None:
+    path = keep(place, "a", walk(1, 3000))
+    if how == "edited":
+        done(place, "edit", "a.aec", "-", given=b"overwrite 5 9\n")
+    elif how == "flipped":
+        flip(path, 4000)
+    elif how == "cut":
+        os.truncate(path, os.path.getsize(path) - 1)
+    else:
+        parts = parts_at(path)
+        other = keep(place, "other", walk(2, 3000))
+        mixed = parts_at(other)
+        mixed.fields["source"] = parts.fields["source"]
+        write(place, "a.aec", mixed.sealed())
+        os.unlink(other)
+    data = read(path[:-4])
+    ran = command(place, "keep", "a", *words_of(USUAL), "--remove")
+    assert ran.status == 1 and ran.err.strip(), ran
+    assert read(path[:-4]) == data
+
+
+@pytest.mark.parametrize("how", ["appended", "replaced", "rewritten"])
+def test_remove_takes_the_very_file_that_was_read(place: str, how: str) -> None:
+    """Another changes the original before each call that the run makes: what it wrote is never lost."""
+    samples, calls = FAST.stored(walk(1, 20000)), 0
+    other = {"appended": samples + b"\1\2", "replaced": samples[::-1], "rewritten": samples[::-1]}[how]
+    for number in range(1, 200):
+        for name in os.listdir(place):
+            os.unlink(os.path.join(place, name))
+        path = write(place, "a", samples)
+        changing = Changing(place, path, number, how, other)
+        status = changing.run()
+        if not changing.changed:
+            break
+        calls += 1
+        if not os.path.exists(path):
+            done(place, "back", "a.aec")
+            assert read(path) == other, f"call {number}: another's bytes are lost, status {status}"
+        assert read(path) == other
+    assert calls > 5, calls
+
+
+class Changing:
+    """Runs `keep --remove`, and changes the original just before the call with a number."""
+
+    def __init__(self, place: str, path: str, number: int, how: str, other: bytes) -> None:
+        self.place, self.path, self.number, self.how, self.other = place, path, number, how, other
+        self.changed = False
+
+    def change(self, mark: str) -> None:
+        if self.how == "appended":
+            append(self.path)
+        elif self.how == "rewritten":
+            with open(self.path, "r+b") as file:
+                file.write(self.other)
+        else:
+            write(os.path.dirname(self.place), "other", self.other)
+            os.rename(os.path.join(os.path.dirname(self.place), "other"), self.path)
+        open(mark, "w").close()
+
+    def run(self) -> int:
+        mark = os.path.join(os.path.dirname(self.place), "mark")
+        if os.path.exists(mark):
+            os.unlink(mark)
+        how = How(before=lambda: patch_calls(self.number, lambda: self.change(mark)))
+        ran = command(self.place, "keep", "a", "-n", "16", "--jobs", "1", "--remove", how=how)
+        self.changed = os.path.exists(mark)
+        return ran.status
+
+
+def append(path: str) -> None:
+    with open(path, "ab") as file:
+        file.write(b"\1\2")
+
+
+def patch_calls(number: int, action: Any) -> None:
+    """Calls action() before the os call of this process with a number. The calls are those that look at names or change them."""
+    count = [0]
+
+    def patched(real: Any) -> Any:
+        def made(*words: Any, **more: Any) -> Any:
+            count[0] += 1
+            if count[0] == number:
+                action()
+            return real(*words, **more)
+
+        return made
+
+    for name in ("open", "read", "pread", "stat", "lstat", "fstat", "fsync", "rename", "replace", "link", "unlink", "close"):
+        setattr(os, name, patched(getattr(os, name)))
+
+
+def test_remove_beside_an_appending_writer(place: str, times: int) -> None:
+    """As an instrument does it: appends at random moments of the run."""
+    import random
+
+    chance, samples = random.Random(5), FAST.stored(walk(1, 60000))
+    kept = 0
+    for _ in range(15 * times):
+        for name in os.listdir(place):
+            os.unlink(os.path.join(place, name))
+        path = write(place, "a", samples)
+        file = open(path, "ab", buffering=0)
+        running = start(place, "keep", "a", "-n", "16", "--jobs", "1", "--remove")
+        time.sleep(chance.random() * 0.06)
+        file.write(b"\1\2")
+        linked = os.fstat(file.fileno()).st_nlink
+        file.close()
+        ran = running.ended()
+        if os.path.exists(path):
+            assert read(path) == samples + b"\1\2"
+            kept += 1
+        elif linked:
+            done(place, "back", "a.aec")
+            assert read(path) == samples + b"\1\2", ran
+    assert kept
+
+
+@pytest.mark.parametrize("change", ["replaced", "grown", "touched"])
+def test_a_file_that_changes_while_it_is_read(place: str, change: str) -> None:
+    """What is kept is what the trailer's source says, or it is refused; the next run says so or keeps it."""
+    path = write(place, "a", FAST.stored(walk(1, 20000)))
+
+    def action() -> None:
+        if change == "replaced":
+            write(place, "b", FAST.stored(walk(2, 20000)))
+            os.rename(os.path.join(place, "b"), path)
+        elif change == "grown":
+            append(path)
+        else:
+            write(place, "a", FAST.stored(walk(2, 20000)))
+
+    for number in range(1, 60):
+        for name in os.listdir(place):
+            os.unlink(os.path.join(place, name))
+        write(place, "a", FAST.stored(walk(1, 20000)))
+        ran = command(place, "keep", "a", "-n", "16", "--jobs", "1", how=How(before=lambda: patch_calls(number, action)))
+        if not os.path.exists(path + ".aec"):
+            assert ran.status == 1, ran
+            continue
+        parts = sound_parts(path + ".aec")
+        if aecp.decode_bytes(parts.stream, parts.fields["samples"]["count"], options_of(FAST)) == read(path):
+            continue
+        ran = command(place, "keep", "a", "-n", "16")
+        assert "changed" in ran.err and "kept already" not in ran.out, f"call {number}: {ran}"
+    assert leftovers(place) == []
