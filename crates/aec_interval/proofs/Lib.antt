@@ -54,3 +54,11 @@ pub mod PartLemmas
 pub mod NextPartLemmas
 pub mod CutLemmas
 pub mod WorkedFeeding
+pub mod FewerLemmas
+pub mod OffsetLemmas
+pub mod DroppedLemmas
+pub mod RenumberedLemmas
+pub mod WholeByteLemmas
+pub mod AloneLemmas
+pub mod NotingLemmas
+pub mod CodeOffsetLemmas

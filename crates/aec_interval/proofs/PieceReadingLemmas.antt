@@ -41,14 +41,14 @@ all_both P [] ys h k = k
 all_both P (x ∷ xs) ys h k = (h.0, all_both P xs ys h.1 k)
 
 -- the samples of i blocks fill whole intervals, if i is a multiple of r
-whole_intervals : (s : Settings) (i len : ℕ) → i % s.interval ≡ 0 → len ≡ i * s.block_size → len ≡ i / s.interval * interval_len s
+pub whole_intervals : (s : Settings) (i len : ℕ) → i % s.interval ≡ 0 → len ≡ i * s.block_size → len ≡ i / s.interval * interval_len s
 whole_intervals s i len begins is =
     is ∙ ap (λ n. n * s.block_size) (omega (arith, div-add-mod' i s.interval, begins)) ∙ regrouped (i / s.interval) s.interval s.block_size
   where
     regrouped : (k r j : ℕ) → k * r * j ≡ k * (j * r)
     regrouped k r j = omega arith
 
-all_blocks_of-append : (s : Settings) (k : ℕ) (front back : List ℤ) → IsAllowed s → length front ≡ k * interval_len s
+pub all_blocks_of-append : (s : Settings) (k : ℕ) (front back : List ℤ) → IsAllowed s → length front ≡ k * interval_len s
     → all_blocks_of s (front ++ back) ≡ all_blocks_of s front ++ all_blocks_of s back
 all_blocks_of-append s k front back a whole =
     ap (flat_map (blocks_of s)) (pieces_of-append (interval_len s) k front back (interval_len-positive s a) whole)
@@ -66,7 +66,7 @@ FillBlocks-append s k front back bs cs a whole first second = record {
     both m n j x y {t} {u} h k e f = omega (arith, h, k, e, ap (λ u. u * j) f)
 
 -- samples that fill blocks, cut where an interval begins
-FillBlocks-front : (s : Settings) (i : ℕ) (samples : List ℤ) (bs cs : List Block) → IsAllowed s → i % s.interval ≡ 0 → length bs ≡ i
+pub FillBlocks-front : (s : Settings) (i : ℕ) (samples : List ℤ) (bs cs : List Block) → IsAllowed s → i % s.interval ≡ 0 → length bs ≡ i
     → FillBlocks s samples (bs ++ cs) → FillBlocks s (take (i * s.block_size) samples) bs
 FillBlocks-front s i samples bs cs a begins count filled = record {
   held = all_left (IsHeld s) front back (subst (AllByRecursion (IsHeld s)) (sym cut) filled.held);
@@ -104,7 +104,7 @@ FillBlocks-front s i samples bs cs a begins count filled = record {
 -- ---- samples that are asked for
 
 -- a block that is needed begins before the count
-before_count : (s : Settings) (count i : ℕ) → IsAllowed s → i < div_ceil count s.block_size → i * s.block_size < count
+pub before_count : (s : Settings) (count i : ℕ) → IsAllowed s → i < div_ceil count s.block_size → i * s.block_size < count
 before_count s count i a below =
     let next : (i + 1) * s.block_size ≤ div_ceil count s.block_size * s.block_size = mul-le-mul_right s.block_size (omega (arith, below)) in
     omega (arith, next, one_more i s.block_size, div_ceil-bounds count s.block_size (block_size-positive s a))

@@ -27,7 +27,7 @@ begin_of-within s bits i b within = by_test (s.pad && (i % s.interval == 0))
     by_test true = omega arith
     by_test false = within
 
-LeadsTo-within : (s : Settings) (count : Option ℕ) (limit : ℕ) (bits : List Bool) (i b : ℕ) (sets : List CodedDataSet) (j e : ℕ) → b ≤ length bits
+pub LeadsTo-within : (s : Settings) (count : Option ℕ) (limit : ℕ) (bits : List Bool) (i b : ℕ) (sets : List CodedDataSet) (j e : ℕ) → b ≤ length bits
     → LeadsTo s count limit bits i b sets j e → e ≤ length bits
 LeadsTo-within s count limit bits i b [] j e within leads = omega (arith, within, leads.1)
 LeadsTo-within s count limit bits i b (c ∷ sets) j e within leads =

@@ -27,7 +27,7 @@ pub use Rattle.aec_params.proofs.SampleLaws.{interval_len-positive, all_blocks_o
 -- ---- whole intervals before others
 
 -- k whole pieces more
-div_ceil-add : (k m n : ℕ) → 0 < n → div_ceil (n * k + m) n ≡ k + div_ceil m n
+pub div_ceil-add : (k m n : ℕ) → 0 < n → div_ceil (n * k + m) n ≡ k + div_ceil m n
 div_ceil-add k m n h =
     let e : n * k + m ≡ m + k * n = omega arith in
     let q = ap (λ x. x / n) e ∙ add-mul-div_right m k h in
@@ -88,7 +88,7 @@ abbrev pub IsAligned : Settings → List Bool → Type 0
 IsAligned s pre = s.pad ≡ true → length pre % 8 ≡ 0
 
 -- after the code of a full interval, the next interval begins at the end of the padding
-begin_of-code : (s : Settings) (code pre rest : List Bool) (k : ℕ) → IsAligned s pre
+pub begin_of-code : (s : Settings) (code pre rest : List Bool) (k : ℕ) → IsAligned s pre
     → begin_of s (pre ++ (padded_code s code ++ rest)) (k * s.interval) (length pre + length code) ≡ length (pre ++ padded_code s code)
 begin_of-code s code pre rest k aligned = ⊎_elim padded plain (cases_Bool s.pad)
   where
@@ -117,7 +117,7 @@ begin_of-code s code pre rest k aligned = ⊎_elim padded plain (cases_Bool s.pa
         (and_from s.pad (i % s.interval == 0) t (eq-eqb (i % s.interval) 0 (mul-mod_left k s.interval)))
         ∙ omega (arith, len, enough, length-padding_of s code t, aligned t)
 
-IsAligned-code : (s : Settings) (code pre : List Bool) → IsAligned s pre → IsAligned s (pre ++ padded_code s code)
+pub IsAligned-code : (s : Settings) (code pre : List Bool) → IsAligned s pre → IsAligned s (pre ++ padded_code s code)
 IsAligned-code s code pre aligned t =
     omega (arith, length-append pre (padded_code s code), length-append code (padding_of s code), length-padding_of s code t, aligned t)
 

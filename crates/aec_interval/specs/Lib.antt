@@ -15,3 +15,4 @@ pub mod Skipping
 pub mod Steps
 pub mod UntestedBlocks
 pub mod ShortIntervals
+pub mod Offsets

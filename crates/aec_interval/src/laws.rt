@@ -13,6 +13,7 @@ ghost use Rattle.aec_interval.specs.Laws.{
 ghost use Rattle.aec_interval.specs.CutLaws.{AllCutsMakeNoDifference};
 ghost use Rattle.aec_interval.specs.PieceLaws.{AllStepsAreTheReading};
 ghost use Rattle.aec_interval.specs.Skipping.{AllSetsStandForSamples};
+ghost use Rattle.aec_interval.specs.Offsets.{IntervalsAreReadAlone, OffsetsAreOfTheCode};
 
 /// The code of an interval consists of lawful coded data sets for its blocks.
 pub fn intervals_are_read()
@@ -68,4 +69,16 @@ pub fn steps_are_the_reading()
 /// Lawful coded data sets from the start of an interval on decode to samples.
 pub fn coded_data_sets_stand_for_samples()
     ensures { AllSetsStandForSamples }
+{}
+
+/// From the bit on where the code of an interval begins, the stream of samples decodes, with a
+/// count, to the samples from the interval's first one on, whatever bits follow the stream.
+pub fn intervals_are_read_alone()
+    ensures { IntervalsAreReadAlone }
+{}
+
+/// The offsets of the stream of samples, read with their count, are the bits where the codes of the
+/// intervals begin.
+pub fn offsets_are_of_the_code()
+    ensures { OffsetsAreOfTheCode }
 {}

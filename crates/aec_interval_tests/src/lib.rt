@@ -9,6 +9,8 @@ mod codecs;
 #[cfg(test)]
 mod feeding;
 #[cfg(test)]
+mod offsets;
+#[cfg(test)]
 mod reading;
 #[cfg(test)]
 mod settings;

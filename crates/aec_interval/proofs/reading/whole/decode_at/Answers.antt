@@ -1,0 +1,19 @@
+use Rattle.std.proofs.Common.{Some, ◌∙◌, ap}
+use Rattle.std.proofs.lemmas.Result.{err_from_is_err_and}
+use Rattle.aec_interval.proofs.DroppedLemmas.{count-refuses-at, decoded-at, refused-at}
+use Rattle.aec_interval.proofs.reading.whole.decode_at.Goals as goal
+
+pub returns-in_err-judge_count-clause-refuses : goal.returns-in_err-judge_count-clause-refuses
+returns-in_err-judge_count-clause-refuses c =
+    let exit = err_from_is_err_and c.from_residual.result c.from_residual.ensures.1 in
+    count-refuses-at _ exit.0 _ _ _ _ _ exit.1 (ap Some exit.2 ∙ c.in_err-judge_count.ensures)
+
+pub returns-clause-ok : goal.returns-clause-ok
+returns-clause-ok c =
+    decoded-at (λ samples. samples.items) c.decode_from.result c.args.params.now c.args.count c.args.limit c.args.start c.args.bits.now.list
+    c.requires.within c.requires.whole_bytes c.in_ok-judge_count.ensures c.decode_from.ensures.ok
+
+pub returns-clause-refuses : goal.returns-clause-refuses
+returns-clause-refuses c =
+    refused-at c.decode_from.result c.args.params.now c.args.count c.args.limit c.args.start c.args.bits.now.list
+    c.requires.within c.requires.whole_bytes c.in_ok-judge_count.ensures c.decode_from.ensures.refuses
