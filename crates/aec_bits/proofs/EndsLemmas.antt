@@ -19,7 +19,7 @@ use Rattle.aec_bits.specs.BitReader.{AreBelow, further, behind_ones}
 use Rattle.aec_bits.specs.Ends.{ends_of_ones, ends_in_byte, ends_in_word, gaps_after, HasEnds, ReadsGaps}
 use Rattle.aec_bits.specs.WordBits.{word_bits}
 use Rattle.aec_bits.specs.Windows.{StandsBefore}
-use Rattle.aec_bits.proofs.OnesLemmas.{ones_among, ones_among-whole, ones_in_word, further-zero, further-further, behind_ones-le}
+use Rattle.aec_bits.proofs.OnesLemmas.{ones_among, ones_among-whole, ones_in_word, further-zero, further-suc, behind_ones-le}
 use Rattle.aec_bits.proofs.WordLemmas.{binary-add, binary-mod, length-word_bits, take-word_bits, word_bits-join, shl_mod, low_part}
 use Rattle.aec_bits.proofs.ZeroLemmas.{binary-zero}
 
@@ -66,14 +66,8 @@ ends_of_ones-later k at (false ∷ bits) within small =
 behind_ones-end : (n at : ℕ) (bits : List Bool) → n < ones_among bits → further at (behind_ones (suc n) bits) ≡ Some (get_or (ends_of_ones at bits) n 0)
 behind_ones-end n at [] few = absurd (omega (arith, few))
 behind_ones-end zero at (true ∷ bits) few = let e : at + (1 + 0) ≡ suc at = omega arith in ap (λ n. Some n) e
-behind_ones-end (suc n) at (true ∷ bits) few =
-    let e : at + 1 ≡ suc at = omega arith in
-    further-further at 1 (behind_ones (suc n) bits) ∙ ap (λ k. further k (behind_ones (suc n) bits)) e
-    ∙ behind_ones-end n (suc at) bits (omega (arith, few))
-behind_ones-end n at (false ∷ bits) few =
-    let e : at + 1 ≡ suc at = omega arith in
-    further-further at 1 (behind_ones (suc n) bits) ∙ ap (λ k. further k (behind_ones (suc n) bits)) e
-    ∙ behind_ones-end n (suc at) bits few
+behind_ones-end (suc n) at (true ∷ bits) few = further-suc at (behind_ones (suc n) bits) ∙ behind_ones-end n (suc at) bits (omega (arith, few))
+behind_ones-end n at (false ∷ bits) few = further-suc at (behind_ones (suc n) bits) ∙ behind_ones-end n (suc at) bits few
 
 -- ---- the first one
 

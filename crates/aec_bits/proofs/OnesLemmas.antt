@@ -21,6 +21,9 @@ pub further-further : (j k : ℕ) (place : Option ℕ) → further j (further k 
 further-further j k None = refl
 further-further j k (Some m) = let same : j + (k + m) ≡ j + k + m = omega arith in ap (λ n. Some n) same
 
+pub further-suc : (at : ℕ) (place : Option ℕ) → further at (further 1 place) ≡ further (suc at) place
+further-suc at place = let e : at + 1 ≡ suc at = omega arith in further-further at 1 place ∙ ap (λ k. further k place) e
+
 pub record IsFurther (k : ℕ) (place : Option ℕ) (m : ℕ) : Type 0 where
   pub before : ℕ
   pub is : place ≡ Some before
