@@ -1,5 +1,5 @@
 -- Where the fundamental sequences of a word end, found byte by byte, and what is between the ends.
-use Rattle.std.proofs.Common.{◌≡◌, ℕ, zero, suc, ◌+◌, ◌-◌, ◌*◌, ◌/◌, ◌%◌, ◌^◌, ◌<◌, ◌≤◌, Bool, true, false, List, [], ◌∷◌, ◌++◌, length, take, drop, map, get_or, replicate, refl, sym, ap, ap₂, ◌∙◌, arith, append_assoc, length-append, mod-eq_of_lt, zero-add, inl, inr}
+use Rattle.std.proofs.Common.{◌≡◌, ℕ, zero, suc, ◌+◌, ◌-◌, ◌*◌, ◌/◌, ◌%◌, ◌^◌, ◌<◌, ◌≤◌, Bool, true, false, Some, List, [], ◌∷◌, ◌++◌, length, take, drop, map, get_or, replicate, refl, sym, ap, ap₂, ◌∙◌, arith, append_assoc, length-append, mod-eq_of_lt, zero-add, inl, inr}
 use Rattle.std.specs.Prelude.{bit_and, count_ones}
 use Rattle.std.specs.List.{flat_map}
 use Rattle.std.specs.Simd.Lanes.{zip2}
@@ -12,14 +12,14 @@ use Rattle.std.proofs.lemmas.Bool.{cases_lt}
 use Rattle.std.proofs.lemmas.Simd.{zip2_splat}
 use Rattle.std.proofs.lemmas.Slice.{take-put_mid}
 use Rattle.std.proofs.lemmas.Nat.{shr-shr, mod_below, pow_pos}
-use Rattle.std.proofs.lemmas.List.{append-nil, take_at, drop_at, take_all, drop_more, take-take, take-map, take-append-le, take-append-drop, length-take-le, length-replicate, get_or-take}
+use Rattle.std.proofs.lemmas.List.{append-nil, take_at, drop_at, take_all, drop_more, take-take, take-map, take-append-le, take-append-drop, length-take-le, length-replicate, get_or-take, get_or_append_left}
 use Rattle.aec_params.specs.Codewords.{fs, binary}
 use Rattle.aec_params.proofs.CodewordLaws.{length-binary}
-use Rattle.aec_bits.specs.BitReader.{AreBelow}
+use Rattle.aec_bits.specs.BitReader.{AreBelow, further, behind_ones}
 use Rattle.aec_bits.specs.Ends.{ends_of_ones, ends_in_byte, ends_in_word, gaps_after, HasEnds, ReadsGaps}
 use Rattle.aec_bits.specs.WordBits.{word_bits}
 use Rattle.aec_bits.specs.Windows.{StandsBefore}
-use Rattle.aec_bits.proofs.OnesLemmas.{ones_among, ones_among-whole, ones_in_word}
+use Rattle.aec_bits.proofs.OnesLemmas.{ones_among, ones_among-whole, ones_in_word, further-zero, further-suc, behind_ones-le}
 use Rattle.aec_bits.proofs.WordLemmas.{binary-add, binary-mod, length-word_bits, take-word_bits, word_bits-join, shl_mod, low_part}
 use Rattle.aec_bits.proofs.ZeroLemmas.{binary-zero}
 
@@ -61,6 +61,13 @@ ends_of_ones-later k at (true ∷ bits) within small =
 ends_of_ones-later k at (false ∷ bits) within small =
     let e : suc at + k ≡ suc (at + k) = omega arith in
     ends_of_ones-later k (suc at) bits (omega (arith, within)) small ∙ ap (λ n. ends_of_ones n bits) e
+
+-- the n-th of them is the place after the n-th 1 bit
+behind_ones-end : (n at : ℕ) (bits : List Bool) → n < ones_among bits → further at (behind_ones (suc n) bits) ≡ Some (get_or (ends_of_ones at bits) n 0)
+behind_ones-end n at [] few = absurd (omega (arith, few))
+behind_ones-end zero at (true ∷ bits) few = let e : at + (1 + 0) ≡ suc at = omega arith in ap (λ n. Some n) e
+behind_ones-end (suc n) at (true ∷ bits) few = further-suc at (behind_ones (suc n) bits) ∙ behind_ones-end n (suc at) bits (omega (arith, few))
+behind_ones-end n at (false ∷ bits) few = further-suc at (behind_ones (suc n) bits) ∙ behind_ones-end n (suc at) bits few
 
 -- ---- the first one
 
@@ -163,6 +170,27 @@ ends_in_lanes byte at row small within is =
     ∙ ap (map (λ e. (e + at) % 2 ^ 8)) front
     ∙ ends_of_ones-later at 0 bits (omega (arith, length-binary 8 byte)) within
     ∙ ap (λ n. ends_of_ones n bits) (zero-add at)
+
+-- the place after the n-th 1 bit of a byte, by the byte's row
+pub end_in_row : (byte nth place : ℕ) (row : List ℕ) → byte < 256 → 0 < nth → nth ≤ count_ones byte → row ≡ ends_in_byte byte
+    → place ≡ get_or row (nth - 1) 0 → (Some place ≡ behind_ones nth (binary 8 byte)) × (place ≤ 8)
+end_in_row byte zero place row small some there is place_is = absurd (omega (arith, some))
+end_in_row byte (suc n) place row small some there is place_is =
+    let bits : List Bool = binary 8 byte in
+    let here : List ℕ = ends_of_ones 0 bits in
+    let ones : ones_among bits ≡ count_ones byte = ones_among-whole 8 byte small in
+    let many : length here ≡ count_ones byte = length-ends_of_ones 0 bits ∙ ones in
+    let long : length here ≤ 8 = omega (arith, length-ends_of_ones 0 bits, ones_among-le bits, length-binary 8 byte) in
+    let found : further 0 (behind_ones (suc n) bits) ≡ Some (get_or here n 0) = behind_ones-end n 0 bits (omega (arith, ones, there)) in
+    let at : suc n - 1 ≡ n = omega arith in
+    let same : place ≡ get_or here n 0 =
+    place_is ∙ ap (λ i. get_or row i 0) at ∙ ap (λ l. get_or l n 0) is
+    ∙ get_or-take 8 (here ++ replicate 8 0) n 0 (omega (arith, many, long, there))
+    ∙ get_or_append_left here (replicate 8 0) 0 n (omega (arith, many, there)) in
+    let answer : behind_ones (suc n) bits ≡ Some place = sym (further-zero (behind_ones (suc n) bits)) ∙ found ∙ ap (λ k. Some k) (sym same) in (
+      sym answer,
+      omega (arith, behind_ones-le (suc n) place bits answer, length-binary 8 byte),
+    )
 
 -- the next byte of a word
 next_byte : (word i : ℕ) → i < 8

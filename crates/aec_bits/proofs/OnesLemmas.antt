@@ -13,13 +13,16 @@ use Rattle.aec_bits.proofs.WordLemmas.{binary-add, binary-mod, length-word_bits}
 
 -- ---- places further on
 
-further-zero : (place : Option ℕ) → further 0 place ≡ place
+pub further-zero : (place : Option ℕ) → further 0 place ≡ place
 further-zero None = refl
 further-zero (Some m) = ap (λ n. Some n) (zero-add m)
 
 pub further-further : (j k : ℕ) (place : Option ℕ) → further j (further k place) ≡ further (j + k) place
 further-further j k None = refl
 further-further j k (Some m) = let same : j + (k + m) ≡ j + k + m = omega arith in ap (λ n. Some n) same
+
+pub further-suc : (at : ℕ) (place : Option ℕ) → further at (further 1 place) ≡ further (suc at) place
+further-suc at place = let e : at + 1 ≡ suc at = omega arith in further-further at 1 place ∙ ap (λ k. further k place) e
 
 pub record IsFurther (k : ℕ) (place : Option ℕ) (m : ℕ) : Type 0 where
   pub before : ℕ
@@ -147,18 +150,12 @@ are_halves w v n fits =
     both_halves : (w v : ℕ) → count_ones v ≡ count_ones (v / 2 ^ w) + count_ones (v % 2 ^ w)
     both_halves w v = ap count_ones (sym (shr_split v w)) ∙ ones_cat w (v / 2 ^ w) (v % 2 ^ w) (mod_below v (2 ^ w) (pow_pos w))
 
--- in a number of one bit that is 1, the place after the n-th 1 bit is 1
-pub behind_ones-bit : (n v : ℕ) → 0 < n → n ≤ count_ones v → v < 2 ^ 1 → behind_ones n (binary 1 v) ≡ Some 1
-behind_ones-bit n zero some there fits = absurd (omega (arith, ones_le_self 0))
-behind_ones-bit n (suc zero) some there fits = let one : n ≡ 1 = omega (arith, ones_le_self 1) in rw one refl
-behind_ones-bit n (suc (suc v)) some there fits = absurd (omega arith)
-
-pub found_in_word : (word nth bits last before : ℕ)
-    → further 0 (behind_ones nth (binary 64 word)) ≡ further before (behind_ones last (binary 1 bits)) → 0 < last → last ≤ count_ones bits → bits < 2 ^ 1
-    → Some (before + 1) ≡ behind_ones nth (word_bits word)
+pub found_in_word : (word nth bits last before gone : ℕ)
+    → further 0 (behind_ones nth (binary 64 word)) ≡ further before (behind_ones last (binary 8 bits)) → Some gone ≡ behind_ones last (binary 8 bits)
+    → Some (before + gone) ≡ behind_ones nth (word_bits word)
 unfolding word_bits
-found_in_word word nth bits last before same some there fits =
-    sym (sym (further-zero (behind_ones nth (binary 64 word))) ∙ same ∙ ap (further before) (behind_ones-bit last bits some there fits))
+found_in_word word nth bits last before gone same found =
+    sym (sym (further-zero (behind_ones nth (binary 64 word))) ∙ same ∙ ap (further before) (sym found))
 
 -- ---- the bits from a place on
 

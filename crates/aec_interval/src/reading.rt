@@ -89,6 +89,16 @@ fn blocks_left(params: &Params, place: u64) -> u64
     (segment - place % segment).min(u64::from(params.interval()) - place)
 }
 
+/// Returns whether a segment has fewer than `blocks` blocks left from block `place` of its interval
+/// on. One block needs no test: the segment has block `place` left.
+#[inline(always)]
+fn passes_segment(params: &Params, place: u64, blocks: u64) -> bool
+    requires { place < params.now.interval }
+    ensures { result ≡ nat_lt (segment_left params.now place) blocks }
+{
+    blocks > 1 && blocks > blocks_left(params, place)
+}
+
 /// Returns whether the block at this place of an interval has a reference sample.
 pub(crate) fn has_reference(params: &Params, place: u64) -> bool
     ensures value { result ≡ is_reference_block params.now place }
@@ -151,7 +161,7 @@ pub(crate) fn block_after_set(
 {
     params.known_allowed();
     let blocks = block_count(params, place, len);
-    if blocks > blocks_left(params, place) {
+    if passes_segment(params, place, blocks) {
         return Err(Fault::RunTooLong { bit });
     }
     let next = block + blocks;

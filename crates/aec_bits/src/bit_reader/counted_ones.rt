@@ -1,4 +1,4 @@
-//! Finds the position after n ones, by words.
+//! Finds the position after n ones, by words and, in a word, by halves down to a byte.
 
 ghost use Rattle.std.specs.Prelude.{◌≡◌, ◌+◌, ◌*◌, ◌<◌, ◌≤◌, ◌^◌, Some, length, drop, count_ones, IfSome};
 ghost use Rattle.aec_params.specs.Codewords.{binary};
@@ -7,6 +7,7 @@ ghost use Rattle.aec_bits.specs.WordBits.{word_bits};
 ghost use Rattle.aec_bits.specs.Ones.{HasNthOne};
 
 use crate::bit_buf::BitBuf;
+use crate::bit_reader::ends_in_bytes::row_of;
 
 /// A part of a word: its bits as a number, which of its 1 bits is searched (`nth`, counted from 1),
 /// and the number of the word's bits before this part.
@@ -42,6 +43,18 @@ fn half_with_one(stretch: Stretch, width: u32) -> Stretch
     }
 }
 
+/// Returns the place after the `nth` 1 bit of a byte.
+#[inline(always)]
+fn behind_in_byte(byte: u64, nth: u32) -> u32
+    requires byte { byte < 256 }
+    requires some { 0 < nth }
+    requires there { nth ≤ count_ones byte }
+    ensures place { Some result ≡ behind_ones nth (binary 8 byte) }
+    ensures small { result ≤ 8 }
+{
+    u32::from(row_of(byte)[nth as usize - 1])
+}
+
 /// Returns the place after the `nth` 1 bit of a word.
 #[inline(always)]
 fn behind_in_word(word: u64, nth: u32) -> u32
@@ -58,9 +71,7 @@ fn behind_in_word(word: u64, nth: u32) -> u32
     let of_32 = half_with_one(whole, 32);
     let of_16 = half_with_one(of_32, 16);
     let of_8 = half_with_one(of_16, 8);
-    let of_4 = half_with_one(of_8, 4);
-    let of_2 = half_with_one(of_4, 2);
-    half_with_one(of_2, 1).before + 1
+    of_8.before + behind_in_byte(of_8.bits, of_8.nth)
 }
 
 /// Returns how many bits from place `start` on end with the `count`-th 1; `None` if fewer follow.
