@@ -36,3 +36,4 @@ pub mod FillLemmas
 pub mod BufferLemmas
 pub mod KeptBufferLemmas
 pub mod RangeBufferLemmas
+pub mod OffsetBufferLemmas

@@ -5,6 +5,7 @@ pub mod ScriptExamples
 pub mod ScriptLines
 pub mod Transfers
 pub mod Output
+pub mod Offsets
 pub mod OutputExamples
 pub mod CodingSteps
 pub mod ReadingTwice

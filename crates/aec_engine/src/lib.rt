@@ -3,7 +3,9 @@
 //! edits.
 //!
 //! From source to sink: `encode`, `decode`, `range`, `edit`. From slice to vector: `encode_bytes`,
-//! `decode_bytes`, `range_bytes`. Into a buffer: `encode_into`, `decode_into`, `range_into`.
+//! `decode_bytes`, `range_bytes`. Into a buffer: `encode_into`, `decode_into`, `range_into`;
+//! `offsets_into` finds the bits where intervals begin, and `decode_at_into` decodes from such a
+//! bit on.
 #![tactic(auto)]
 
 mod bytes_range;
@@ -23,7 +25,10 @@ mod scripts;
 pub use bytes_range::range_bytes;
 pub use coded_bytes::{encode_bytes, encode_into};
 pub use edited_streams::{Decoded, decode_edited};
-pub use engine::{carry_out, decode, decode_into, edit, edit_over, encode, range, range_into};
+pub use engine::{
+    carry_out, decode, decode_at_into, decode_into, edit, edit_over, encode, offsets_into, range,
+    range_into,
+};
 pub use in_memory::decode_bytes;
 pub use numerals::parse_range;
 pub use script_reading::script;

@@ -18,4 +18,6 @@ mod endless;
 #[cfg(test)]
 mod failing_edits;
 #[cfg(test)]
+mod offsets;
+#[cfg(test)]
 mod scripts;

@@ -4,10 +4,11 @@
 //! contracts say what the sink that an engine returns has taken, but not that it still has the same
 //! buffer.
 
-ghost use Rattle.std.specs.Prelude.{◌≡◌, ℕ, ◌+◌, ◌*◌, ◌<◌, ◌≤◌, ◌^◌, ◌++◌, List, [], ℤ, None, Some, Ok, false, length, take, drop, max, vec_len, vec_capacity, IsOk, IfOk, IfErr, OnOk, ◌↔◌, IsTrue, Err};
+ghost use Rattle.std.specs.Prelude.{◌≡◌, ℕ, ◌+◌, ◌*◌, ◌<◌, ◌≤◌, ◌^◌, ◌++◌, List, [], ℤ, None, Some, Ok, false, length, take, drop, max, vec_len, vec_capacity, ◌⊎◌, IsOk, IfOk, IfErr, OnOk, ◌↔◌, IsTrue, Err};
 ghost use Rattle.std.specs.List.{AllByRecursion};
 ghost use Rattle.aec_params.specs.declared.fault.Fault.TheVariants.{Memory, StreamTooLong};
 ghost use Rattle.aec_params.specs.Params.{IsHeld, interval_len, storage_len};
+ghost use Rattle.aec_params.specs.Codewords.{bits_of_bytes};
 ghost use Rattle.aec_engine.specs.Transfers.{input_of, RefusesIntake};
 ghost use Rattle.aec_engine.specs.Output.{all_stored, samples_from, IsDecoded, IsRanged};
 ghost use Rattle.aec_interval.specs.Reached.{count_refusal, RefusesReading};
@@ -27,10 +28,14 @@ use std::alloc::Global;
 
 /// Returns the bits of coded bytes. If there are more than `limit` bytes, fails with
 /// `StreamTooLong` before it allocates.
-fn bits_of(alloc: Global, coded: &[u8], limit: u64) -> Result<BitBuf, Fault>
+pub(crate) fn bits_of(alloc: Global, coded: &[u8], limit: u64) -> Result<BitBuf, Fault>
     ensures ok { IfOk result (λ bits. GaveWhole (Some coded.now) (Some []) 0 limit bits.list) }
     ensures refuses { IfErr result (RefusesIntake (Some coded.now) (Some []) 0 limit) }
     ensures long { limit < length coded.now → result ≡ Err (StreamTooLong limit) }
+    ensures spelled { IfOk result (λ bits. bits.list ≡ bits_of_bytes coded.now) }
+    ensures short { IfOk result (λ _. length coded.now ≤ limit) }
+    ensures fault { IfErr result (λ fault. (fault ≡ Memory)
+        ⊎ ((limit < length coded.now) × (fault ≡ StreamTooLong limit))) }
 {
     if coded.len() as u64 > limit {
         return Err(Fault::StreamTooLong { limit });
@@ -197,7 +202,7 @@ fn read_first(
 
 /// Writes the bytes of samples to the front of a buffer, if there is room for them. Returns how
 /// many bytes they take.
-fn put_first(params: &Params, samples: &[i64], out: &mut [u8]) -> u64
+pub(crate) fn put_first(params: &Params, samples: &[i64], out: &mut [u8]) -> u64
     requires held { AllByRecursion (IsHeld params.now) samples.now }
     ensures { FillsOne (λ answer. answer ≡ Ok (all_stored params.now samples.now)) out.old out.new
         (Ok result) }
