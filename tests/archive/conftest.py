@@ -14,7 +14,7 @@ from hypothesis import HealthCheck, settings
 
 TOP = Path(__file__).resolve().parents[2]
 sys.path[:0] = [str(TOP / "python"), str(TOP / "tests"), str(Path(__file__).parent)]
-SECONDS = 150
+SECONDS = 400
 QUIET = [HealthCheck.too_slow, HealthCheck.function_scoped_fixture, HealthCheck.data_too_large, HealthCheck.filter_too_much]
 for name, examples in (("usual", 40), ("thorough", 400)):
     settings.register_profile(
