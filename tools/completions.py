@@ -21,10 +21,9 @@ FOLDERS = ("DIR",)
 def parsers():
     """Returns the parser of each verb."""
     sys.path.insert(0, os.path.join(TOP, "python"))
-    sys.argv[0] = "aecp"  # the module then imports without its library
-    from aecp import cli
+    from aecp import _words
 
-    return cli.parsers()[1]
+    return _words.parsers()[1]
 
 
 def options(verb):

@@ -133,6 +133,26 @@ def test_parts_are_those_of_the_array(tmp_path: Any, key: Any) -> None:
         assert (pickle.loads(pickle.dumps(samples))[3] == array[3]).all()
 
 
+@pytest.mark.parametrize("key", [5, -1, slice(3, 9), slice(9, 3), slice(70_000, 2, -70), slice(-5, None)])
+def test_parts_of_a_list(key: Any) -> None:
+    values = numpy.random.default_rng(2).integers(0, 4000, 150_000).astype("<i2")
+    found = archive.Samples(archive.ArchiveFile.of_bytes(aecp.pack(values)))
+    assert found[key].dtype == values.dtype
+    assert numpy.array_equal(found[key], values[key])
+    assert found._plain_item(3) == values[3]
+    assert all(mine == value for mine, value in zip(found, values))
+    with pytest.raises(IndexError):
+        found[150_000]
+
+
+def test_an_array_without_dimensions() -> None:
+    found = archive.Samples(archive.ArchiveFile.of_bytes(aecp.pack(numpy.array(7, "<u2"))))
+    assert found[()] == 7 and found.shape == () and numpy.asarray(found).shape == ()
+    for refused in (len, list):
+        with pytest.raises(TypeError):
+            refused(found)
+
+
 def test_damage_is_local(tmp_path: Any) -> None:
     samples = stored(Options(16), 200_000)
     data = bytearray(written(Options(16), samples))
@@ -170,6 +190,25 @@ def test_a_file_of_bytes_in_pieces(tmp_path: Any) -> None:
     assert os.listdir(tmp_path) == ["a.aec"]
 
 
+@pytest.mark.parametrize("is_msb", [False, True])
+def test_samples_of_three_bytes_are_integers(is_msb: bool) -> None:
+    options = Options(20, signed=True, three_byte=True, msb_first=is_msb)
+    values = numpy.array([-524_288, -1, 0, 1, 524_287, -70_000] * 500, ">i4" if is_msb else "<i4")
+    data = aecp.pack(values, bits=20, three_byte=True)
+    file = archive.ArchiveFile.of_bytes(data)
+    assert file.facts.options == options and file.facts.samples.bytes == 9000
+    assert (aecp.unpack(data) == values).all() and aecp.unpack(data).dtype == values.dtype
+
+
+def test_a_codec_decodes_parts() -> None:
+    codec = pytest.importorskip("aecp.codec").Aecp(16)
+    array = numpy.arange(5000, dtype=">u2")
+    chunk = codec.encode(array)
+    assert bytes(codec.decode_partial(chunk, 4000, 60)) == array[4000:4060].tobytes()
+    with pytest.raises(aecp.RangeRefused):
+        codec.decode_partial(chunk, 4990, 11)
+
+
 def test_unused_bits_are_refused() -> None:
     with pytest.raises(archive.Refused, match="unused bits"):
         written(Options(12, signed=True), b"\x00\x08")
@@ -177,7 +216,7 @@ def test_unused_bits_are_refused() -> None:
 
 def test_history_comes_back_and_repeats_are_stored_once() -> None:
     state = archive.State(4, archive.Sum(8, "a" * 64), archive.Sum(9, "b" * 64))
-    script = os.urandom(5000).hex().encode()
+    script = os.urandom(40_000)  # more than zlib itself can find again
     inverse = archive.Difference(1, 2, zlib.compress(b"xyz"))
     edit = _history.edit_entry(state, state, 3, script, inverse)
     history = [_history.keep_entry(state), edit, edit, edit]

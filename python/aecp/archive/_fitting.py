@@ -10,7 +10,7 @@ from typing import Any, NamedTuple, Optional
 
 from aecp.archive._form import Refused
 from aecp.archive._headers import layout_of, options_of
-from aecp.archive._keeping import original, read_all
+from aecp.archive._originals import original, read_all
 from aecp.archive._outcomes import Outcome, words_of
 from aecp.archive._paths import Found
 from aecp.archive._scripts import Store

@@ -4,19 +4,19 @@ from __future__ import annotations
 
 import contextlib
 import functools
-import hashlib
 import math
 import os
-import stat
 from collections.abc import Iterator
 from dataclasses import dataclass, replace
 from typing import BinaryIO, Optional
 
+from aecp import streams
 from aecp.archive import _saving
 from aecp.archive._file import ArchiveFile, opened
 from aecp.archive._form import MOST_SIDE, Damaged, Exists, Facts, Refused, Source
 from aecp.archive._headers import Layout, layout_of, options_of
 from aecp.archive._history import Entry, keep_entry
+from aecp.archive._originals import Reading, original, read_all, same, sha256_of
 from aecp.archive._outcomes import Outcome, words_of
 from aecp.archive._pairs import converted, note_at
 from aecp.archive._paths import STREAM, Found, place_below
@@ -26,8 +26,6 @@ from aecp.calls import encode
 from aecp.faults import Fault, SampleRefused
 from aecp.options import Options
 
-PIECE = 4 << 20  # bytes that are read at once
-FRONT = 1 << 18  # bytes of a file that a hint tries
 POOR = 60  # percent of its file that a stream must have for a hint
 SAVING = 10  # percent that a hint must save
 
@@ -101,17 +99,6 @@ def clean(folder: str) -> None:
     _saving.remove_leftovers(folder)
 
 
-@contextlib.contextmanager
-def original(path: str) -> Iterator[BinaryIO]:
-    """Yields a regular file that is open for reading. Raises Refused for any other."""
-    flags = os.O_RDONLY | os.O_NONBLOCK | os.O_NOFOLLOW | os.O_CLOEXEC
-    number = os.open(path, flags)
-    with open(number, "rb", buffering=0) as file:
-        if not stat.S_ISREG(os.fstat(number).st_mode):
-            raise Refused("it is no plain file")
-        yield file
-
-
 def planned(how: Keeping, file: BinaryIO, size: int) -> Plan:
     """Returns what is to be read from a file. Raises Refused if that can't be known or isn't
     there."""
@@ -135,53 +122,6 @@ def planned(how: Keeping, file: BinaryIO, size: int) -> Plan:
     if layout.length is not None and size - end > MOST_SIDE:
         raise Refused("more than 1 MiB lies after the samples that its header names")
     return Plan(options, replace(layout, dtype=dtype))
-
-
-def pieces_of(file: BinaryIO, length: int) -> Iterator[bytes]:
-    """Yields so many bytes of a file, or fewer if it ends."""
-    while length > 0:
-        piece = file.read(min(PIECE, length))
-        if not piece:
-            return
-        length -= len(piece)
-        yield piece
-
-
-def read_all(file: BinaryIO, length: int) -> bytes:
-    """Returns so many bytes of a file, or fewer if it ends."""
-    return b"".join(pieces_of(file, length))
-
-
-class Reading:
-    """An original that is being read: its head, the pieces of its samples, its tail, and its
-    sum."""
-
-    def __init__(self, file: BinaryIO, size: int, head: int, length: int) -> None:
-        self.file, self.size, self.length = file, size, length
-        self.digest = hashlib.sha256()
-        self.front = b""
-        file.seek(0)
-        self.head = read_all(file, head)
-        self.digest.update(self.head)
-        self.tail = b""
-
-    def pieces(self) -> Iterator[bytes]:
-        """Yields the samples in pieces. Raises Refused if the file ends too early or too late."""
-        read = 0
-        for piece in pieces_of(self.file, self.length):
-            self.front = self.front or piece[:FRONT]
-            self.digest.update(piece)
-            read += len(piece)
-            yield piece
-        self.tail = read_all(self.file, MOST_SIDE + 1)
-        self.digest.update(self.tail)
-        if len(self.head) + read + len(self.tail) != self.size:
-            raise Refused("it changed while it was read")
-
-    def source(self, status: os.stat_result) -> Source:
-        """Returns what is recorded of the original."""
-        sha256 = self.digest.hexdigest()
-        return Source(self.size, sha256, status.st_mtime_ns, self.head, self.tail)
 
 
 def coded(
@@ -221,14 +161,6 @@ def coded(
 def is_poor(facts: Facts) -> bool:
     """Returns whether a stream is so large that other options may be meant."""
     return facts.stream.bytes * 100 > facts.samples.bytes * POOR
-
-
-def same(first: os.stat_result, second: os.stat_result) -> bool:
-    """Returns whether two statuses are those of one unchanged file."""
-    return all(
-        getattr(first, name) == getattr(second, name)
-        for name in ("st_dev", "st_ino", "st_size", "st_mtime_ns", "st_ctime_ns")
-    )
 
 
 def alternatives(options: Options) -> Iterator[tuple[str, Options]]:
@@ -344,15 +276,6 @@ def compared(how: Keeping, found: Found, target: str, note: str) -> Outcome:
     return Outcome("skipped", note or other_options(how, facts.options))
 
 
-def sha256_of(file: BinaryIO) -> str:
-    """Returns the SHA-256 of a whole file."""
-    digest = hashlib.sha256()
-    file.seek(0)
-    for piece in iter(lambda: file.read(PIECE), b""):
-        digest.update(piece)
-    return digest.hexdigest()
-
-
 def other_options(how: Keeping, recorded: Options) -> str:
     """Returns a text if the user gave options other than the recorded ones."""
     if any(getattr(recorded, name) != value for name, value in how.given.items()):
@@ -414,11 +337,34 @@ def rebuild(
     reading = Reading(file, before.st_size, len(head), max(length, 0))
     with _saving.replacement(target, status) as out:
         writer = Writer(out, facts.options)
-        for piece in reading.pieces():
-            writer.write(piece)
+        scripts = scripts_since(history)
+        if scripts:
+            write_edited(writer, b"".join(reading.pieces()), facts, scripts)
+        else:
+            for piece in reading.pieces():
+                writer.write(piece)
         if source is not None and reading.digest.hexdigest() != source.sha256:
             raise Refused("it isn't the file that was kept: its checksum isn't the recorded one")
         if writer.end().samples != facts.samples:
             raise Refused("its samples aren't those that are recorded: FILE.aec was edited since")
         entries = [keep_entry(writer.end())] if history is None else history
         writer.finish(entries, source, facts.shape, facts.dtype, facts.samples)
+
+
+def scripts_since(history: Optional[list[Entry]]) -> list[bytes]:
+    """Returns the scripts of all edits since a file was kept that weren't undone."""
+    entries = history or []
+    undone = {it.edit for it in entries if it.what == "undo"}
+    edits = [it for i, it in enumerate(entries) if it.what == "edit" and i not in undone]
+    return [it.script.text() for it in edits if it.script is not None]
+
+
+def write_edited(writer: Writer, samples: bytes, facts: Facts, scripts: list[bytes]) -> None:
+    """Writes the stream of an original to which the recorded edits are applied again."""
+    stream, count = encode(samples, facts.options), len(samples) // facts.options.storage
+    for script in scripts:
+        try:
+            stream, count = streams.edit(stream, count, script, facts.options)
+        except Fault as fault:
+            raise Refused(f"the recorded edits can't be applied again: {fault}") from None
+    writer.write_stream(stream, count)

@@ -6,6 +6,7 @@ Nothing writes this form any more. A pair becomes the bytes of a file of today's
 from __future__ import annotations
 
 import base64
+import contextlib
 import io
 import os
 import stat
@@ -42,11 +43,9 @@ NUMBERS = {"-n": "bits", "-j": "block_size", "-r": "interval"}
 def note_at(path: str) -> Optional[str]:
     """Returns the path of the note beside a stream, or None."""
     for note in (path + NOTE, path + OLD_NOTE):
-        try:
+        with contextlib.suppress(OSError):
             if stat.S_ISREG(os.lstat(note).st_mode):
                 return note
-        except OSError:
-            pass
     return None
 
 
@@ -84,13 +83,10 @@ def converted(path: str, limit: Optional[int] = None) -> Optional[bytes]:
 
 def whole(path: str, most: int) -> bytes:
     """Returns the bytes of a regular file. Raises Damaged if there are more than `most`."""
-    file = OnDisk(path)
-    try:
+    with contextlib.closing(OnDisk(path)) as file:
         if file.size > most:
             raise Damaged("other samples", f"it has {file.size} bytes, more than its {most}")
         return file.read(0, file.size)
-    finally:
-        file.close()
 
 
 def new_note(data: bytes) -> tuple[Facts, list[Entry]]:
@@ -104,10 +100,10 @@ def new_note(data: bytes) -> tuple[Facts, list[Entry]]:
     options = options_in(fields["options"])
     state = state_in({name: fields[name] for name in ("samples", "stream")}, options.storage)
     source = fields["source"] and {**fields["source"], "head": "", "tail": ""}
+    kept = source_in(source) if source else None
     history: list[Entry] = []
     for entry in fields["history"]:
         history.append(entry_in(new_entry(entry), history))
-    kept = source_in(source) if source else None
     return Facts(options, state.count, state.samples, state.stream, source=kept), history
 
 

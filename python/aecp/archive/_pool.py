@@ -153,7 +153,7 @@ class Cluster:
                 except KilledWorker:
                     yield None
         finally:
-            self.client.cancel(futures)
+            self.client.cancel([it for it in futures if not it.done()])
 
     def close(self) -> None:
         """Leaves the cluster."""

@@ -79,7 +79,7 @@ class Samples:
 
     def __getitem__(self, key: Any) -> Any:
         numpy = numpy_if_there()
-        if numpy is None or self.ndim == 1 and type(key) in (int, slice):
+        if numpy is None or self.ndim == 1 and is_plain(key):
             return self._plain_item(key)
         keys = key if isinstance(key, tuple) else (key,)
         if not all(is_basic(it) for it in keys):
@@ -101,11 +101,14 @@ class Samples:
         if not isinstance(key, slice):
             return self._read(place_of(key, self.count), 1)[0]
         places = range(self.count)[key]
-        if not places:
-            return self._read(0, 0)
-        least, most = min(places[0], places[-1]), max(places[0], places[-1])
-        part = self._read(least, most - least + 1)
-        return part if places.step == 1 else part[:: places.step]
+        if places.step == 1:
+            return self._read(places.start, len(places)) if places else self._read(0, 0)
+        made, number = self._read(0, 0), max(SPAN // abs(places.step), 1)
+        for at in range(0, len(places), number):
+            part = places[at : at + number]
+            least, most = min(part[0], part[-1]), max(part[0], part[-1])
+            made.extend(self._read(least, most - least + 1)[:: part.step])
+        return made
 
     def _fill(self, made: Any, axes: list[Axis]) -> None:
         """Fills an array with what is asked for along some axes. What lies close together is
@@ -166,9 +169,9 @@ class Samples:
                 yield from flat_array(self.facts, len(piece) // self.options.storage, [piece])
             return
         needed_numpy()
-        row = math.prod(self.shape[1:])
+        number, row = len(self), math.prod(self.shape[1:])
         if row == 0:
-            yield from (self[number] for number in range(len(self)))
+            yield from (self[place] for place in range(number))
             return
         yield from self._rows(row, row * self.options.storage)
 
@@ -219,6 +222,11 @@ class Samples:
 
     def __exit__(self, *_: Any) -> None:
         self.close()
+
+
+def is_plain(key: Any) -> bool:
+    """Returns whether a key is a place, or a slice whose places lie one after the other."""
+    return type(key) is int or type(key) is slice and key.step in (None, 1)
 
 
 def is_basic(key: Any) -> bool:
