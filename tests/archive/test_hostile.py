@@ -119,7 +119,7 @@ def wrong_fields(fields: dict[str, Any]) -> list[dict[str, Any]]:
     changes += [{"written": it} for it in ("2026-11-30", "2026-11-30T01:02:03Z\n")]
     changes += [{"written_by": it} for it in ("aecp \x1b", "aecp \x7f", "é", "x" * 201, None)]
     changes += [{"shape": it} for it in ([3000, 2], [-3000], [3000.0], [True], "3000", [0])]
-    changes += [{"dtype": it} for it in (7, "x" * 300, "\x1b", "<f8", "<u4")]
+    changes += [{"dtype": it} for it in (7, "x" * 300, "\x1b", "<f8", "<u1", "u2")]
     for name, values in (
         ("bits", (True, 0, -1, "16", 1.0, 33, 2**32)),
         ("block_size", (True, 0, -1, "16", 1.0, 17, 2**32)),
