@@ -11,6 +11,7 @@ from pathlib import Path
 from typing import Any
 
 import aecp
+import aecp.archive
 import pytest
 from making import FAST, USUAL, keep, noise, parts_at, walk, write
 from plain_form import sha256
@@ -74,6 +75,8 @@ def test_counts_that_no_stream_can_have(place: str) -> None:
         changed = parts.copy()
         changed.fields["samples"].update(count=count, bytes=2 * count)
         write(place, "f.aec", changed.sealed())
+        with pytest.raises(aecp.archive.Damaged):
+            aecp.archive.ArchiveFile.open(path).close()  # which reads the trailer alone
         for words in (["check", "f.aec"], ["back", "f.aec", "out"], ["rescue", "f.aec", "out"], ["view", "f.aec", "o.png", "--width", "9"]):
             import resource
 
