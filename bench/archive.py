@@ -5,7 +5,7 @@ FOLDER contains libaecp.so. Prints a table for each of
     ends     ten samples at the end of 64 MiB and of 1 GiB, by aecp.open, and by flac, where it can seek
     files    keep and check of 10,000 files of 8 KiB, beside zstd
     large    keep and check of 1 GiB (with --full 4 GiB), beside flac and zstd
-    growth   the history: 100 edits of 3,000 samples in 256 KiB, the same places each time, and others
+    growth   the history: 100 edits of 3,000 samples in 256 KiB: one script, the same places, and others
 Each time is the least of some runs, in seconds of the clock. Without --full the numbers of files and bytes are an eighth.
 """
 
@@ -157,16 +157,17 @@ def growth(place: str, full: bool) -> None:
     edits = 100 if full else 25
     samples = 1 << 17
     head(f"{edits} edits of 3,000 samples in 256 KiB", "stream, bytes", "FILE.aec, bytes", "times the stream", "seconds an edit")
-    for name, same in (("the same places each time", True), ("other places each time", False)):
+    for name in ("the same script each time", "the same places, other values", "other places, other values"):
         chance = random.Random(1)
         Path(place, "g").write_bytes(detector(1, samples))
         run(*aecp_words("keep", "g", "-n", 16), where=place)
         places = sorted(chance.sample(range(samples), 3000))
         spent = 0.0
-        for _ in range(edits):
-            if not same:
+        for number in range(edits):
+            if name.startswith("other"):
                 places = sorted(chance.sample(range(samples), 3000))
-            script = "".join(f"overwrite {at} {chance.randrange(900, 1100)}\n" for at in places)
+            if number == 0 or not name.endswith("script each time"):
+                script = "".join(f"overwrite {at} {chance.randrange(900, 1100)}\n" for at in places)
             Path(place, "script").write_text(script, encoding="ascii")
             spent += clock(lambda: run(*aecp_words("edit", "g.aec", "script"), where=place))
         run(*aecp_words("export", "g.aec", "bare"), where=place)

@@ -14,7 +14,10 @@ from hypothesis import HealthCheck, settings
 
 TOP = Path(__file__).resolve().parents[2]
 sys.path[:0] = [str(TOP / "python"), str(TOP / "tests"), str(Path(__file__).parent)]
-SECONDS = 150
+
+import running  # noqa: E402 - it needs the path
+
+SECONDS = 400
 QUIET = [HealthCheck.too_slow, HealthCheck.function_scoped_fixture, HealthCheck.data_too_large, HealthCheck.filter_too_much]
 for name, examples in (("usual", 40), ("thorough", 400)):
     settings.register_profile(
@@ -67,4 +70,5 @@ def limited(times: int) -> Iterator[None]:
     signal.alarm(SECONDS * times)
     yield
     signal.alarm(0)
+    running.kill_all()
     signal.signal(signal.SIGALRM, before)

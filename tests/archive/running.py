@@ -107,6 +107,17 @@ def arm(hooks: Hooks, log: int) -> None:
         library.hooks_stop(hooks.stop, hooks.after)
 
 
+RUNNING: set[int] = set()  # the children that haven't been waited for
+
+
+def kill_all() -> None:
+    """Ends the children that a failed test has left."""
+    for child in list(RUNNING):
+        os.kill(child, signal.SIGKILL)
+        os.waitpid(child, 0)
+    RUNNING.clear()
+
+
 class Started:
     """A child process that runs work() with files for its standard streams."""
 
@@ -121,6 +132,7 @@ class Started:
         self.child = os.fork()
         if self.child == 0:
             self._run(folder, work, how)
+        RUNNING.add(self.child)
 
     def _run(self, folder: Word, work: Callable[[], object], how: How) -> None:
         status = 70
@@ -166,6 +178,7 @@ class Started:
     def ended(self) -> Ran:
         """Waits for the end. A child that takes too long is killed, and has the status -99."""
         status = self._wait()
+        RUNNING.discard(self.child)
         try:
             os.killpg(self.child, signal.SIGKILL)
         except (ProcessLookupError, PermissionError):

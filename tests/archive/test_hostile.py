@@ -11,6 +11,7 @@ from pathlib import Path
 from typing import Any
 
 import aecp
+import aecp.archive
 import pytest
 from making import FAST, USUAL, keep, noise, parts_at, walk, write
 from plain_form import sha256
@@ -74,6 +75,8 @@ def test_counts_that_no_stream_can_have(place: str) -> None:
         changed = parts.copy()
         changed.fields["samples"].update(count=count, bytes=2 * count)
         write(place, "f.aec", changed.sealed())
+        with pytest.raises(aecp.archive.Damaged):
+            aecp.archive.ArchiveFile.open(path).close()  # which reads the trailer alone
         for words in (["check", "f.aec"], ["back", "f.aec", "out"], ["rescue", "f.aec", "out"], ["view", "f.aec", "o.png", "--width", "9"]):
             import resource
 
@@ -119,7 +122,7 @@ def wrong_fields(fields: dict[str, Any]) -> list[dict[str, Any]]:
     changes += [{"written": it} for it in ("2026-11-30", "2026-11-30T01:02:03Z\n")]
     changes += [{"written_by": it} for it in ("aecp \x1b", "aecp \x7f", "é", "x" * 201, None)]
     changes += [{"shape": it} for it in ([3000, 2], [-3000], [3000.0], [True], "3000", [0])]
-    changes += [{"dtype": it} for it in (7, "x" * 300, "\x1b", "<f8", "<u4")]
+    changes += [{"dtype": it} for it in (7, "x" * 300, "\x1b", "<f8", "<u1", "u2")]
     for name, values in (
         ("bits", (True, 0, -1, "16", 1.0, 33, 2**32)),
         ("block_size", (True, 0, -1, "16", 1.0, 17, 2**32)),
