@@ -2,7 +2,8 @@
 use Rattle.std.proofs.Common.{◌≡◌, ℕ, ◌+◌, ◌-◌, ◌*◌, ◌/◌, ◌%◌, ◌<◌, ◌≤◌, ◌^◌, ◌==◌, ◌&&◌, Bool, true, false, if◌then◌else◌, Option, Some, None, Ok, ℤ, pos, List, [], ◌∷◌, ◌++◌, length, take, drop, ⊎_elim, refl, sym, ap, ◌∙◌, subst, arith}
 use Rattle.std.proofs.Math.Nat.{one-mul, mul_comm, mul-le-mul_right, add-mul-mod_self_right, add-mul, div-mul-le_self, le-mul_of_pos_right}
 use Rattle.std.proofs.lemmas.Bool.{cases_lt}
-use Rattle.std.proofs.lemmas.List.{take_at, length-take, length-take-le}
+use Rattle.std.proofs.Math.Seq.{take-append-add}
+use Rattle.std.proofs.lemmas.List.{take_at, length-take, length-drop, length-take-le, take-append-le}
 use borrow.Rule.Slice.PartMut.{put_mid}
 use Rattle.std.specs.List.{AllByRecursion}
 use Rattle.aec_params.specs.declared.settings.Settings.{Settings}
@@ -27,13 +28,13 @@ use Rattle.aec_interval.specs.Reached.{AreFilled, IsReached}
 use Rattle.aec_interval.specs.Pieces.{Place, place_at, counted_from, ReadsIntervals}
 use Rattle.aec_interval.specs.Steps.{IsUntestedEnd}
 use Rattle.aec_interval.specs.UntestedBlocks.{IsUntestedAt, ReadsBlocks}
-use Rattle.aec_interval.specs.ShortIntervals.{AreWithin, begun_at, ReadsFirst, ReadsWhole}
+use Rattle.aec_interval.specs.ShortIntervals.{AreWithin, begun_at, ReadsFirst, ReadsWhole, FillsFirst, FillsIntervals}
 use Rattle.aec_interval.proofs.NextFillLemmas.{fills_block_single, fills_block_reference}
 use Rattle.aec_interval.proofs.ReadNextLemmas.{reached-start, next-cds, reached-next}
 use Rattle.aec_interval.proofs.PlaceLemmas.{LeadsTo-append, stream_blocks-append}
 use Rattle.aec_interval.proofs.ReachedLemmas.{length-stream_blocks, kept_blocks-append, kept_blocks-wanted, AreFilled-reached}
 use Rattle.aec_interval.proofs.PieceReadingLemmas.{FillBlocks-append}
-use Rattle.aec_interval.proofs.UntestedLemmas.{untested-within, few_samples, wanted_here, untested-placed, untested-begins, untested-kept, none_read}
+use Rattle.aec_interval.proofs.UntestedLemmas.{untested-within, few_samples, wanted_here, untested-placed, untested-begins, untested-kept, none_read, blocks_fit}
 
 -- ---- the first blocks of an interval
 
@@ -212,31 +213,93 @@ within_less s count limit i j less within = record {
   samples = omega (arith, mul-le-mul_right s.block_size less, within.samples);
 }
 
--- one interval more
-pub reads_one_more : (s : Settings) (n : ℕ) (old mid new : Cursor) (xs ys all : List ℤ) → IsAllowed s → ReadsWhole s n old mid xs → ReadsWhole s 1 mid new ys
-    → all ≡ xs ++ ys → ReadsWhole s (n + 1) old new all
-reads_one_more s n old mid new xs ys all allowed front back is = record {
+-- m intervals more
+reads_more : (s : Settings) (n m : ℕ) (old mid new : Cursor) (xs ys all : List ℤ) → IsAllowed s → 0 < m → ReadsWhole s n old mid xs
+    → ReadsWhole s m mid new ys → all ≡ xs ++ ys → ReadsWhole s (n + m) old new all
+reads_more s n m old mid new xs ys all allowed some front back is = record {
   list = back.list ∙ front.list;
   leads = λ count limit i aligned within.
       let middle : ℕ = i + n * s.interval in
-      let end : middle + 1 * s.interval ≡ i + (n + 1) * s.interval = one_end i n s.interval in
+      let end : middle + m * s.interval ≡ i + (n + m) * s.interval = omega (arith, add-mul n m s.interval) in
       let there : middle % s.interval ≡ 0 = add-mul-mod_self_right i n s.interval ∙ aligned in
       let first = front.leads count limit i aligned (within_less s count limit _ _ (omega (arith, end)) within) in
       let last = back.leads count limit middle there (subst (AreWithin s count limit) (sym end) within) in
       let joined =
-      reached-join s count limit old.list i old.pos n middle mid.pos (middle + 1 * s.interval) new.pos xs ys allowed refl
-      (omega (arith, interval-positive s allowed)) first
-      (subst (λ list. IsReached s count limit list middle mid.pos (middle + 1 * s.interval) new.pos ys) front.list last) in
-      subst (IsReached s count limit old.list i old.pos (i + (n + 1) * s.interval) new.pos) (sym is)
+      reached-join s count limit old.list i old.pos n middle mid.pos (middle + m * s.interval) new.pos xs ys allowed refl
+      (omega (arith, some, le-mul_of_pos_right m (interval-positive s allowed))) first
+      (subst (λ list. IsReached s count limit list middle mid.pos (middle + m * s.interval) new.pos ys) front.list last) in
+      subst (IsReached s count limit old.list i old.pos (i + (n + m) * s.interval) new.pos) (sym is)
       (subst (λ j. IsReached s count limit old.list i old.pos j new.pos (xs ++ ys)) end joined);
 }
-  where
-    one_end : (i n r : ℕ) → i + n * r + 1 * r ≡ i + (n + 1) * r
-    one_end i n r = omega arith
+
+-- one interval more
+pub reads_one_more : (s : Settings) (n : ℕ) (old mid new : Cursor) (xs ys all : List ℤ) → IsAllowed s → ReadsWhole s n old mid xs → ReadsWhole s 1 mid new ys
+    → all ≡ xs ++ ys → ReadsWhole s (n + 1) old new all
+reads_one_more s n old mid new xs ys all allowed front back is = reads_more s n 1 old mid new xs ys all allowed (omega arith) front back is
 
 -- samples before a part stay the same
 pub front_kept : (xs part : List ℤ) (at k : ℕ) → at ≤ length xs → take at (put_mid at k xs part) ≡ take at xs
 front_kept xs part at k within = take_at (take at xs) (part ++ drop k (drop at xs)) at (length-take-le at xs within)
+
+-- the samples before a part, and the first q of the part
+front_and_part : (xs part : List ℤ) (at k q : ℕ) → at ≤ length xs → q ≤ length part → take (at + q) (put_mid at k xs part) ≡ take at xs ++ take q part
+front_and_part xs part at k q within few =
+    let front : List ℤ = take at xs in
+    let tail : List ℤ = drop k (drop at xs) in
+    let long : at + q ≡ length front + q = omega (arith, length-take-le at xs within) in
+    ap (λ n. take n (front ++ (part ++ tail))) long ∙ take-append-add front (part ++ tail) q ∙ ap (λ l. front ++ l) (take-append-le q part tail few)
+
+-- after n intervals of at most `most`, the rest of the samples has room for the others
+module _ (s : Settings) (n most at len : ℕ) (samples : List ℤ) (place : at ≡ n * len) (size : len ≡ interval_len s) (order : n ≤ most)
+    (all : most * interval_len s ≤ length samples) where
+  abbrev pub rest_old : List ℤ
+  rest_old = take (length samples - at) (drop at samples)
+
+  fit : at + (most - n) * interval_len s ≤ length samples
+  fit = blocks_fit 0 at n most (interval_len s) (length samples) (omega (arith, place, ap (λ l. n * l) size)) order (omega (arith, all))
+
+  pub rest_within : at ≤ length samples
+  rest_within = omega (arith, fit)
+
+  pub rest_room : (most - n) * interval_len s ≤ length rest_old
+  rest_room = omega (arith, fit, length-take (length samples - at) (drop at samples), length-drop at samples)
+
+  -- others were read into the rest of the samples
+  module _ (m k : ℕ) (old mid new : Cursor) (rest : List ℤ) (allowed : IsAllowed s) (front : ReadsWhole s n old mid (take at samples))
+      (fills : FillsIntervals s (most - n) mid rest_old m new rest) (end : k ≡ at + m * interval_len s) where
+    abbrev pub rest_new : List ℤ
+    rest_new = put_mid at (length samples - at) samples rest
+
+    few : m * interval_len s ≤ length rest
+    few = omega (arith, mul-le-mul_right (interval_len s) fills.within, rest_room, fills.len)
+
+    cut : take k rest_new ≡ take at samples ++ take (m * interval_len s) rest
+    cut = ap (λ n. take n rest_new) end ∙ front_and_part samples rest at (length samples - at) (m * interval_len s) rest_within few
+
+    some : 0 < m → ReadsWhole s (n + m) old new (take k rest_new)
+    some there =
+        reads_more s n m old mid new (take at samples) (take (m * interval_len s) rest) (take k rest_new) allowed there front (fills.reads there) cut
+
+    none : m ≤ 0 → ReadsWhole s (n + m) old new (take k rest_new)
+    none least =
+        let nothing : m ≡ 0 = omega (arith, least) in
+        let place : k ≡ at = omega (arith, end, ap (λ m. m * interval_len s) nothing) in
+        let same : take k rest_new ≡ take at samples =
+        ap (λ n. take n rest_new) place ∙ front_kept samples rest at (length samples - at) rest_within in
+        subst (λ l. ReadsWhole s (n + m) old new l) (sym same)
+        (subst (λ (cursor : Cursor). ReadsWhole s (n + m) old cursor (take at samples)) (sym (fills.stays nothing))
+        (subst (λ j. ReadsWhole s j old mid (take at samples)) (omega (arith, nothing)) front))
+
+    pub reads_rest : ReadsWhole s (n + m) old new (take k rest_new)
+    reads_rest = ⊎_elim some none (cases_lt 0 m)
+
+-- a run of zero blocks that is the whole interval
+pub run_is_whole : (s : Settings) (n len : ℕ) (old new : Cursor) (before samples : List ℤ) → IsAllowed s → n ≡ s.interval → len ≡ interval_len s
+    → FillsFirst s old before n new samples → ReadsWhole s 1 old new (take len samples)
+run_is_whole s n len old new before samples allowed all size fills =
+    let place : n * s.block_size ≡ len = ap (λ n. n * s.block_size) all ∙ mul_comm s.interval s.block_size ∙ sym size in
+    reads_whole s n old new (take len samples) allowed all
+    (subst (λ k. ReadsFirst s n old new (take k samples)) place (fills.ok (omega (arith, all, interval-positive s allowed))))
 
 -- ---- how many samples
 

@@ -1,5 +1,6 @@
 //! Reads several short intervals at a time, if no block needs a test of its place. `read_short`
-//! sets the greatest number, `fill_intervals` reads while `fill_interval` reads one more.
+//! sets the greatest number. `fill_several_intervals` reads intervals of one kind after the other,
+//! `fill_intervals` those of one kind while `fill_interval` reads one more.
 
 ghost use Rattle.std.specs.Prelude.{◌≡◌, ◌≤◌, ◌<◌, ◌+◌, ◌-◌, ◌*◌, ◌%◌, ◌^◌, ℕ, false, max, length, vec_len, vec_capacity, IfSome};
 ghost use Rattle.std.specs.Option.{is_some};
@@ -10,7 +11,7 @@ ghost use Rattle.aec_interval.specs.ShortIntervals.{AreWithin, FillsIntervals};
 
 use crate::reading::Wanted;
 use crate::reading::short_interval::{
-    PREDICTED, UNPREDICTED, ZEROS, fill_interval, read_whole_run,
+    PREDICTED, UNPREDICTED, WholeRuns, ZEROS, fill_interval, is_whole_run_next,
 };
 use aec_bits::BitReader;
 use aec_block::is_single_next;
@@ -31,10 +32,7 @@ const MIN_PLACES: usize = 64;
 pub(crate) fn is_zero_interval_next(params: &Params, reader: &mut BitReader) -> bool
     ensures { reader.new ≡ reader.old }
 {
-    let start = reader.pos();
-    let comes = params.interval() <= MAX_SHORT_BLOCKS && read_whole_run(params, reader).is_some();
-    reader.seek(start);
-    comes
+    params.interval() <= MAX_SHORT_BLOCKS && is_whole_run_next(params, reader)
 }
 
 /// Reads the next intervals while `fill_interval` reads them, at most `most`, and writes their
@@ -56,11 +54,12 @@ fn fill_intervals<const N: usize, const M: usize, const KIND: usize>(
     let own = *params;
     let len = own.interval_len() as usize;
     let mut values = [0u32; N];
+    let mut runs = WholeRuns { count: 0, end: 0 };
     let mut count = 0;
     let mut at = 0;
     while count < most {
         let part = &mut samples[at..at + len];
-        if !fill_interval::<N, M, KIND>(&own, reader, &mut values, part) {
+        if !fill_interval::<N, M, KIND>(&own, reader, &mut runs, &mut values, part) {
             return count;
         }
         count += 1;
@@ -89,8 +88,25 @@ fn fill_usual_intervals<const KIND: usize>(
     }
 }
 
-/// `fill_usual_intervals` for any intervals if a single block comes next, else for intervals that
-/// are each one run of zero blocks.
+/// `fill_usual_intervals` for intervals of single blocks and runs.
+fn fill_mixed_intervals(
+    params: &Params,
+    reader: &mut BitReader,
+    most: usize,
+    samples: &mut [i64],
+) -> usize
+    requires short { params.now.interval ≤ 64 }
+    requires room { most * interval_len params.now ≤ length samples.old }
+    ensures { FillsIntervals params.now most reader.old samples.old result reader.new samples.new }
+{
+    if params.preprocess() {
+        return fill_usual_intervals::<PREDICTED>(params, reader, most, samples);
+    }
+    fill_usual_intervals::<UNPREDICTED>(params, reader, most, samples)
+}
+
+/// `fill_mixed_intervals`, but first, if no single block comes next, `fill_usual_intervals` for
+/// intervals that are each one run of zero blocks.
 fn fill_next_intervals(
     params: &Params,
     reader: &mut BitReader,
@@ -101,13 +117,41 @@ fn fill_next_intervals(
     requires room { most * interval_len params.now ≤ length samples.old }
     ensures { FillsIntervals params.now most reader.old samples.old result reader.new samples.new }
 {
-    if !is_single_next(params, reader) {
-        return fill_usual_intervals::<ZEROS>(params, reader, most, samples);
+    if is_single_next(params, reader) {
+        return fill_mixed_intervals(params, reader, most, samples);
     }
-    if params.preprocess() {
-        return fill_usual_intervals::<PREDICTED>(params, reader, most, samples);
+    let zeros = fill_usual_intervals::<ZEROS>(params, reader, most, samples);
+    if zeros > 0 {
+        return zeros;
     }
-    fill_usual_intervals::<UNPREDICTED>(params, reader, most, samples)
+    fill_mixed_intervals(params, reader, most, samples)
+}
+
+/// Reads the next intervals while `fill_next_intervals` reads some, at most `most`, and writes
+/// their samples to `samples`. Returns how many intervals it read.
+fn fill_several_intervals(
+    params: &Params,
+    reader: &mut BitReader,
+    most: usize,
+    samples: &mut [i64],
+) -> usize
+    requires short { params.now.interval ≤ 64 }
+    requires room { most * interval_len params.now ≤ length samples.old }
+    ensures { FillsIntervals params.now most reader.old samples.old result reader.new samples.new }
+{
+    let len = params.interval_len() as usize;
+    let mut count = 0;
+    let mut at = 0;
+    while count < most {
+        let rest = &mut samples[at..];
+        let read = fill_next_intervals(params, reader, most - count, rest);
+        if read == 0 {
+            return count;
+        }
+        count += read;
+        at += read * len;
+    }
+    count
 }
 
 /// Returns how many intervals from `wanted.first` on need no test of their place: their samples are
@@ -160,7 +204,7 @@ fn places_at_once(last: usize, capacity: usize) -> usize
     capacity.min(filled.saturating_mul(2).max(MIN_PLACES))
 }
 
-/// Reads the next intervals while `fill_interval` reads them, and replaces the items of `samples`
+/// Reads the next intervals as `fill_several_intervals` does, and replaces the items of `samples`
 /// by their samples, at most `most`. Returns the number of the next block: `wanted.first` if none
 /// was read; `samples` may then hold anything. Allocates nothing.
 pub(crate) fn read_short(
@@ -193,7 +237,7 @@ pub(crate) fn read_short(
     }
     samples.resize((asked * len) as usize, 0).unwrap();
     let all = samples.as_mut_slice();
-    let count = fill_next_intervals(params, reader, asked as usize, all);
+    let count = fill_several_intervals(params, reader, asked as usize, all);
     samples.truncate(count * len as usize);
     wanted.first + count as u64 * u64::from(params.interval())
 }

@@ -128,18 +128,69 @@ fn read_first_run(params: &Params, reader: &mut BitReader) -> Option<(u64, i64)>
     None
 }
 
+/// Returns whether the next interval is one run of zero blocks; no clause says so. The reader
+/// doesn't move.
+#[inline(always)]
+pub(crate) fn is_whole_run_next(params: &Params, reader: &mut BitReader) -> bool
+    requires { params.now.interval ≤ 64 }
+    ensures { reader.new ≡ reader.old }
+{
+    let start = reader.pos();
+    let comes = read_whole_run(params, reader).is_some();
+    reader.seek(start);
+    comes
+}
+
+/// The intervals that were read last, if each is one run of zero blocks: how many, and the bit
+/// where the last ends.
+#[derive(Clone, Copy)]
+pub(crate) struct WholeRuns {
+    pub(crate) count: u32,
+    pub(crate) end: u64,
+}
+
+/// So many intervals one after the other that are each one run are read by the loop for mixed
+/// intervals. For further ones the loop for zeros is faster, though it costs a call.
+const MOST_WHOLE_RUNS: u32 = 8;
+
+/// Returns whether the run at bit `start` is a whole interval, and `MOST_WHOLE_RUNS` such intervals
+/// end there; else counts the run. No clause speaks of the count.
+#[inline(always)]
+fn leaves_run(params: &Params, start: u64, end: u64, blocks: u64, runs: &mut WholeRuns) -> bool {
+    if blocks != u64::from(params.interval()) {
+        return false;
+    }
+    let before = if runs.end == start { runs.count } else { 0 };
+    *runs = WholeRuns {
+        count: before.saturating_add(1),
+        end,
+    };
+    before >= MOST_WHOLE_RUNS
+}
+
 /// Reads the next run of zero blocks as `read_first_run` does, and writes its samples to the front
-/// of `samples`. Returns how many blocks it read: 0 if it read none.
+/// of `samples`. Returns how many blocks it read: 0 if it read none. Reads none after
+/// `MOST_WHOLE_RUNS` intervals that are each one run: the loop for such intervals then reads them.
 #[cold]
 #[inline(never)]
-fn fill_first_run(params: &Params, reader: &mut BitReader, samples: &mut [i64]) -> usize
+fn fill_first_run(
+    params: &Params,
+    reader: &mut BitReader,
+    runs: &mut WholeRuns,
+    samples: &mut [i64],
+) -> usize
     requires short { params.now.interval ≤ 64 }
     requires len { length samples.old ≡ interval_len params.now }
     ensures { FillsFirst params.now reader.old samples.old result reader.new samples.new }
 {
+    let start = reader.pos();
     let Some((blocks, sample)) = read_first_run(params, reader) else {
         return 0;
     };
+    if leaves_run(params, start, reader.pos(), blocks, runs) {
+        reader.seek(start);
+        return 0;
+    }
     let len = blocks as usize * params.block_size() as usize;
     samples[..len].fill(sample);
     blocks as usize
@@ -150,6 +201,7 @@ fn fill_first_run(params: &Params, reader: &mut BitReader, samples: &mut [i64]) 
 fn fill_first<const N: usize, const M: usize, const KIND: usize>(
     params: &Params,
     reader: &mut BitReader,
+    runs: &mut WholeRuns,
     values: &mut [u32],
     samples: &mut [i64],
 ) -> usize
@@ -166,7 +218,7 @@ fn fill_first<const N: usize, const M: usize, const KIND: usize>(
     }
     // Only this copy is lent, so that the caller's stays in registers.
     let lent = *params;
-    fill_first_run(&lent, reader, samples)
+    fill_first_run(&lent, reader, runs, samples)
 }
 
 /// Reads the other blocks of an interval whose first `first` blocks were read, and writes their
@@ -202,6 +254,7 @@ fn fill_rest<const N: usize, const COPY: usize>(
 fn fill_mixed_interval<const N: usize, const M: usize, const KIND: usize>(
     params: &Params,
     reader: &mut BitReader,
+    runs: &mut WholeRuns,
     values: &mut [u32],
     samples: &mut [i64],
 ) -> bool
@@ -214,7 +267,7 @@ fn fill_mixed_interval<const N: usize, const M: usize, const KIND: usize>(
 {
     params.known_allowed();
     let start = reader.pos();
-    let first = fill_first::<N, M, KIND>(params, reader, values, samples);
+    let first = fill_first::<N, M, KIND>(params, reader, runs, values, samples);
     if first > 0 && fill_rest::<N, KIND>(params, reader, first, values, samples) {
         return true;
     }
@@ -258,12 +311,13 @@ fn fill_zero_interval(params: &Params, reader: &mut BitReader, samples: &mut [i6
 }
 
 /// Reads the next interval and writes its samples to `samples`, or returns false, and the reader
-/// hasn't moved. `KIND` says what the interval may be, for speed alone: no clause speaks of it. One
-/// loop for all kinds would make each slower.
+/// hasn't moved. `KIND` says what the interval may be, and `runs` which were read before, for speed
+/// alone: no clause speaks of them. One loop for all kinds would make each slower.
 #[inline(always)]
 pub(crate) fn fill_interval<const N: usize, const M: usize, const KIND: usize>(
     params: &Params,
     reader: &mut BitReader,
+    runs: &mut WholeRuns,
     values: &mut [u32],
     samples: &mut [i64],
 ) -> bool
@@ -277,5 +331,5 @@ pub(crate) fn fill_interval<const N: usize, const M: usize, const KIND: usize>(
     if KIND == ZEROS {
         return fill_zero_interval(params, reader, samples);
     }
-    fill_mixed_interval::<N, M, KIND>(params, reader, values, samples)
+    fill_mixed_interval::<N, M, KIND>(params, reader, runs, values, samples)
 }

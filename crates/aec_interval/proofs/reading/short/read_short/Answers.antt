@@ -5,14 +5,14 @@ use Rattle.aec_interval.proofs.reading.short.read_short.Goals as goal
 
 pub returns-clause-few : goal.returns-clause-few
 returns-clause-few c =
-    let n = c.fill_next_intervals-count.result in
+    let n = c.fill_several_intervals-count.result in
     let size : c.from.result ≡ c.args.params.now.interval = search rules in
     let few = within_few c.args.params.now c.args.wanted.count c.args.wanted.limit c.args.wanted.first n c.interval_len-len.ensures.allowed
-    c.requires.few (λ some. c.intervals_at_once-asked.ensures.within n some c.fill_next_intervals-count.ensures.within) in
+    c.requires.few (λ some. c.intervals_at_once-asked.ensures.within n some c.fill_several_intervals-count.ensures.within) in
     omega (arith, few, ap (λ r. n * r) size)
 
 pub returns-clause-ends : goal.returns-clause-ends
 returns-clause-ends c =
     let size : c.from.result ≡ c.args.params.now.interval = search rules in
-    ap (λ r. (c.args.wanted.first + c.fill_next_intervals-count.result * r) % c.args.params.now.interval) size
-    ∙ (add-mul-mod_self_right c.args.wanted.first c.fill_next_intervals-count.result c.args.params.now.interval ∙ c.requires.aligned)
+    ap (λ r. (c.args.wanted.first + c.fill_several_intervals-count.result * r) % c.args.params.now.interval) size
+    ∙ (add-mul-mod_self_right c.args.wanted.first c.fill_several_intervals-count.result c.args.params.now.interval ∙ c.requires.aligned)
