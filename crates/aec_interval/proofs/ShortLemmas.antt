@@ -293,14 +293,6 @@ module _ (s : Settings) (n most at len : ℕ) (samples : List ℤ) (place : at �
     pub reads_rest : ReadsWhole s (n + m) old new (take k rest_new)
     reads_rest = ⊎_elim some none (cases_lt 0 m)
 
--- a run of zero blocks that is the whole interval
-pub run_is_whole : (s : Settings) (n len : ℕ) (old new : Cursor) (before samples : List ℤ) → IsAllowed s → n ≡ s.interval → len ≡ interval_len s
-    → FillsFirst s old before n new samples → ReadsWhole s 1 old new (take len samples)
-run_is_whole s n len old new before samples allowed all size fills =
-    let place : n * s.block_size ≡ len = ap (λ n. n * s.block_size) all ∙ mul_comm s.interval s.block_size ∙ sym size in
-    reads_whole s n old new (take len samples) allowed all
-    (subst (λ k. ReadsFirst s n old new (take k samples)) place (fills.ok (omega (arith, all, interval-positive s allowed))))
-
 -- ---- how many samples
 
 -- the samples of the first blocks, and of the others

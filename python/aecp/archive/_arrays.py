@@ -7,7 +7,8 @@ from array import array
 from collections.abc import Iterable, Iterator
 from typing import Any, NamedTuple, Optional, Union
 
-from aecp.archive._form import BOOL, DTYPE, Facts, Refused, dtype_in
+from aecp.archive._dtypes import BOOL, DTYPE, dtype_in
+from aecp.archive._form import Facts, Refused
 from aecp.archive._strict import Wrong
 from aecp.buffers import numpy_if_there, view_of
 from aecp.calls import refuse_mask

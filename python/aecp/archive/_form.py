@@ -12,13 +12,13 @@ import hashlib
 import json
 import math
 import os
-import re
 import struct
 import time
 import zlib
 from dataclasses import dataclass
 from typing import Any, NamedTuple, Optional, Union
 
+from aecp.archive._dtypes import dtype_in
 from aecp.archive._strict import (
     Wrong,
     base64_of,
@@ -58,8 +58,6 @@ PART_FIELDS = frozenset(["bytes", "crc32"])
 TRAILER_FIELDS = STATE_FIELDS.union(
     ["format", "written_by", "written", "options", "shape", "dtype", "source", "index", "history"]
 )
-BOOL = "|b1"
-DTYPE = re.compile(r"[<>][iu][248]|\|[iu]1|\|b1")
 
 Raw = bytes  # dataclasses below have a field `bytes`
 
@@ -360,26 +358,6 @@ def shape_in(value: Any, count: int) -> Optional[tuple[int, ...]]:
     if math.prod(sizes) != count or math.prod(size or 1 for size in sizes) > MOST_COUNT:
         raise Wrong("shape has another number of samples")
     return sizes
-
-
-def dtype_in(value: Any, options: Options) -> Optional[str]:
-    """Returns a dtype that can hold the samples of these options, or None. Raises Wrong."""
-    if value is None:
-        return None
-    if type(value) is not str or not DTYPE.fullmatch(value):
-        raise Wrong("dtype isn't that of whole numbers")
-    least, most = bounds_of(value)
-    if options.least < least or options.most > most:
-        raise Wrong("dtype is too small for the samples")
-    return value
-
-
-def bounds_of(dtype: str) -> tuple[int, int]:
-    """Returns the least and the greatest number of a dtype such as "<i2"."""
-    if dtype == BOOL:
-        return 0, 1
-    bits = 8 * int(dtype[2])
-    return (-(1 << bits - 1), (1 << bits - 1) - 1) if dtype[1] == "i" else (0, (1 << bits) - 1)
 
 
 def source_in(value: Any) -> Source:

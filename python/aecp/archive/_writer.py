@@ -12,6 +12,7 @@ from typing import Any, BinaryIO, Optional, Union
 
 from aecp.archive._arrays import auto_options, dtype_of, flat_array, shaped, stored_pieces
 from aecp.archive._at import offsets
+from aecp.archive._dtypes import dtype_in
 from aecp.archive._file import ArchiveFile, Progress, decoded
 from aecp.archive._form import (
     MOST_SIDE,
@@ -21,7 +22,6 @@ from aecp.archive._form import (
     Source,
     State,
     Sum,
-    dtype_in,
     ending,
     interval_of,
     most_stream,
