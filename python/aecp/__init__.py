@@ -5,10 +5,13 @@ r"""Lossless coding of integer samples in the format CCSDS 121.0-B-3, with the p
     >>> coded = aecp.encode(samples, options)           # a numpy array or bytes -> bytes
     >>> aecp.decode(coded, len(samples), options)       # -> numpy.ndarray
     >>> aecp.decode_range(coded, len(samples), 100, 50, options)
+    >>> offsets = aecp.offsets(coded, len(samples), options)      # the bit where each interval begins
+    >>> aecp.decode_at(coded, offsets[3], 50, options)            # the first 50 samples of interval 3
     >>> coded, count = aecp.edit(coded, len(samples), "insert 100 7 8 9\nremove 0 5\n", options)
 
 A coded stream contains neither its options nor its sample count. Keep both with the stream: no call is sure to notice wrong ones.
-`encode`, `decode_bytes` and `decode_range_bytes` need only the standard library; `decode` and `decode_range` return numpy arrays.
+`encode`, `offsets` and the calls with `bytes` in their names need only the standard library; `decode`, `decode_at` and `decode_range`
+return numpy arrays.
 Several threads may call at once, and their calls run in parallel. While a call runs, no thread may change the memory passed to it.
 """
 
@@ -18,9 +21,10 @@ import sys
 __version__ = "1.0.0"
 
 try:
-    from aecp.calls import decode, decode_bytes, decode_range, decode_range_bytes, encode
+    from aecp.calls import decode, decode_at, decode_bytes, decode_bytes_at, decode_range, decode_range_bytes, encode, offsets
     from aecp.faults import (
-        Fault, LimitPassed, NoMemory, NoRoom, NotOpen, OptionsRefused, RangeRefused, SampleRefused, ScriptRefused, StreamRefused,
+        BitRefused, Fault, LimitPassed, NoMemory, NoRoom, NotOpen, OptionsRefused, RangeRefused, SampleRefused, ScriptRefused,
+        StreamRefused,
     )  # fmt: skip
     from aecp.options import Options
     from aecp.streams import Decoder, Encoder, edit
@@ -32,7 +36,7 @@ except ImportError:
         raise
 
 __all__ = [
-    "Decoder", "Encoder", "Fault", "LimitPassed", "NoMemory", "NoRoom", "NotOpen", "Options", "OptionsRefused", "RangeRefused",
-    "SampleRefused", "ScriptRefused", "StreamRefused", "Workspace", "__version__", "decode", "decode_bytes", "decode_range",
-    "decode_range_bytes", "edit", "encode",
+    "BitRefused", "Decoder", "Encoder", "Fault", "LimitPassed", "NoMemory", "NoRoom", "NotOpen", "Options", "OptionsRefused",
+    "RangeRefused", "SampleRefused", "ScriptRefused", "StreamRefused", "Workspace", "__version__", "decode", "decode_at", "decode_bytes",
+    "decode_bytes_at", "decode_range", "decode_range_bytes", "edit", "encode", "offsets",
 ]  # fmt: skip
