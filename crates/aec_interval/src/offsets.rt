@@ -39,8 +39,8 @@ fn note_offsets(
 /// interval begins. From an offset on, `decode_at` decodes the samples of the interval and of those
 /// after it.
 ///
-/// Skips the intervals as `StreamReader::skip` does, without making their samples. Allocates at most
-/// 24 bytes for each interval.
+/// Skips the intervals as `StreamReader::skip` does, without making their samples. Allocates at
+/// most 24 bytes for each interval.
 ///
 /// Fails as `decode_all` does, at the same coded data set. `Memory` is returned only if the
 /// allocation for an offset fails.
