@@ -80,17 +80,20 @@ enum {
     AECP_STREAM_TOO_LONG = 16, /* place: the greatest length in bytes, 2^40; the command aec allows 2^35 */
     AECP_EVEN_BLOCK_SIZE = 17, /* `even_blocks` is on, and `block_size` isn't an even number from 8 to 64 */
     AECP_NO_ROOM = 18,         /* len: the bytes, or samples, that the result needs */
-    AECP_NOT_OPEN = 19         /* the handle holds no workspace; the coder or reader isn't open; the coder is finished */
+    AECP_NOT_OPEN = 19,        /* the handle holds no workspace; the coder or reader isn't open; the coder is finished */
+    AECP_BIT_OUT_OF_RANGE = 20 /* place: the number of bits of the stream. No interval begins at this bit: it is after the stream's end,
+                                * or, with `pad`, it isn't the first bit of a byte */
 };
 
 /* As a sample count: all samples that the stream decodes to, including the filler at its end. */
 #define AECP_ALL UINT64_MAX
 
 /* Every call with a `reply`, except aecp_text and aecp_edit, returns `reply->fault`; aecp_edit returns `reply->reply.fault`. If a call that
- * fills `out` returns 0, its result is the first `len` bytes of `out` (in aecp_read: samples), and what follows them is unchanged.
+ * fills `out` returns 0, its result is the first `len` bytes of `out` (in aecp_read: samples; in aecp_offsets: offsets), and what follows
+ * them is unchanged.
  * Otherwise all of `out` is unchanged, and the call may be repeated. NO_ROOM is returned only if there is no other fault. To learn the
  * length, pass an empty `out`, even NULL: the call still does its whole work. The length of a buffer is its number of bytes, but that of a
- * buffer of int64_t is its number of samples. Below, 'options' means the faults 1 to 4 and 17, which come before all others. */
+ * buffer of int64_t or uint64_t is its number of items. Below, 'options' means the faults 1 to 4 and 17, which come before all others. */
 
 /* Codes stored samples. Bytes at the end that don't fill a sample are dropped. Faults: options, SAMPLE_RANGE, TOO_MANY_SAMPLES, MEMORY,
  * NO_ROOM. Allocates at most the sum of 72 KiB, twice the code's length, and eight bytes for each sample of an interval (at least 32 KiB).
@@ -115,6 +118,23 @@ uint32_t aecp_decode(const aecp_options *options, uint64_t count, const uint8_t 
  * much of the stream as aecp_decode. Trap: `first` and `len` are samples, `out_len` is bytes. */
 uint32_t aecp_range(const aecp_options *options, uint64_t count, uint64_t first, uint64_t len, const uint8_t *coded,
                     size_t coded_len, void *out, size_t out_len, aecp_reply *reply);
+
+/* Finds where the intervals of the first `count` samples begin, or of all samples with AECP_ALL: writes to `out`, for each interval in
+ * order, its offset: the bit of the stream where it begins, counted from 0. `reply->len` is the number of intervals. An interval has
+ * `block_size` times `interval` samples; the last one may have fewer. Checks all these samples as aecp_decode does, without storing them.
+ * Faults: options, TRUNCATED, VALUE_TOO_LARGE, RUN_TOO_LONG, TOO_MANY_SAMPLES, STREAM_TOO_LONG, MEMORY, NO_ROOM. Allocates a copy of the
+ * stream, and at most 24 bytes for each interval. Trap: `out_len` and `reply->len` are numbers of offsets, not of bytes. */
+uint32_t aecp_offsets(const aecp_options *options, uint64_t count, const uint8_t *coded, size_t coded_len, uint64_t *out,
+                      size_t out_len, aecp_reply *reply);
+
+/* Decodes `count` samples from bit `bit` of `coded` on, or with AECP_ALL all samples from there on, as aecp_decode does if the stream begins
+ * at that bit. If the bit is the offset of interval i, these are the samples from the first sample of that interval on. `coded` may begin
+ * anywhere before the interval, at a whole byte: subtract the bits that are left out from the offset, and the call copies only the rest.
+ * Faults: options; then BIT_OUT_OF_RANGE; then those of aecp_decode. The bits of faults are counted from the first bit of `coded`.
+ * Allocates a copy of `coded`, and at most 24 bytes for each sample, counted in whole blocks. Traps: at a bit that is no offset of this
+ * stream the call returns wrong samples or a fault; `count` is a number of samples after the bit, not of the whole stream. */
+uint32_t aecp_decode_at(const aecp_options *options, uint64_t bit, uint64_t count, const uint8_t *coded, size_t coded_len, void *out,
+                        size_t out_len, aecp_reply *reply);
 
 /* How aecp_edit ended. `samples` is the number of samples of the edited stream, with AECP_NO_ROOM too, and 0 after every other fault. If an
  * edit of the script is refused, `line` is its line, counted from 1, and `reply` says why. Else `line` is 0, also for AECP_SCRIPT, where

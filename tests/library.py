@@ -11,6 +11,7 @@ FOLDER contains libaecp.a and libaecp.so. Tests in turn, by C programs (library_
   - eight threads at once; NULL for a buffer of no bytes; a run under valgrind, if it is installed, which must lose no memory;
   - samples and coded bytes in each kind of buffer that Python has (library_buffers.py);
   - streams edited by random scripts, against a model (library_edits.py);
+  - where intervals begin, and what is decoded from there on, against the plain reader (library_offsets.py);
   - the C of docs/LIBRARY.md and README.md, and a program that is C and C++ (library_types.py);
   - random lists with random settings, against the plain coder, the program at PATH_OF_AEC, and libaec's client; some as workspaces.
 Also tests which names the shared library defines and which libraries it needs.
@@ -26,83 +27,26 @@ import shutil
 import subprocess
 import sys
 import tempfile
-from typing import NamedTuple
 
 import plain_coder
 from damaged_cases import some_samples, some_settings
 from library_buffers import try_buffers
 from library_edits import try_scripts
 from library_memory import try_freed, try_refusals, try_stacks
+from library_offsets import try_offset_arguments, try_offsets
 from library_room import try_room
+from library_rows import ALL, EDITED, REFUSED, ROWS, SCRIPTED, Answer, Call
 from library_types import try_readme, try_types, try_version
 from program import TOP, Program, Tally, add_case_options, numbers_of, raised
 from refusing import build, has_compiler, print_skipped
-from settings import STANDARD_BLOCK_SIZES, Settings
+from settings import STANDARD_BLOCK_SIZES
 
 THEIRS = os.environ.get("LIBAEC", "/usr/bin/aec")
-ALL, NO_ROOM, MEMORY = 2**64 - 1, 18, 12
-CALLS = {"bound", "decode", "encode", "range", "text", "open", "load", "close", "read", "write", "size", "calls",
+NO_ROOM, MEMORY = 18, 12
+CALLS = {"bound", "decode", "decode_at", "encode", "offsets", "range", "text", "open", "load", "close", "read", "write", "size", "calls",
          "version", "append", "insert", "overwrite", "remove", "truncate", "edit",
          "coder_open", "coder_feed", "coder_finish", "coder_take", "coder_close",
          "reader_open", "reader_next", "reader_go_to", "reader_close"}
-EIGHT, CODED = bytes(range(8)), bytes.fromhex("20092492")
-FLAGS = {"signed": "s", "msb_first": "m", "three_byte": "3", "pad": "p", "restricted": "t", "even_blocks": "e"}
-
-
-class Call(NamedTuple):
-    """A call of the library: its name, the settings, the given bytes, count, first and length."""
-
-    name: str
-    settings: Settings
-    given: bytes
-    count: int = ALL
-    first: int = 0
-    length: int = 0
-
-    def words(self, room):
-        s = self.settings
-        flags = "".join(letter for name, letter in FLAGS.items() if getattr(s, name)) + ("" if s.preprocess else "N")
-        numbers = [s.bits, s.block_size, s.interval, flags or "-", self.count, self.first, self.length, room]
-        return [self.name, *map(str, numbers), self.given.hex()]
-
-
-class Answer(NamedTuple):
-    """The result of a call."""
-
-    number: int
-    place: int
-    length: int
-    answer: bytes
-    text: str
-
-
-USUAL = Settings()
-ROWS = [
-    (Call("encode", USUAL, EIGHT), CODED),
-    (Call("decode", USUAL, CODED, 8), EIGHT),
-    (Call("decode", USUAL, b"\x00\x78", 5), b"\x07" * 5),
-    (Call("decode", USUAL, b"\x00\x78"), b"\x07" * 8),
-    (Call("range", USUAL, CODED, ALL, 2, 3), b"\x02\x03\x04"),
-]
-# The samples of CODED with three numbers inserted, as library_calls.c does it.
-EDITED = (Call("edit", USUAL, CODED, 8, 2), bytes(plain_coder.stream([0, 1, 9, 9, 9, 2, 3, 4, 5, 6, 7], USUAL)))
-SCRIPTED = (EDITED[0]._replace(name="script"), EDITED[1])
-# Each call with its number, place and text. The eight samples take 3 + 8 + 2 + 6 * 3 = 31 bits.
-REFUSED = [
-    (Call("encode", USUAL._replace(bits=0), b""), 1, 0, "bits per sample must be 1 to 32"),
-    (Call("encode", USUAL._replace(bits=33), b""), 1, 0, "bits per sample must be 1 to 32"),
-    (Call("encode", USUAL._replace(block_size=12), b""), 2, 0, "block size must be 8, 16, 32 or 64"),
-    (Call("decode", USUAL._replace(interval=0), b""), 3, 0, "reference sample interval must be 1 to 4096"),
-    (Call("range", USUAL._replace(interval=4097), b""), 3, 0, "reference sample interval must be 1 to 4096"),
-    (Call("encode", USUAL._replace(bits=5, restricted=True), b""), 4, 0, "restricted codes need 4 bits per sample or fewer"),
-    (Call("encode", USUAL._replace(bits=4), b"\x0f\x10"), 5, 1, "sample 1 is out of range"),
-    (Call("decode", USUAL, CODED[:3], 8), 6, 0, "coded data is cut short at bit 0"),
-    (Call("decode", USUAL, CODED, 9), 6, 31, "coded data is cut short at bit 31"),
-    (Call("decode", USUAL, CODED, 2**32 + 1), 9, 2**32, f"more than {2**32} samples"),
-    (Call("range", USUAL, CODED, 8, 6, 3), 10, 8, "position outside the 8 samples"),
-    (Call("range", USUAL, CODED, 8, 2**64 - 1, 1), 10, 8, "position outside the 8 samples"),
-    (Call("encode", USUAL._replace(block_size=9, even_blocks=True), b""), 17, 0, "block size must be even, 8 to 64"),
-]
 
 
 class InC:
@@ -130,6 +74,10 @@ def in_python(aecp, call):
             return bytes(aecp.encode(call.given, options))
         if call.name == "decode":
             return bytes(aecp.decode_bytes(call.given, count, options))
+        if call.name == "offsets":
+            return aecp.offsets(call.given, count, options).tobytes()
+        if call.name == "decode_at":
+            return bytes(aecp.decode_bytes_at(call.given, call.first, count, options))
         return bytes(aecp.decode_range_bytes(call.given, count, call.first, call.length, options))
     except aecp.Fault as fault:
         return fault.number, fault.place, str(fault)
@@ -138,7 +86,7 @@ def in_python(aecp, call):
 def try_rows(in_c, aecp, tally):
     for call, wanted in ROWS:
         what = " ".join(call.words(100))
-        tally.check(f"C: {what}", in_c.ask(call, 100), Answer(0, 0, len(wanted), wanted, "no fault"))
+        tally.check(f"C: {what}", in_c.ask(call, 100), Answer(0, 0, call.length_of(wanted), wanted, "no fault"))
         tally.check(f"Python: {what}", in_python(aecp, call), wanted)
     for call, number, place, text in REFUSED:
         what = " ".join(call.words(100))
@@ -150,9 +98,10 @@ def try_rooms(in_c, tally):
     """Tests buffers that are too short, exact and longer. The C program checks that the bytes around a result stay."""
     for call, wanted in ROWS:
         for room in range(len(wanted) + 4):
-            text = f"the buffer is shorter than the answer, whose length is {len(wanted)}"
-            short = Answer(NO_ROOM, 0, len(wanted), b"", text)
-            right = Answer(0, 0, len(wanted), wanted, "no fault") if room >= len(wanted) else short
+            length = call.length_of(wanted)
+            text = f"the buffer is shorter than the answer, whose length is {length}"
+            short = Answer(NO_ROOM, 0, length, b"", text)
+            right = Answer(0, 0, length, wanted, "no fault") if room >= len(wanted) else short
             tally.check(f"C: {' '.join(call.words(room))}", in_c.ask(call, room), right)
 
 
@@ -164,6 +113,7 @@ def try_nulls(in_c, tally):
     """Tests NULL for buffers of no bytes: a call returns its result if that is empty, else the length that it needs."""
     none = ["encode 0 0", "decode 0 0", "decode 0 0", "range 0 0", "decode 6 0"]
     some = ["encode 18 5", "decode 18 8", "range 18 3", f"text {len('the buffer is shorter than the answer, whose length is 3')}"]
+    some += ["offsets 0 0", "offsets 18 1", "decode_at 0 0", "decode_at 18 8"]
     some += ["edit 0 0", "edit 18 5"]
     tally.check("nulls", in_c.program.run("nulls"), (0, "\n".join([*none, *some, ""])))
 
@@ -345,7 +295,7 @@ def try_in_c(asked, folder, aecp, tally):
     try_readme(include, os.path.join(asked.library, "libaecp.a"), folder, tally)
     try_rows(in_c, aecp, tally)
     try_rooms(in_c, tally)
-    rows = [(call, Answer(0, 0, len(wanted), wanted, "no fault")) for call, wanted in [*ROWS, EDITED, SCRIPTED]]
+    rows = [(call, Answer(0, 0, call.length_of(wanted), wanted, "no fault")) for call, wanted in [*ROWS, EDITED, SCRIPTED]]
     library = build(folder)
     try_refusals(in_c, library, rows, Answer(MEMORY, 0, 0, b"", "out of memory"), tally)
     try_freed(Program(handles, folder), library, tally)
@@ -364,6 +314,7 @@ def main():
         try_names(asked.library, tally)
         try_buffers(aecp, tally)
         try_scripts(aecp, asked.seed, tally)
+        try_offset_arguments(aecp, tally)
         if has_compiler():
             try_in_c(asked, folder, aecp, tally)
         theirs = Program(THEIRS, folder) if os.path.exists(THEIRS) else None
@@ -371,6 +322,7 @@ def main():
             try_case(aecp, Program(asked.program, folder), theirs, asked.seed, number, tally)
             if number % 8 == 0:
                 try_workspace(aecp, asked.seed, number, tally)
+                try_offsets(aecp, asked.seed, number, tally)
     if has_compiler():
         tally.print()
     else:

@@ -19,7 +19,12 @@ typedef struct {
     uint8_t *given;
 } asked;
 
-static uint8_t buffer[EDGE + MOST + EDGE];
+static _Alignas(uint64_t) uint8_t buffer[EDGE + MOST + EDGE];
+
+/* How many bytes an item of the call's result has. */
+static size_t unit(const asked *it) {
+    return strcmp(it->call, "offsets") ? 1 : sizeof(uint64_t);
+}
 
 /* Loads a workspace, inserts three numbers before place FIRST, and writes the stream. A refused edit must not change the size. */
 static uint32_t edited(const asked *it, uint8_t *out, aecp_reply *reply) {
@@ -50,6 +55,10 @@ static uint32_t made(const asked *it, uint8_t *out, aecp_reply *reply) {
         return aecp_encode(&it->options, it->given, it->given_len, out, it->room, reply);
     if (!strcmp(it->call, "decode"))
         return aecp_decode(&it->options, it->count, it->given, it->given_len, out, it->room, reply);
+    if (!strcmp(it->call, "decode_at"))
+        return aecp_decode_at(&it->options, it->first, it->count, it->given, it->given_len, out, it->room, reply);
+    if (!strcmp(it->call, "offsets"))
+        return aecp_offsets(&it->options, it->count, it->given, it->given_len, (uint64_t *)(void *)out, it->room / unit(it), reply);
     if (!strcmp(it->call, "edit")) return edited(it, out, reply);
     if (!strcmp(it->call, "script")) return scripted(it, out, reply);
     return aecp_range(&it->options, it->count, it->first, it->len, it->given, it->given_len, out, it->room, reply);
@@ -70,7 +79,7 @@ static int try_call(const asked *it) {
     if (write(2, "refuse\n", 7) != 7) return 2;
     uint32_t number = made(it, out, &reply);
     if (write(2, "grant\n", 6) != 6) return 2;
-    size_t filled = number == 0 ? reply.len : 0;
+    size_t filled = number == 0 ? reply.len * unit(it) : 0;
     if (filled > it->room || number != reply.fault) return 3;
     if (!is_untouched(buffer, out) || !is_untouched(out + filled, buffer + sizeof buffer)) return 4;
     size_t length = aecp_text(&reply, text, sizeof text);
@@ -159,6 +168,10 @@ static int nulls(void) {
     say("decode", aecp_decode(&options, 8, coded, made.len, 0, 0, &reply), &reply);
     say("range", aecp_range(&options, 8, 2, 3, coded, made.len, 0, 0, &reply), &reply);
     printf("text %zu\n", aecp_text(&reply, 0, 0));
+    say("offsets", aecp_offsets(&options, 0, 0, 0, 0, 0, &reply), &reply);
+    say("offsets", aecp_offsets(&options, 8, coded, made.len, 0, 0, &reply), &reply);
+    say("decode_at", aecp_decode_at(&options, 0, 0, 0, 0, 0, 0, &reply), &reply);
+    say("decode_at", aecp_decode_at(&options, 0, 8, coded, made.len, 0, 0, &reply), &reply);
     aecp_edit_reply edited;
     uint32_t number = aecp_edit(&options, AECP_ALL, 0, 0, 0, 0, 0, 0, &edited);
     say("edit", number, &edited.reply);

@@ -17,6 +17,7 @@ static uint64_t total, count;
 static size_t samples_len, coded_len, room;
 static uint8_t *samples, *coded, *back;
 static int64_t *numbers;
+static uint64_t *begins;
 static aecp_handle handle;
 static aecp_coder coder;
 static aecp_reader reader;
@@ -44,8 +45,9 @@ static int is_made(const char *kind) {
     samples = calloc(samples_len + 1, 1);
     coded = malloc(room);
     back = malloc(room);
+    begins = calloc(total + 1, sizeof *begins);
     numbers = is("read") ? calloc(count, sizeof *numbers) : 0;
-    if (!samples || !coded || !back || (is("read") && !numbers)) return 0;
+    if (!samples || !coded || !back || !begins || (is("read") && !numbers)) return 0;
     if (!strcmp(kind, "noise")) fill(width);
     if (aecp_encode(&options, samples, samples_len, coded, room, &reply)) return 0;
     coded_len = reply.len;
@@ -101,6 +103,10 @@ static uint32_t made(aecp_reply *reply) {
     if (is("encode")) return aecp_encode(&options, samples, samples_len, back, room, reply);
     if (is("decode")) return aecp_decode(&options, count, coded, coded_len, back, room, reply);
     if (is("range")) return ranged(reply);
+    if (is("offsets"))
+        return aecp_offsets(&options, count, coded, coded_len, begins, total, reply);
+    if (is("decode_at"))
+        return aecp_decode_at(&options, 0, count, coded, coded_len, back, room, reply);
     if (is("edit")) return edited(reply);
     if (is("feed")) return aecp_coder_feed(&coder, samples, samples_len, reply);
     if (is("take")) return aecp_coder_take(&coder, back, room, reply);

@@ -72,6 +72,16 @@ def of_range(call, lengths):
     return interval(call, 16 * KIB) + copied(call, lengths)
 
 
+def of_offsets(call, lengths):
+    return lengths.code + 24 * lengths.result
+
+
+def of_decode_at(call, lengths):
+    size = call.settings.block_size
+    blocks = -(-lengths.result // (call.settings.storage() * size))
+    return lengths.code + 24 * blocks * size
+
+
 def of_edit(call, lengths):
     """The script of library_room.c has 13 bytes and three values."""
     intervals = -(-(call.samples + 3) // call.settings.interval_len())
@@ -107,6 +117,8 @@ SAID = {
     "feed": of_encode,
     "decode": of_decode,
     "range": of_range,
+    "offsets": of_offsets,
+    "decode_at": of_decode_at,
     "reader": of_reader,
     "take": of_take,
     "edit": of_edit,
@@ -126,6 +138,11 @@ CALLS = [
     *(Call("decode", "noise", LONG, 8 * MIB, few) for few in (0, 1, 10, 1000)),
     *(Call("range", "noise", LONG, 8 * MIB, count) for count in (0, 10, 100_000, 8 * MIB)),
     Call("range", "zeros", LONGEST, 4 * MIB, 4 * MIB),
+    *(Call("offsets", kind, settings, 2 * MIB) for settings in (SINGLE, LONGEST) for kind in ("zeros", "noise")),
+    *(Call("offsets", "noise", SINGLE, MIB, count) for count in (0, 1, 1000, MIB)),
+    *(Call("decode_at", kind, LONG, MIB) for kind in ("zeros", "noise")),
+    *(Call("decode_at", "noise", LONG, MIB, count) for count in (0, 1, 1000, MIB)),
+    *(Call("decode_at", "zeros", LONGEST, MIB, count) for count in (1, 5000)),
     *(Call(name, "noise", WIDE, MIB, MIB) for name in ("encode", "feed", "range")),
     *(Call(name, "noise", LONG, 8 * MIB) for name in ("reader", "next")),
     *(Call("decode", "zeros", settings, 4 * MIB) for settings in (SINGLE, LONG, LONGEST)),

@@ -13,6 +13,7 @@ enum { SAMPLES = 3000, FRONT = 1000, PART = 700, ROOM = 8 * SAMPLES, GUARD = 1 <
 static const char *call;
 static uint8_t samples[4 * SAMPLES], coded[ROOM], back[ROOM];
 static int64_t values[SAMPLES], numbers[SAMPLES];
+static uint64_t begins[SAMPLES];
 static aecp_options options;
 static aecp_handle handle;
 static aecp_coder coder;
@@ -54,6 +55,8 @@ static int ends(void) {
     if (is("version")) return aecp_version() == AECP_VERSION;
     if (is("encode")) return !aecp_encode(&options, samples, samples_len, back, ROOM, &reply);
     if (is("decode")) return !aecp_decode(&options, SAMPLES, coded, coded_len, back, ROOM, &reply);
+    if (is("offsets")) return !aecp_offsets(&options, SAMPLES, coded, coded_len, begins, SAMPLES, &reply) && reply.len;
+    if (is("decode_at")) return !aecp_decode_at(&options, 0, SAMPLES, coded, coded_len, back, ROOM, &reply);
     if (is("range")) return !aecp_range(&options, SAMPLES, FRONT, PART, coded, coded_len, back, ROOM, &reply);
     if (is("edit")) return is_edited();
     if (is("bound")) return aecp_bound(&options, SAMPLES) >= coded_len;
@@ -81,7 +84,7 @@ static int ends(void) {
     if (is("text")) {
         char text[80];
         int longest = 0;
-        for (reply = (aecp_reply){0, UINT64_MAX, UINT64_MAX}; reply.fault < 21; reply.fault++)
+        for (reply = (aecp_reply){0, UINT64_MAX, UINT64_MAX}; reply.fault < 22; reply.fault++)
             longest |= aecp_text(&reply, text, sizeof text) > 30;
         return longest;
     }

@@ -4,12 +4,15 @@ from __future__ import annotations
 
 import ctypes
 from array import array
-from typing import Any, Optional, Union, overload
+from typing import TYPE_CHECKING, Any, Optional, Union, overload
 
 from aecp.buffers import BYTES, Array, Readable, Source, Target, Writable, is_big_endian, item_type, numpy_if_there, numpy_type, room_for
 from aecp.faults import NO_ROOM, fault_of
 from aecp.library import LIBRARY, Reply, c_options, text_of
 from aecp.options import Options, whole
+
+if TYPE_CHECKING:
+    Offsets = array[int]
 
 ALL = 2**64 - 1
 MOST_A_BYTE = 64 * 64 * 8  # at least as many samples as a coded byte can mean
@@ -144,6 +147,73 @@ def decode_range_bytes(
     if out is not None:
         return put("aecp_range", before, source, out)
     return filled("aecp_range", before, source, most_stored(source, length, options))
+
+
+def decode_at(coded: Readable, bit: int, count: Optional[int], options: Options, out: Optional[Array] = None) -> Array:
+    """Decodes samples from bit `bit` of a stream on. Returns an array, and takes `out`, as decode does.
+
+    coded, bit, count: as for decode_bytes_at.
+
+    Raises what decode raises, and BitRefused.
+    """
+    return array_of(decode_bytes_at(coded, bit, count, options, of_dtype(out, options)), options)
+
+
+@overload
+def decode_bytes_at(coded: Readable, bit: int, count: Optional[int], options: Options, out: None = None) -> bytearray: ...
+
+
+@overload
+def decode_bytes_at(coded: Readable, bit: int, count: Optional[int], options: Options, out: Writable) -> memoryview: ...
+
+
+def decode_bytes_at(
+    coded: Readable, bit: int, count: Optional[int], options: Options, out: Optional[Writable] = None
+) -> Union[bytearray, memoryview]:
+    """Decodes samples from bit `bit` of a stream on. Returns stored samples, and takes `out`, as decode_bytes does.
+
+    coded: the stream, or a part of it that begins at a whole byte. Each call copies it, so pass only the bytes that are needed.
+    bit: the bit of `coded` where an interval begins, counted from 0: one of the offsets that `offsets` returns, minus the bits before
+    `coded`. At another bit the call returns wrong samples, or raises StreamRefused.
+    count: how many samples, from the first one of that interval on. None means all that follow, as in decode_bytes.
+
+    Raises what decode_bytes raises; BitRefused if the bit is after the end of `coded`, or, with options.pad, isn't a multiple of 8;
+    ValueError if `bit` isn't 0 to 2^64 - 1. The bits of a StreamRefused are counted from the first bit of `coded`.
+    """
+    source, before = Source(coded, "coded"), [c_options(options), place(bit, "bit"), number_of(count)]
+    if out is not None:
+        return put("aecp_decode_at", before, source, out)
+    return filled("aecp_decode_at", before, source, most_stored(source, count, options))
+
+
+def offsets(coded: Readable, count: Optional[int], options: Options) -> Offsets:
+    """Finds where the intervals of a stream begin. Returns an array of the module array, with the type code "Q": for each interval of the
+    first `count` samples, the bit of the stream where it begins, counted from 0. decode_at decodes from such a bit on. An interval has
+    options.block_size times options.interval samples; the last one may have fewer.
+
+    coded, count: as for decode_bytes.
+
+    Raises what decode_bytes raises, except NoRoom: the call checks all these samples.
+    """
+    source, given, number = Source(coded, "coded"), c_options(options), number_of(count)
+    reply, room = Reply(), first_intervals(source, count, options)
+    while True:
+        out = array("Q", [0]) * room
+        fault = LIBRARY.aecp_offsets(given, number, source.at, source.size, out.buffer_info()[0], len(out), reply)
+        if fault == 0:
+            del out[reply.len :]
+            return out
+        if fault != NO_ROOM:
+            raise fault_of(fault, reply.place, text_of(reply))
+        room = reply.len
+
+
+def first_intervals(source: Source, count: Optional[int], options: Options) -> int:
+    """Returns the number of intervals of so many samples, but no more than the coded bytes can have. Without a count it returns a guess:
+    a byte for each block."""
+    if count is None:
+        return source.size // max(options.interval, 1) + 1
+    return min(-(-count // max(options.block_size * options.interval, 1)), 8 * source.size + 1)
 
 
 def place(number: int, name: str) -> int:

@@ -4,6 +4,7 @@ from __future__ import annotations
 
 BITS_PER_SAMPLE, BLOCK_SIZE, INTERVAL, RESTRICTED_WIDTH, SAMPLE_RANGE, TRUNCATED, VALUE_TOO_LARGE, RUN_TOO_LONG = range(1, 9)
 TOO_MANY_SAMPLES, OUT_OF_RANGE, MEMORY, SCRIPT, STREAM_TOO_LONG, EVEN_BLOCK_SIZE, NO_ROOM, NOT_OPEN = 9, 10, 12, 15, 16, 17, 18, 19
+BIT_OUT_OF_RANGE = 20
 
 
 class Fault(ValueError):
@@ -75,11 +76,20 @@ class NotOpen(Fault):
     """The workspace is closed, or the encoder is finished."""
 
 
+class BitRefused(Fault, IndexError):
+    """No interval begins at a bit: it is after the end of the stream, which has `bits` bits; or, with the option `pad`, it isn't the
+    first bit of a byte."""
+
+    @property
+    def bits(self) -> int:
+        return self.place
+
+
 KINDS: dict[int, type[Fault]] = {
     BITS_PER_SAMPLE: OptionsRefused, BLOCK_SIZE: OptionsRefused, INTERVAL: OptionsRefused, RESTRICTED_WIDTH: OptionsRefused,
     EVEN_BLOCK_SIZE: OptionsRefused, SAMPLE_RANGE: SampleRefused, TRUNCATED: StreamRefused, VALUE_TOO_LARGE: StreamRefused,
     RUN_TOO_LONG: StreamRefused, OUT_OF_RANGE: RangeRefused, TOO_MANY_SAMPLES: LimitPassed, STREAM_TOO_LONG: LimitPassed,
-    MEMORY: NoMemory, SCRIPT: ScriptRefused, NO_ROOM: NoRoom, NOT_OPEN: NotOpen,
+    MEMORY: NoMemory, SCRIPT: ScriptRefused, NO_ROOM: NoRoom, NOT_OPEN: NotOpen, BIT_OUT_OF_RANGE: BitRefused,
 }  # fmt: skip
 
 

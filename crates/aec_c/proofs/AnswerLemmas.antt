@@ -13,7 +13,7 @@ use Rattle.aec_engine.proofs.BufferLemmas.{fills_map}
 use Rattle.aec_c.specs.Calls.{most, IsCoding, coded, not_coded, lacks_memory, IsDecoding, decoded, not_decoded, no_memory, IsRanging, ranged, no_room}
 
 -- a statement about settings and limits that are equal to s and the greatest limits
-at_most : (P : Settings → Caps → Type 0) (s t : Settings) (caps : Caps) → t ≡ s → caps ≡ most → P t caps → P s most
+pub at_most : (P : Settings → Caps → Type 0) (s t : Settings) (caps : Caps) → t ≡ s → caps ≡ most → P t caps → P s most
 at_most P s t caps same greatest holds = subst (λ t. P t most) same (subst (λ caps. P t caps) greatest holds)
 
 -- ---- coding

@@ -1,5 +1,6 @@
 pub mod TextLemmas
 pub mod AnswerLemmas
+pub mod OffsetLemmas
 pub mod ReplyLemmas
 pub mod BoundLemmas
 pub mod CodeLengthLemmas

@@ -1,5 +1,6 @@
 pub mod Calls
 pub mod Replies
+pub mod OffsetCalls
 pub mod Bounds
 pub mod Texts
 pub mod Handles

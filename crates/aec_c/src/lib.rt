@@ -15,6 +15,8 @@ mod handle_loads;
 mod handle_reads;
 mod held_reader;
 pub mod laws;
+mod offset_calls;
+mod offsets;
 mod open_reader;
 mod options;
 mod reader_calls;

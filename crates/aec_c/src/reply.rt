@@ -23,6 +23,9 @@ pub(crate) const NO_ROOM: u32 = 18;
 /// The number of the reply to a call on a handle, coder or reader that isn't open.
 pub(crate) const NOT_OPEN: u32 = 19;
 
+/// The number of the reply to a call that is to begin at a bit where it can't.
+pub(crate) const BIT_OUT_OF_RANGE: u32 = 20;
+
 /// Returns the reply to a call that succeeded.
 pub(crate) fn answered(len: u64) -> Reply
     ensures { result ≡ done len }

@@ -4,7 +4,7 @@ ghost use Rattle.std.specs.Prelude.{◌≡◌, IfSome, length};
 ghost use Rattle.aec_c.specs.Replies.{number_of};
 ghost use Rattle.aec_c.specs.Texts.{PutsText, text_in};
 
-use crate::reply::{NO_ROOM, NOT_OPEN, Reply};
+use crate::reply::{BIT_OUT_OF_RANGE, NO_ROOM, NOT_OPEN, Reply};
 use aec_params::Fault;
 use std::alloc::{AllocError, Global};
 
@@ -48,6 +48,10 @@ pub(crate) fn text_of(alloc: Global, reply: &Reply) -> Result<String, AllocError
         }
         None if reply.fault == NOT_OPEN => format!(in alloc;
             "the handle, coder or reader isn't open"
+        ),
+        None if reply.fault == BIT_OUT_OF_RANGE => format!(in alloc;
+            "the bit is out of range: the stream has {} bits; padding needs a multiple of 8",
+            reply.place
         ),
         None => format!(in alloc; "no fault has the number {}", reply.fault),
     }

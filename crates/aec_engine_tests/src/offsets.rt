@@ -21,9 +21,7 @@ fn decoded(
     if bit > 48 || params.pad() && bit % 8 != 0 {
         return None;
     }
-    Some(decode_at_into(
-        alloc, params, limits, bit, count, ZEROS, out,
-    ))
+    Some(decode_at_into(alloc, params, limits, bit, count, ZEROS, out))
 }
 
 // A row: a bit; a count; how many bytes the samples take; what a buffer of three nines contains

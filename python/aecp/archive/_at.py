@@ -3,11 +3,11 @@
 from __future__ import annotations
 
 from collections.abc import Iterator
-from typing import Any, Callable, Optional
+from typing import Any, Callable
 
-from aecp import calls
 from aecp.archive._form import interval_of
-from aecp.calls import decode_bytes, encode
+from aecp.calls import decode_bytes, decode_bytes_at
+from aecp.calls import offsets as all_offsets
 from aecp.faults import StreamRefused
 from aecp.library import LIBRARY, c_options
 from aecp.options import Options
@@ -16,10 +16,6 @@ from aecp.streams import Decoder
 Read = Callable[[int, int], Any]  # reads bytes of a stream: at which place, and how many
 WINDOW = 1 << 20  # samples whose code is searched for offsets at once
 MOST_AT_ONCE = 1 << 18  # samples; the library's decode_at takes 24 bytes for each
-
-# Calls that are newer than some libraries.
-DECODE_AT: Optional[Callable[..., Any]] = getattr(calls, "decode_bytes_at", None)
-OFFSETS: Optional[Callable[..., Any]] = getattr(calls, "offsets", None)
 
 
 def shifted(coded: Any, bit: int) -> Any:
@@ -33,9 +29,8 @@ def shifted(coded: Any, bit: int) -> Any:
 def decode_at(coded: Any, bit: int, count: int, options: Options) -> bytearray:
     """Returns `count` stored samples, decoded from a bit of the first byte on, where an interval
     begins. Raises what aecp.decode_bytes raises."""
-    if DECODE_AT is not None and count <= MOST_AT_ONCE:
-        decoded: bytearray = DECODE_AT(coded, bit, count, options)
-        return decoded
+    if count <= MOST_AT_ONCE:
+        return decode_bytes_at(coded, bit, count, options)
     return decode_bytes(shifted(coded, bit), count, options)
 
 
@@ -73,32 +68,8 @@ def offsets_from(read: Read, size: int, bit: int, samples: int, options: Options
     while True:
         coded = shifted(read(at, min(room, size - at)), bit % 8)
         try:
-            return offsets_in(coded, samples, options)
+            return all_offsets(coded, samples, options)
         except StreamRefused:
             if room >= size - at:
                 raise
         room *= 2  # another coder's code can be longer
-
-
-def offsets_in(coded: Any, count: int, options: Options) -> Any:
-    """Returns the bits of the intervals of the first `count` samples of a stream."""
-    if OFFSETS is not None:
-        return OFFSETS(coded, count, options)
-    found: list[int] = []
-    bit, decoder = 0, Decoder(coded, count, options)
-    while True:
-        stored = decoder.next_bytes()
-        if not stored:
-            return found
-        found.append(bit)
-        bit += bits_of(stored, options)
-
-
-def bits_of(stored: Any, options: Options) -> int:
-    """Returns the length in bits of the code of an interval."""
-    coded = encode(stored, options)
-    try:
-        decode_bytes(coded, interval_of(options) + 1, options)
-    except StreamRefused as fault:
-        return fault.bit  # the next interval would begin there
-    return 8 * len(coded)

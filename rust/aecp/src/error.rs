@@ -27,6 +27,12 @@ pub enum Error {
         /// The number of samples.
         count: u64,
     },
+    /// No interval begins at a bit: it is after the end of the stream, or the intervals are padded
+    /// and it isn't the first bit of a byte.
+    Bit {
+        /// The number of bits of the stream.
+        bits: u64,
+    },
     /// There are too many samples, or too many coded bytes.
     Limit {
         /// 9: samples. 16: coded bytes.
@@ -57,6 +63,7 @@ impl Error {
             | Error::Limit { number, .. } => number,
             Error::Sample { .. } => raw::SAMPLE_RANGE,
             Error::Range { .. } => raw::OUT_OF_RANGE,
+            Error::Bit { .. } => raw::BIT_OUT_OF_RANGE,
             Error::Spent => raw::SPENT,
             Error::Memory => raw::MEMORY,
             Error::Script { .. } => raw::SCRIPT,
@@ -70,6 +77,7 @@ impl Error {
             Error::Sample { index } => index,
             Error::Stream { bit, .. } => bit,
             Error::Range { count } => count,
+            Error::Bit { bits } => bits,
             Error::Limit { limit, .. } => limit,
             Error::Script { line } => line,
             _ => 0,
@@ -91,6 +99,7 @@ impl Error {
             }
             raw::TOO_MANY_SAMPLES | raw::STREAM_TOO_LONG => Error::Limit { number, limit: place },
             raw::OUT_OF_RANGE => Error::Range { count: place },
+            raw::BIT_OUT_OF_RANGE => Error::Bit { bits: place },
             raw::SPENT => Error::Spent,
             raw::MEMORY => Error::Memory,
             raw::SCRIPT => Error::Script { line: place },
@@ -140,6 +149,7 @@ mod tests {
             (15, Error::Script { line: 77 }, 77),
             (16, Error::Limit { number: 16, limit: 77 }, 77),
             (17, Error::Options { number: 17 }, 0),
+            (20, Error::Bit { bits: 77 }, 77),
         ];
         for (fault, error, place) in cases {
             assert_eq!(of_fault(fault), error);
@@ -148,8 +158,8 @@ mod tests {
     }
 
     #[test]
-    #[should_panic(expected = "returned the fault 20")]
+    #[should_panic(expected = "returned the fault 21")]
     fn an_unknown_fault_panics() {
-        of_fault(20);
+        of_fault(21);
     }
 }

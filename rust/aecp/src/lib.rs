@@ -16,7 +16,8 @@
 //! # Ok::<(), aecp::Error>(())
 //! ```
 //!
-//! [`Encoder`] and [`Decoder`] code and decode in pieces, [`Workspace`] and [`edit`] edit a stream.
+//! [`offsets`] finds where intervals begin, and [`decode_at`] decodes from there on. [`Encoder`] and
+//! [`Decoder`] code and decode in pieces, [`Workspace`] and [`edit`] edit a stream.
 //!
 //! **A stream contains neither its options nor its sample count.** Keep both with the stream: no
 //! call is sure to notice wrong ones.
@@ -113,6 +114,77 @@ pub fn decode_range<T: Sample>(
     let count = number_of(count);
     let room = most_stored(coded, len, options);
     filled(room, |out| raw::range(&options.0, count, first, len, coded, out))
+}
+
+/// Finds where the intervals of the first `count` samples begin. Returns, for each interval in
+/// order, the bit of the stream where it begins, counted from 0. With `None` these are the intervals
+/// of all samples.
+///
+/// An interval has [`Options::block_size`] times [`Options::interval`] samples; the last one may
+/// have fewer. [`decode_at`] decodes from such a bit on. All these samples are checked.
+///
+/// # Errors
+/// Those of [`decode`], except [`Error::ElementType`].
+///
+/// ```
+/// use aecp::{decode_at, encode, offsets, Options};
+///
+/// let samples: Vec<u16> = (0..5000).map(|i| i / 3).collect();
+/// let options = Options::new(16);
+/// let coded = encode(&samples, &options)?;
+/// let begins = offsets(&coded, Some(5000), &options)?;
+/// assert_eq!(begins.len(), 3);
+/// let part: Vec<u16> = decode_at(&coded, begins[1], Some(100), &options)?;
+/// assert_eq!(part, samples[2048..2148]);
+/// # Ok::<(), aecp::Error>(())
+/// ```
+pub fn offsets(coded: &[u8], count: Option<u64>, options: &Options) -> Result<Vec<u64>, Error> {
+    let mut room = first_intervals(coded, count, options);
+    loop {
+        let mut out: Vec<u64> = zeros(room)?;
+        let reply = raw::offsets(&options.0, number_of(count), coded, &mut out);
+        match reply.fault {
+            raw::OK => {
+                out.truncate(reply.len as usize);
+                return Ok(out);
+            }
+            raw::NO_ROOM if reply.len > room => room = reply.len,
+            _ => return Err(Error::of(reply)),
+        }
+    }
+}
+
+/// Decodes `count` samples from bit `bit` of a stream on, or with `None` all samples from there on.
+/// At the bit where an interval begins, as [`offsets`] returns it, these are the samples from the
+/// first one of that interval on. At another bit the call returns wrong samples or an error.
+///
+/// `coded` may be a part of a stream that begins at a whole byte: subtract the bits before it from
+/// the bit. Each call copies `coded`, so pass only the bytes that are needed.
+///
+/// # Errors
+/// Those of [`decode`], with bits counted from the first bit of `coded`, and [`Error::Bit`].
+pub fn decode_at<T: Sample>(
+    coded: &[u8],
+    bit: u64,
+    count: Option<u64>,
+    options: &Options,
+) -> Result<Vec<T>, Error> {
+    sample::check_type::<T>(options)?;
+    let count = number_of(count);
+    let room = most_stored(coded, count, options);
+    filled(room, |out| raw::decode_at(&options.0, bit, count, coded, out))
+}
+
+/// Returns a guess of the number of intervals of so many samples. A wrong count doesn't make it
+/// large.
+fn first_intervals(coded: &[u8], count: Option<u64>, options: &Options) -> u64 {
+    let (size, blocks) = (u64::from(options.0.block_size), u64::from(options.0.interval).max(1));
+    let bytes = coded.len() as u64;
+    let intervals = match count {
+        Some(count) => count / size.saturating_mul(blocks).max(1) + 1,
+        None => bytes / blocks + 1,
+    };
+    intervals.min(bytes.saturating_mul(8)).min(FIRST_ROOM / size_of::<u64>() as u64)
 }
 
 /// Returns a count for C. `u64::MAX`, which means no count there, becomes the number below it.

@@ -27,6 +27,7 @@ pub const SCRIPT: u32 = 15;
 pub const STREAM_TOO_LONG: u32 = 16;
 pub const EVEN_BLOCK_SIZE: u32 = 17;
 pub const NO_ROOM: u32 = 18;
+pub const BIT_OUT_OF_RANGE: u32 = 20;
 
 /// A sample count that stands for all samples of a stream.
 pub const ALL: u64 = u64::MAX;
@@ -103,6 +104,25 @@ extern "C" {
         count: u64,
         first: u64,
         len: u64,
+        coded: *const u8,
+        coded_len: usize,
+        out: *mut c_void,
+        out_len: usize,
+        reply: *mut Reply,
+    ) -> u32;
+    fn aecp_offsets(
+        options: *const Options,
+        count: u64,
+        coded: *const u8,
+        coded_len: usize,
+        out: *mut u64,
+        out_len: usize,
+        reply: *mut Reply,
+    ) -> u32;
+    fn aecp_decode_at(
+        options: *const Options,
+        bit: u64,
+        count: u64,
         coded: *const u8,
         coded_len: usize,
         out: *mut c_void,
@@ -267,6 +287,26 @@ pub fn range(
     // SAFETY: as in `encode`.
     replied(|reply| unsafe {
         aecp_range(options, count, first, len, coded.as_ptr(), coded.len(), at, room, reply)
+    })
+}
+
+/// Finds the bits where the intervals of the first `count` samples begin.
+pub fn offsets(options: &Options, count: u64, coded: &[u8], out: &mut [u64]) -> Reply {
+    assert_version();
+    let (at, room) = (out.as_mut_ptr(), out.len());
+    // SAFETY: as in `encode`.
+    replied(|reply| unsafe {
+        aecp_offsets(options, count, coded.as_ptr(), coded.len(), at, room, reply)
+    })
+}
+
+/// Decodes `count` samples from bit `bit` on into `out`, as they are stored.
+pub fn decode_at(options: &Options, bit: u64, count: u64, coded: &[u8], out: &mut [u8]) -> Reply {
+    assert_version();
+    let (at, room) = (out.as_mut_ptr().cast(), out.len());
+    // SAFETY: as in `encode`.
+    replied(|reply| unsafe {
+        aecp_decode_at(options, bit, count, coded.as_ptr(), coded.len(), at, room, reply)
     })
 }
 

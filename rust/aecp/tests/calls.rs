@@ -1,7 +1,8 @@
 //! The calls of the crate over the linked library.
 
 use aecp::{
-    decode, decode_range, edit, encode, Decoder, EditError, Encoder, Error, Options, Workspace,
+    decode, decode_at, decode_range, edit, encode, offsets, Decoder, EditError, Encoder, Error,
+    Options, Workspace,
 };
 
 /// A walk of samples of `bits` bits.
@@ -165,6 +166,42 @@ fn refusals_have_their_kind_and_place() {
         Err(Error::Stream { number: 6, bit: 0 })
     );
     assert!(!Error::Memory.to_string().is_empty() && !Error::ElementType.to_string().is_empty());
+}
+
+#[test]
+fn each_interval_is_decoded_from_its_offset_on() {
+    let samples: Vec<u16> = walk(100, 12).iter().map(|&it| it as u16).collect();
+    for pad in [false, true] {
+        let options = Options::new(12).block_size(8).interval(2).pad(pad);
+        let coded = encode(&samples, &options).unwrap();
+        let begins = offsets(&coded, Some(100), &options).unwrap();
+        assert_eq!(begins.len(), 7);
+        for (place, &bit) in begins.iter().enumerate() {
+            let rest = &samples[16 * place..];
+            let (front, within) = ((bit / 8) as usize, bit % 8);
+            for len in 0..=rest.len() {
+                let count = Some(len as u64);
+                assert_eq!(decode_at::<u16>(&coded, bit, count, &options).unwrap(), rest[..len]);
+                let part: Vec<u16> = decode_at(&coded[front..], within, count, &options).unwrap();
+                assert_eq!(part, rest[..len]);
+            }
+        }
+    }
+}
+
+#[test]
+fn bits_where_no_interval_begins_are_refused() {
+    let options = Options::new(8);
+    let coded = encode(&[7u8; 64], &options).unwrap();
+    let bits = 8 * coded.len() as u64;
+    assert_eq!(decode_at::<u8>(&coded, bits, Some(0), &options), Ok(vec![]));
+    for bit in [bits + 1, u64::MAX] {
+        assert_eq!(decode_at::<u8>(&coded, bit, Some(0), &options), Err(Error::Bit { bits }));
+    }
+    assert_eq!(decode_at::<u8>(&coded, 4, Some(0), &options.pad(true)), Err(Error::Bit { bits }));
+    assert!(Error::Bit { bits }.to_string().contains(&bits.to_string()));
+    assert_eq!(offsets(&coded[..1], Some(64), &options), Err(Error::Stream { number: 6, bit: 0 }));
+    assert_eq!(offsets(&coded, None, &options.interval(0)), Err(Error::Options { number: 3 }));
 }
 
 #[test]

@@ -2,7 +2,8 @@
 //! is an output of the library.
 
 use aecp::{
-    decode, decode_range, edit, encode, Decoder, Encoder, Error, Options, Sample, Workspace,
+    decode, decode_range, edit, encode, offsets, Decoder, Encoder, Error, Options, Sample,
+    Workspace,
 };
 use std::fmt::Debug;
 
@@ -95,6 +96,16 @@ fn runs_of_zeros_have_the_code_of_the_format() {
     let mut samples = [0u8; 56];
     samples[48] = 1;
     check(&samples, &[0x00, 0x22, 0xf0], &usual().interval(8).preprocess(false));
+}
+
+#[test]
+fn intervals_begin_at_the_bits_of_the_format() {
+    let zeros = [0x00, 0x04, 0x00, 0x10, 0x00, 0x40];
+    assert_eq!(offsets(&zeros, Some(48), &usual()).unwrap(), [0, 14, 28]);
+    // The middle interval has 25 bits.
+    let coded = [0x00, 0x04, 0x40, 0x30, 0xc2, 0x00, 0x08];
+    assert_eq!(offsets(&coded, Some(48), &usual()).unwrap(), [0, 14, 39]);
+    assert_eq!(offsets(&[], Some(0), &usual()).unwrap(), []);
 }
 
 #[test]

@@ -1,0 +1,16 @@
+use Rattle.std.proofs.Common.{sym}
+use Rattle.std.proofs.lemmas.Result.{err_from_is_err_and}
+use Rattle.aec_engine.proofs.BufferLemmas.{fills_refusal}
+use Rattle.aec_c.specs.OffsetCalls.{wrong_options}
+use Rattle.aec_c.proofs.OffsetLemmas.{finding_into}
+use Rattle.aec_c.proofs.offsets.offsets_with.Goals as goal
+
+pub returns : goal.returns
+returns c =
+    finding_into _ c.in_ok-params.params c.limits.result _ c.count_of.result c.args.coded.now c.args.out.now _ c.offsets_into.result
+    c.in_ok-params.ensures.ok c.limits.ensures c.count_of.ensures c.in_ok-params.ensures.allowed c.offsets_into.ensures
+
+pub returns-in_err-params : goal.returns-in_err-params
+returns-in_err-params c =
+    let exit = err_from_is_err_and c.from_residual.result c.from_residual.ensures.1 in
+    fills_refusal _ c.args.out.now _ exit.0 _ exit.1 exit.2 (wrong_options _ (sym c.in_err-params.ensures.refuses))
