@@ -101,8 +101,8 @@ def test_zeros_are_a_big_group() -> None:
 @pytest.mark.parametrize("shape", [(), (0,), (5,), (30, 70), (3, 0), (4, 5, 6, 7)])
 def test_arrays_come_back(dtype: str, shape: tuple[int, ...]) -> None:
     chance = numpy.random.default_rng(1)
-    values = chance.integers(0, 2 if dtype == "|b1" else 100, shape) - (50 if dtype[1] == "i" else 0)
-    array = numpy.asarray(values).astype(dtype)
+    values = chance.integers(0, 2 if dtype == "|b1" else 100, shape)
+    array = numpy.asarray(values - (50 if dtype[1] == "i" else 0)).astype(dtype)
     data = aecp.pack(array)
     again = aecp.unpack(data)
     assert again.dtype == numpy.dtype(dtype) and again.shape == shape
@@ -133,7 +133,10 @@ def test_parts_are_those_of_the_array(tmp_path: Any, key: Any) -> None:
         assert (pickle.loads(pickle.dumps(samples))[3] == array[3]).all()
 
 
-@pytest.mark.parametrize("key", [5, -1, slice(3, 9), slice(9, 3), slice(70_000, 2, -70), slice(-5, None)])
+PARTS = [5, -1, slice(3, 9), slice(9, 3), slice(70_000, 2, -70), slice(-5, None)]
+
+
+@pytest.mark.parametrize("key", PARTS)
 def test_parts_of_a_list(key: Any) -> None:
     values = numpy.random.default_rng(2).integers(0, 4000, 150_000).astype("<i2")
     found = archive.Samples(archive.ArchiveFile.of_bytes(aecp.pack(values)))

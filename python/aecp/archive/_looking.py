@@ -24,7 +24,7 @@ from aecp.archive._asked import (
     say_passed,
     shape_of,
 )
-from aecp.archive._file import opened
+from aecp.archive._file import ArchiveFile, opened
 from aecp.archive._form import Damaged, Refused
 from aecp.archive._headers import layout_of
 from aecp.archive._originals import original, read_all
@@ -237,10 +237,22 @@ def rescue_file(
     try:
         with opened(one_kept(asked.file), asked.limit) as kept:
             with _restoring.output_or_none(asked.out) as file:
-                return _restoring.rescue(kept, file, asked.fill, part)
+                if has_index(kept):
+                    return _restoring.rescue(kept, file, asked.fill, part)
+                if part is not None:
+                    raise Refused("its index is damaged: leave --range away")
+                return _restoring.rescue_without_index(kept, file, asked.fill)
     except Damaged as error:
         text = f"{error}: give -n, --count, and the other options, if you know them"
         raise Refused(text) from None
+
+
+def has_index(kept: ArchiveFile) -> bool:
+    """Returns whether the index of a kept file is sound."""
+    try:
+        return len(kept.index) >= 0
+    except Damaged:
+        return False
 
 
 def regular_bytes(path: str) -> bytes:

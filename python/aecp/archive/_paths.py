@@ -6,7 +6,7 @@ import fnmatch
 import os
 import re
 from collections.abc import Iterable, Iterator
-from typing import Callable, NamedTuple
+from typing import NamedTuple
 
 STREAM, NOTE, OLD_NOTE = ".aec", ".aec.json", ".aec.note"
 OURS = (STREAM, NOTE, OLD_NOTE)
@@ -39,9 +39,6 @@ class Passed(NamedTuple):
     name: str
     why: str
     is_bad: bool
-
-
-Wanted = Callable[[os.DirEntry[str], str], "bool | str"]
 
 
 def names_below(path: str) -> str:

@@ -17,7 +17,6 @@ MOST_BYTES = 1 << 24  # bytes of a lot of several files
 MOST_FILES = 256  # files of a lot
 T = TypeVar("T")
 R = TypeVar("R")
-Work = Callable[[list[T]], list[R]]
 
 
 class Failed(Exception):

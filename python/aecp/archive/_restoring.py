@@ -204,8 +204,31 @@ def rescued_text(lost: list[Range], count: int) -> str:
     return f"{text}; lost: {ranges_text(tuple(lost), count)}"
 
 
+def rescue_without_index(kept: ArchiveFile, file: Optional[BinaryIO], fill: int) -> Rescued:
+    """Writes the samples of a kept file whose index is damaged: from its first sample on."""
+    facts, (head, tail) = kept.facts, sides(kept)
+    digest = hashlib.sha256()
+    if file is not None:
+        file.write(head)
+    found = rescue_stream(kept.stream(), facts.count, facts.options, file, fill, digest)
+    if file is not None:
+        file.write(tail)
+    if found.lost:
+        return found
+    if digest.hexdigest() == facts.samples.sha256:
+        text = f"all {facts.count} samples are sound; only the index is damaged"
+        return found._replace(text=text)
+    text = "the index is damaged, and the samples have another SHA-256 than the recorded one"
+    return Rescued(facts.count, [Range(0, facts.count)], f"{text}: some of them are wrong")
+
+
 def rescue_stream(
-    stream: bytes, count: Optional[int], options: Options, file: Optional[BinaryIO], fill: int
+    stream: bytes,
+    count: Optional[int],
+    options: Options,
+    file: Optional[BinaryIO],
+    fill: int,
+    digest: Any = None,
 ) -> Rescued:
     """Writes the samples of a plain stream before the bit where decoding stops, and the fill in the
     places after them."""
@@ -214,6 +237,8 @@ def rescue_stream(
         decoder = Decoder(stream, count, options)
         for piece in iter(decoder.next_bytes, b""):
             number += len(piece) // options.storage
+            if digest is not None:
+                digest.update(piece)
             if file is not None:
                 file.write(piece)
     except OptionsRefused as fault:

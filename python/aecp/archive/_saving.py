@@ -21,6 +21,9 @@ from typing import Any, BinaryIO, Callable
 
 from aecp.archive._form import Exists, Refused, shown
 
+# What a file system says that can't sync folders.
+UNSYNCED = (errno.EINVAL, errno.EBADF, errno.ENOSYS, errno.ENOTSUP)
+
 HIDDEN = re.compile(r"\.aecp-[0-9a-f]{8}\.new")
 OPENING = os.O_NONBLOCK | os.O_NOFOLLOW | os.O_CLOEXEC
 MAKING = os.O_CREAT | os.O_EXCL | os.O_NOFOLLOW | os.O_CLOEXEC
@@ -217,13 +220,19 @@ def umask() -> int:
 
 
 def sync_folder(folder: str) -> None:
-    """Makes the names in a folder survive a loss of power, if the file system supports that."""
-    with contextlib.suppress(OSError):
+    """Makes the names in a folder survive a loss of power, if the file system supports that and the
+    folder may be read. Raises OSError if the disk fails or is full."""
+    try:
         file = os.open(folder or ".", os.O_RDONLY | os.O_CLOEXEC)
-        try:
-            os.fsync(file)
-        finally:
-            os.close(file)
+    except PermissionError:
+        return
+    try:
+        os.fsync(file)
+    except OSError as error:
+        if error.errno not in UNSYNCED:
+            raise
+    finally:
+        os.close(file)
 
 
 # Locks and leftovers.

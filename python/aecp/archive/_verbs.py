@@ -40,11 +40,9 @@ TABLES = (".csv", ".tsv")
 
 def run(asked: argparse.Namespace, console: Console) -> int:
     """Does what the arguments ask for. Returns the status."""
-    name = f"do_{asked.verb}"
-    verb: Verb = globals().get(name) or getattr(_looking, name)
     try:
         judge_numbers(asked)
-        return verb(asked, console)
+        return DO[asked.verb](asked, console)
     except Wrong as error:
         sys.stderr.write(asked.usage)
         return console.complain(f"{error}", 2)
@@ -269,3 +267,21 @@ def do_log(asked: argparse.Namespace, console: Console) -> int:
         return 0
 
     return guarded(console, asked.file, work)
+
+
+DO: dict[str, Verb] = {
+    "keep": do_keep,
+    "back": do_back,
+    "check": do_check,
+    "info": do_info,
+    "export": do_export,
+    "edit": do_edit,
+    "undo": do_undo,
+    "log": do_log,
+    "forget": do_forget,
+    "diff": _looking.do_diff,
+    "pixels": _looking.do_pixels,
+    "fit": _looking.do_fit,
+    "view": _looking.do_view,
+    "rescue": _looking.do_rescue,
+}
