@@ -117,7 +117,7 @@ def files(place: str, full: bool) -> None:
         took = clock(lambda: run(*words, where=place))
         row(name, f"{took:.1f}", round(many / took))
     if shutil.which("zstd"):
-        took = clock(lambda: run("sh", "-c", "find many -name '*.raw' | xargs zstd -q -T0 --output-dir-flat zstd", where=place))
+        took = clock(lambda: run("sh", "-c", "mkdir zstd && find many -name '*.raw' | xargs zstd -q --output-dir-flat zstd", where=place))
         row("zstd -3 (not synced)", f"{took:.1f}", round(many / took))
         took = clock(lambda: run("sh", "-c", "find zstd -name '*.zst' | xargs zstd -q -t", where=place))
         row("zstd -t", f"{took:.1f}", round(many / took))

@@ -220,6 +220,17 @@ def test_a_bomb_in_the_history(place: str) -> None:
     for verb in ("check", "log", "info", "undo"):
         ran = command(place, verb, "f.aec")
         assert ran.status in (0, 1) and (verb != "check" or ran.status == 1), (verb, ran)
+    assert grown_by(lambda: command(place, "check", "f.aec")) < 160 << 10
+
+
+def grown_by(work: Any) -> int:
+    """Returns the most memory of a child, in KiB, above that of this process."""
+    import resource
+
+    with open("/proc/self/statm", encoding="ascii") as file:
+        own = int(file.read().split()[1]) * 4
+    work()
+    return int(resource.getrusage(resource.RUSAGE_CHILDREN).ru_maxrss) - own
 
 
 def test_info(place: str) -> None:
