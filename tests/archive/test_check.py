@@ -47,6 +47,7 @@ def damages(chance: random.Random) -> dict[str, Callable[[str], Any]]:
         "no options": lambda path: sealed(path, lambda it: it.fields.pop("options")),
         "negative count": lambda path: sealed(path, lambda it: it.fields["samples"].update(count=-1)),
         "no history": lambda path: sealed(path, lambda it: it.history[0].pop("after")),
+        "another last state": lambda path: sealed(path, lambda it: it.history[-1].update(after=it.history[0]["after"])),
     }
     for name in FORGERIES:
         if name != "head":  # the file was edited since, so no sum says what its head was

@@ -37,6 +37,24 @@ def test_help_and_wrong_words(place: str, verb: str) -> None:
     assert command(place, verb).status == 2
 
 
+def test_no_verb_loads_numpy(place: str) -> None:
+    # numpy starts threads, which wait for ever where memory is short.
+    write(place, "numpy.py", b"raise SystemExit('numpy is loaded')\n")
+    write(place, "f", USUAL.stored(walk(1, 3000)))
+    write(place, "script", b"overwrite 3 1 2\n")
+    write(place, "table.csv", b"place,value\n9,4\n")
+    lines = [
+        "keep f -n 16", "check f.aec", "info f.aec", "edit f.aec script", "edit f.aec table.csv", "undo f.aec", "log f.aec",
+        "diff f.aec f.aec", "pixels table.csv", "back f.aec --range 5:7 part", "back f.aec whole", "export f.aec stream",
+        "rescue f.aec some", "fit f -n 16", "view f.aec f.png --width 50", "forget f.aec --keep 1",
+    ]  # fmt: skip
+    path = os.pathsep.join([place, os.environ["PYTHONPATH"]])
+    for line in lines:
+        ran = shell(place, f"aecp {line}", PYTHONPATH=path)
+        assert ran.returncode == 0 and "numpy" not in ran.stdout + ran.stderr, (line, ran)
+    assert {line.split()[0] for line in lines} == set(VERBS)
+
+
 def test_top(place: str) -> None:
     assert command(place).status == 2
     assert command(place, "nothing").status == 2

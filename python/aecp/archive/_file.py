@@ -259,7 +259,15 @@ class ArchiveFile:
             raise Damaged("other samples", "the stream has another SHA-256 than the trailer says")
         if samples != self.facts.samples.sha256:
             raise Damaged("other samples", "the samples have another SHA-256 than the trailer says")
-        self.history()
+        self.judge_history()
+
+    def judge_history(self) -> None:
+        """Reads the history, and compares the state after its last change with the trailer's.
+        Raises Damaged("bad history"); OSError."""
+        states = [entry.after for entry in self.history() if entry.after is not None]
+        if states and states[-1] != self.facts.state:
+            text = "the history ends with other sums than the trailer says"
+            raise Damaged("bad history", text)
 
     def close(self) -> None:
         """Closes the file. May be called twice."""

@@ -73,10 +73,12 @@ class Writer:
             return
         view = view.cast("B")
         for at in range(0, view.nbytes, PIECE):
-            piece = view[at : at + PIECE]
+            piece: Any = view[at : at + PIECE]
+            if view.readonly:
+                piece = bytes(piece)  # C gets its address without numpy
             self._put(self._encoder.feed(piece))
             self._given.update(piece)
-            self._size += piece.nbytes
+            self._size += len(piece)
 
     def write_stream(self, coded: Readable, count: int) -> None:
         """Writes a stream of so many samples, instead of samples. Raises OSError."""
@@ -346,6 +348,7 @@ def unpack(data: Readable, limit: Optional[int] = None) -> Any:
         made = flat_array(file.facts, file.facts.count, hashed(file.pieces(), digest))
         if digest.hexdigest() != file.facts.samples.sha256:
             raise Damaged("other samples", "the samples have another SHA-256 than the trailer says")
+        file.judge_history()
         return shaped(file.facts, made)
 
 
