@@ -17,7 +17,7 @@ sys.path[:0] = [str(TOP / "python"), str(TOP / "tests"), str(Path(__file__).pare
 
 import running  # noqa: E402 - it needs the path
 
-SECONDS = 400
+SECONDS = 1200
 QUIET = [HealthCheck.too_slow, HealthCheck.function_scoped_fixture, HealthCheck.data_too_large, HealthCheck.filter_too_much]
 for name, examples in (("usual", 40), ("thorough", 400)):
     settings.register_profile(

@@ -16,7 +16,7 @@ import sys
 import zlib
 from typing import Any, Callable
 
-SECONDS = 20
+SECONDS = 60
 MOST = 256 << 20
 VALUES: list[Any] = [
     None, True, False, 0, 1, -1, 2, 15, 16, 17, 31, 32, 33, 2**31, 2**32 - 1, 2**32, 2**32 + 1, 2**63, 2**64, 10**30, 1.5, float("inf"),

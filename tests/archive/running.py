@@ -19,7 +19,7 @@ import aecp.cli
 from aecp.library import LIBRARY
 
 Word = Union[str, bytes]
-SECONDS = 60
+SECONDS = 180
 
 
 class Call(NamedTuple):

@@ -23,7 +23,7 @@ def shell(place: str, line: str, **environment: str) -> Any:
     clean = {key: it for key, it in os.environ.items() if key != "LD_PRELOAD"}
     clean.update(environment)
     words = ["sh", "-c", made]
-    return subprocess.run(words, cwd=place, env=clean, capture_output=True, text=True, errors="replace", timeout=60, check=False)
+    return subprocess.run(words, cwd=place, env=clean, capture_output=True, text=True, errors="replace", timeout=180, check=False)
 
 
 @pytest.mark.parametrize("verb", VERBS)

@@ -147,7 +147,7 @@ def cluster() -> Any:
 def aecp_run(place: str, *words: str) -> subprocess.CompletedProcess[str]:
     environment = {key: it for key, it in os.environ.items() if key != "LD_PRELOAD"}
     return subprocess.run(
-        [sys.executable, "-m", "aecp", *words], cwd=place, env=environment, capture_output=True, text=True, timeout=120, check=False
+        [sys.executable, "-m", "aecp", *words], cwd=place, env=environment, capture_output=True, text=True, timeout=360, check=False
     )
 
 
@@ -193,7 +193,7 @@ def test_dask_with_a_killed_worker(place: str) -> None:
                 time.sleep(0.005)
             worker = next(iter(own.workers.values()))
             os.kill(worker.process.process.pid, signal.SIGKILL)
-            out, err = running.communicate(timeout=120)
+            out, err = running.communicate(timeout=360)
     finally:
         if preload:
             os.environ["LD_PRELOAD"] = preload
