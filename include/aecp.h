@@ -81,7 +81,7 @@ enum {
     AECP_EVEN_BLOCK_SIZE = 17, /* `even_blocks` is on, and `block_size` isn't an even number from 8 to 64 */
     AECP_NO_ROOM = 18,         /* len: the bytes, or samples, that the result needs */
     AECP_NOT_OPEN = 19,        /* the handle holds no workspace; the coder or reader isn't open; the coder is finished */
-    AECP_BIT_OUT_OF_RANGE = 20 /* place: the number of bits of the stream. No interval begins at this bit: it is after the stream's end,
+    AECP_BIT_OUT_OF_RANGE = 20 /* place: the number of bits of `coded`. No interval begins at this bit: it is past their end,
                                 * or, with `pad`, it isn't the first bit of a byte */
 };
 

@@ -9,7 +9,7 @@ from typing import Any
 import aecp
 import pytest
 from making import FAST, USUAL, flip, keep, leftovers, options_of, parts_at, read, sound_parts, walk, words_of, write
-from running import How, command, done, start
+from running import Hooks, How, command, done, start
 
 DATA = USUAL.stored(walk(3, 500))
 
@@ -172,3 +172,25 @@ def test_a_file_that_changes_while_it_is_read(place: str, change: str) -> None:
         ran = command(place, "keep", "a", "-n", "16")
         assert "changed" in ran.err and "kept already" not in ran.out, f"call {number}: {ran}"
     assert leftovers(place) == []
+
+
+def unlinked(calls: Any, name: str) -> int:
+    """Returns the place of the call that removes a file."""
+    return next(i for i, it in enumerate(calls) if it.name == "unlink" and os.path.basename(it.first) == name and it.result == 0)
+
+
+def test_a_copy_is_synced_before_its_original_goes(place: str) -> None:
+    path = keep(place, "a", walk(1, 3000))
+    ran = done(place, "keep", "a", "-n", "16", "--remove", how=How(hooks=Hooks(logs=True)))
+    gone = unlinked(ran.calls, "a")
+    synced = [os.path.realpath(it.first) for it in ran.calls[:gone] if it.name == "fsync" and it.result == 0]
+    assert {os.path.realpath(path), os.path.realpath(place)} <= set(synced), synced
+
+
+def test_new_folders_are_synced_before_the_original_goes(place: str) -> None:
+    os.makedirs(os.path.join(place, "src", "deep"))
+    write(os.path.join(place, "src", "deep"), "a", DATA)
+    ran = done(place, "keep", "src", "-n", "16", "--anyway", "--to", "new/to", "--remove", how=How(hooks=Hooks(logs=True)))
+    synced = [os.path.realpath(it.first) for it in ran.calls[: unlinked(ran.calls, "a")] if it.name == "fsync" and it.result == 0]
+    made = [place, *(os.path.join(place, it) for it in ("new", "new/to", "new/to/src", "new/to/src/deep"))]
+    assert {os.path.realpath(it) for it in made} <= set(synced), synced

@@ -159,16 +159,25 @@ def test_folders_that_are_links_are_passed_over(place: str, outside: str) -> Non
     assert os.path.exists(os.path.join(place, "own.aec"))
 
 
-def test_back_to_does_not_leave_its_folder(place: str, outside: str) -> None:
-    """A link in the tree of --to is not followed out of it, and `..` in names leads nowhere."""
-    os.mkdir(os.path.join(place, "d"))
-    os.mkdir(os.path.join(place, "d", "sub"))
-    keep(os.path.join(place, "d", "sub"), "f", walk(1, 500))
-    os.mkdir(os.path.join(place, "out"))
-    os.symlink(outside, os.path.join(place, "out", "sub"))
+@pytest.mark.parametrize("verb", ["keep", "back"])
+def test_to_follows_no_link_below_its_folder(place: str, outside: str, verb: str) -> None:
+    for folder in ("src/sub", "out/src"):
+        os.makedirs(os.path.join(place, folder))
+    keep(os.path.join(place, "src", "sub"), "f", walk(1, 300))
+    os.symlink(outside, os.path.join(place, "out", "src", "sub"))
     before = tree(outside)
-    command(place, "back", "d", "--to", "out")
-    assert tree(outside) == before or set(tree(outside)) - set(before) == set(), "written through a planted folder"
+    ran = command(place, verb, "src", "--to", "out", *(["-n", "16", "--anyway"] if verb == "keep" else []))
+    assert ran.status == 1 and "no folder" in ran.said, ran
+    assert tree(outside) == before, "something is written through the link"
+
+
+def test_back_waits_for_no_pipe(place: str) -> None:
+    keep(place, "f", walk(1, 300))
+    os.unlink(os.path.join(place, "f"))
+    os.mkfifo(os.path.join(place, "f"))
+    for words in (["f.aec"], ["."]):
+        ran = command(place, "back", *words, how=How(seconds=20))
+        assert ran.status == 1 and "exists" in ran.said, ran
 
 
 def test_leftovers_that_are_not_ours(place: str, outside: str) -> None:

@@ -105,6 +105,8 @@ def edit(how: Editing, found: Found) -> Outcome:
     """Edits a kept file."""
     with held(found.path, how.limit) as it:
         script = script_for(how, it.facts)
+        if len(script) > _history.MOST_SCRIPT:
+            raise Refused(f"the script has more than {_history.MOST_SCRIPT} bytes: divide it")
         checked = judged(script, it.facts.count, it.facts.options, how.allow_empty)
         refuse("the script is refused, and nothing is changed", checked.complaints)
         stream = it.stream()

@@ -232,6 +232,7 @@ def keep_again(how: Keeping, found: Found, target: str) -> Outcome:
         if not is_restored(kept, file, before.st_size):
             why = "it isn't removed: FILE.aec was edited since, or the file has changed"
             return replace(outcome, kind="refused", said=why)
+        _saving.sync(target)  # it may be a copy that isn't on the disk yet
         return removed(found.path, file, before, outcome)
 
 

@@ -5,8 +5,12 @@ from __future__ import annotations
 import fnmatch
 import os
 import re
+import stat
 from collections.abc import Iterable, Iterator
 from typing import NamedTuple
+
+from aecp.archive import _saving
+from aecp.archive._form import Refused, shown
 
 STREAM, NOTE, OLD_NOTE = ".aec", ".aec.json", ".aec.note"
 OURS = (STREAM, NOTE, OLD_NOTE)
@@ -175,8 +179,29 @@ def kept_in(folder: str, passed: list[Passed]) -> Iterator[Found]:
 
 
 def place_below(folder: str, below: str) -> str:
-    """Returns a path below a folder, whose missing folders are made. Raises OSError if one can't be
-    made."""
-    path = os.path.join(folder, below)
-    os.makedirs(os.path.dirname(path) or ".", exist_ok=True)
-    return path
+    """Returns a path below a folder. Missing folders are made, and their names survive a loss of
+    power. Raises Refused if a link or a file has the name of a folder below `folder`; OSError."""
+    make_folders(folder)
+    path = folder
+    for part in filter(None, os.path.dirname(below).split(os.sep)):
+        path = os.path.join(path, part)
+        make_folder(path)
+        if not stat.S_ISDIR(os.lstat(path).st_mode):
+            raise Refused(f"{shown(path)} is a link or a file, no folder")
+    return os.path.join(folder, below)
+
+
+def make_folders(path: str) -> None:
+    """Makes a folder and those above it that are missing. Raises OSError."""
+    if not os.path.isdir(path or "."):
+        make_folders(os.path.dirname(path.rstrip(os.sep)))
+        make_folder(path)
+
+
+def make_folder(path: str) -> None:
+    """Makes a folder, and syncs the one above it, unless something has this name. Raises OSError."""
+    try:
+        os.mkdir(path)
+    except FileExistsError:
+        return
+    _saving.sync_folder(os.path.dirname(path.rstrip(os.sep)) or ".")

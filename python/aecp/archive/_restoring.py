@@ -49,7 +49,7 @@ def output(path: str, mode: int = 0o666) -> Iterator[BinaryIO]:
     except FileNotFoundError:
         kind = None
     if kind is not None and (stat.S_ISFIFO(kind) or stat.S_ISCHR(kind)):
-        with open(path, "wb") as file:
+        with open(path, "wb", opener=without_links) as file:
             yield file
         return
     if kind is not None:
@@ -58,6 +58,16 @@ def output(path: str, mode: int = 0o666) -> Iterator[BinaryIO]:
         raise Refused(f"there is no folder {shown(os.path.dirname(path))}")
     with _saving.new_file(path, mode) as new:
         yield new
+
+
+def without_links(path: str, _: int) -> int:
+    """Opens a pipe or a device to write. Raises Refused for anything else; OSError for a link."""
+    file = os.open(path, os.O_WRONLY | os.O_NOFOLLOW | os.O_CLOEXEC)
+    kind = os.fstat(file).st_mode
+    if not (stat.S_ISFIFO(kind) or stat.S_ISCHR(kind)):
+        os.close(file)
+        raise Exists(f"{shown(path)} exists, and nothing is written over it")
+    return file
 
 
 @contextlib.contextmanager
@@ -74,6 +84,8 @@ def back(how: Restoring, found: Found) -> Outcome:
     """Restores the original of a kept file, or writes a part of its samples."""
     with opened(found.path, how.limit) as kept:
         path = how.out or out_of(how, found)
+        if how.out is None and os.path.lexists(path):  # a pipe or a device there is no output
+            raise Exists(f"{shown(path)} exists, and nothing is written over it")
         mode = kept.status.st_mode & 0o666 if kept.status else 0o666
         with output(path, mode) as file:
             if how.part is not None:

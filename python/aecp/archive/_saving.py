@@ -219,6 +219,16 @@ def umask() -> int:
     return mask
 
 
+def sync(path: str) -> None:
+    """Makes a file and its name survive a loss of power. Raises OSError."""
+    file = os.open(path, os.O_RDONLY | OPENING)
+    try:
+        os.fsync(file)
+    finally:
+        os.close(file)
+    sync_folder(os.path.dirname(path))
+
+
 def sync_folder(folder: str) -> None:
     """Makes the names in a folder survive a loss of power, if the file system supports that and the
     folder may be read. Raises OSError if the disk fails or is full."""

@@ -30,7 +30,7 @@ pub enum Error {
     /// No interval begins at a bit: it is after the end of the stream, or the intervals are padded
     /// and it isn't the first bit of a byte.
     Bit {
-        /// The number of bits of the stream.
+        /// The number of bits of the coded bytes that were passed.
         bits: u64,
     },
     /// There are too many samples, or too many coded bytes.
