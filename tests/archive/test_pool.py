@@ -2,12 +2,19 @@
 
 from __future__ import annotations
 
+import asyncio
+import contextlib
+import fcntl
 import os
 import re
+import resource
 import signal
 import subprocess
 import sys
+import threading
 import time
+import types
+from collections.abc import Iterator
 from typing import Any
 
 import aecp
@@ -130,6 +137,169 @@ def test_a_file_that_kills_each_process(place: str, verb: str) -> None:
     assert kept_in(ran.out) == 7 if verb == "keep" else "7 sound" in ran.out, ran
 
 
+# The command, with three processes on every machine.
+THREE = "import aecp.archive._pool as it; it.cores = lambda: 3; from aecp.cli import main; main()"
+
+
+def until(holds: Any, seconds: float = 30) -> bool:
+    end = time.monotonic() + seconds
+    while not holds() and time.monotonic() < end:
+        time.sleep(0.01)
+    return bool(holds())
+
+
+def has_open(process: int, name: str) -> bool:
+    found = []
+    with contextlib.suppress(OSError):
+        for number in os.listdir(f"/proc/{process}/fd"):
+            with contextlib.suppress(OSError):
+                found.append(os.readlink(f"/proc/{process}/fd/{number}"))
+    return any(it.endswith(name) for it in found)
+
+
+class Blocked:
+    """A run of `undo a.aec b.aec c.aec` by three processes: one waits for the lock of a.aec, the others are idle."""
+
+    def __init__(self, place: str) -> None:
+        write(place, "script", b"overwrite 3 1\n")
+        for name in ("a", "b", "c"):
+            keep(place, name, walk(1, 300))
+            done(place, "edit", "script", f"{name}.aec")
+        before = [os.stat(os.path.join(place, it)).st_ino for it in ("b.aec", "c.aec")]
+        self.lock = os.open(os.path.join(place, "a.aec"), os.O_RDWR)
+        fcntl.flock(self.lock, fcntl.LOCK_EX)
+        words = [sys.executable, "-c", THREE, "undo", "a.aec", "b.aec", "c.aec"]
+        environment = {key: it for key, it in os.environ.items() if key != "LD_PRELOAD"}
+        self.run = subprocess.Popen(words, cwd=place, env=environment, stdout=subprocess.PIPE, stderr=subprocess.PIPE, text=True)
+        self.processes: list[int] = []
+
+        def is_blocked() -> bool:
+            self.processes = children(self.run.pid)
+            later = [os.stat(os.path.join(place, it)).st_ino for it in ("b.aec", "c.aec")]
+            waits = any(has_open(it, "/a.aec") for it in self.processes)
+            return len(self.processes) == 3 and waits and all(x != y for x, y in zip(before, later))
+
+        assert until(is_blocked)
+        time.sleep(0.5)
+
+    def free(self) -> None:
+        fcntl.flock(self.lock, fcntl.LOCK_UN)
+
+    def ended(self) -> tuple[int, str, str]:
+        """Returns how the run ended, after all its processes have closed its standard output."""
+        out, err = self.run.communicate(timeout=30)
+        assert "Traceback" not in err, err
+        return self.run.returncode, out, err
+
+    def close(self) -> None:
+        for it in [self.run.pid, *self.processes]:
+            with contextlib.suppress(ProcessLookupError):
+                os.kill(it, signal.SIGKILL)
+        self.run.wait()
+        os.close(self.lock)
+
+
+@pytest.fixture()
+def blocked(place: str) -> Iterator[Blocked]:
+    made_run = Blocked(place)
+    yield made_run
+    made_run.close()
+
+
+def test_a_killed_idle_process(place: str, blocked: Blocked) -> None:
+    """One of the idle processes reads the queue, and dies with the lock of the queue."""
+    for it in blocked.processes:
+        if not has_open(it, "/a.aec"):
+            os.kill(it, signal.SIGKILL)
+    time.sleep(0.2)
+    blocked.free()
+    status, out, err = blocked.ended()
+    assert status == 0 and out.count("is undone") == 3, (status, out, err)
+
+
+def test_a_killed_run_leaves_no_process(blocked: Blocked) -> None:
+    """Its processes would keep its standard output open."""
+    blocked.run.kill()
+    assert blocked.ended()[0] == -signal.SIGKILL
+
+
+@pytest.mark.parametrize("number", [signal.SIGINT, signal.SIGTERM])
+def test_a_stop_ends_blocked_processes(place: str, blocked: Blocked, number: int) -> None:
+    blocked.run.send_signal(number)
+    status, _, err = blocked.ended()
+    assert status == 128 + number and "stopped" in err, (status, err)
+
+
+@pytest.mark.parametrize("verb", ["keep", "back"])
+def test_a_stop_leaves_no_hidden_files(place: str, verb: str) -> None:
+    """Processes that are killed in the middle of their work leave files, which the first process removes."""
+    for i in range(3):
+        write(place, f"f{i}", FAST.stored(noise(i, 1 << 16)) * 64)
+    if verb == "back":
+        done(place, "keep", ".", "-n", "16", "--anyway", "--jobs", "2")
+    out = os.path.join(place, "out", "f0")
+    os.makedirs(os.path.dirname(out))
+    words = ["keep", ".", "-n", "16", "--anyway"] if verb == "keep" else ["back", "f0.aec", "f1.aec", "f2.aec"]
+    folder = os.path.join(place, "out")
+    running = start(place, *words, "--to", "out", "--jobs", "2")
+
+    def hidden() -> list[str]:
+        return [it for it in os.listdir(folder) if it.startswith(".")]
+
+    assert until(hidden)
+    running.kill(signal.SIGTERM)
+    ran = running.ended()
+    assert ran.status == 128 + signal.SIGTERM and not hidden(), (ran, hidden())
+
+
+def test_no_files_for_a_pool(place: str) -> None:
+    for name in ("a", "b"):
+        keep(place, name, walk(1, 300))
+    environment = {key: it for key, it in os.environ.items() if key != "LD_PRELOAD"}
+
+    def few() -> None:
+        resource.setrlimit(resource.RLIMIT_NOFILE, (10, 10))
+
+    words = [sys.executable, "-c", THREE, "check", "."]
+    ran = subprocess.run(words, cwd=place, env=environment, preexec_fn=few, capture_output=True, text=True, timeout=60, check=False)
+    assert ran.returncode == 1 and "standard output" not in ran.stderr, ran
+    assert "no processes can be had: " in ran.stderr and "--jobs 1" in ran.stderr, ran
+
+
+@pytest.mark.parametrize("lacking", ["process", "second process", "thread", "locks"])
+def test_no_processes_for_a_pool(place: str, lacking: str) -> None:
+    """The processes that were begun are killed: else the run would wait for them."""
+    for name in ("a", "b"):
+        keep(place, name, walk(1, 300))
+
+    def before() -> None:
+        import concurrent.futures.process as process
+
+        real, left = os.fork, [lacking != "process"]
+
+        def fork() -> int:
+            if not left.pop():
+                raise BlockingIOError(11, "no more processes")
+            left.append(False)
+            return real()
+
+        def refuse(*_: Any) -> None:
+            raise RuntimeError("can't start new thread")
+
+        def lock(*_: Any) -> None:
+            raise NotImplementedError("no semaphores")
+
+        if "process" in lacking:
+            os.fork = fork  # type: ignore[assignment]
+        elif lacking == "thread":
+            threading.Thread.start = refuse  # type: ignore[assignment,method-assign]
+        else:
+            process._check_system_limits = lock  # type: ignore[attr-defined]
+
+    ran = command(place, "check", ".", "--jobs", "2", how=How(before=before, seconds=60))
+    assert ran.status == 1 and "no processes can be had: " in ran.err and "--jobs 1" in ran.err, ran
+
+
 @pytest.fixture(scope="module")
 def cluster() -> Any:
     """A cluster of three processes, each of one thread."""
@@ -175,6 +345,49 @@ def test_dask_without_a_scheduler(place: str) -> None:
     many(place, 2)
     ran = aecp_run(place, "keep", ".", "-n", "16", "--anyway", "--dask", "tcp://127.0.0.1:9")
     assert ran.returncode in (1, 2) and "Traceback" not in ran.stderr and ran.stderr.strip(), ran
+
+
+@pytest.mark.parametrize("words", [["-o", "-"], ["-o", "out"], ["-"], ["out"]])
+def test_dask_takes_no_out(place: str, words: list[str]) -> None:
+    """The standard output of a worker is another one."""
+    keep(place, "f", walk(1, 300))
+    ran = command(place, "back", "f.aec", *words, "--dask", "tcp://127.0.0.1:9")
+    assert ran.status == 2 and "--dask" in ran.err and "--to DIR" in ran.err.splitlines()[-1], ran
+
+
+class Worked:
+    """A future of dask that raises."""
+
+    def __init__(self, error: BaseException) -> None:
+        self.error = error
+
+    def result(self) -> Any:
+        raise self.error
+
+    def done(self) -> bool:
+        return False
+
+
+@pytest.mark.parametrize("where", ["ncores", "submit", "result"])
+@pytest.mark.parametrize("error", [OSError("Timed out"), asyncio.CancelledError("lot"), ModuleNotFoundError("No module named 'aecp'")])
+def test_dask_that_fails(place: str, error: BaseException, where: str) -> None:
+    """Whatever dask raises is one line, and leaving the cluster may fail too."""
+    many(place, 3)
+
+    def failing(*_: Any, **__: Any) -> Any:
+        raise error
+
+    def before() -> None:
+        client = types.SimpleNamespace(ncores=lambda: {"a": 2}, submit=lambda *_, **__: Worked(error), cancel=failing, close=failing)
+        if where != "result":
+            setattr(client, where, failing)
+        module, scheduler = types.ModuleType("distributed"), types.ModuleType("distributed.scheduler")
+        module.Client = lambda *_, **__: client  # type: ignore[attr-defined]
+        scheduler.KilledWorker = type("KilledWorker", (Exception,), {})  # type: ignore[attr-defined]
+        sys.modules.update({"distributed": module, "distributed.scheduler": scheduler})
+
+    ran = command(place, "keep", ".", "-n", "16", "--anyway", "--dask", "tcp://127.0.0.1:9", how=How(before=before))
+    assert ran.status == 1 and f"aecp: the dask cluster failed: {type(error).__name__}: {error}" in ran.err, ran
 
 
 def test_dask_with_a_killed_worker(place: str) -> None:

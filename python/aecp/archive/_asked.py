@@ -7,6 +7,7 @@ import os
 import re
 import sys
 from collections.abc import Iterator
+from functools import partial
 from typing import Any, Callable, Optional
 
 from aecp._console import Console, reason, shown
@@ -14,6 +15,7 @@ from aecp.archive._form import Damaged, Refused
 from aecp.archive._outcomes import DIED, Guarded, Outcome, advice
 from aecp.archive._paths import Found, Passed, kept_path
 from aecp.archive._pool import Deal, Failed, pool_of
+from aecp.archive._saving import remove_leftovers
 from aecp.archive._scripts import MOST_SAMPLES
 from aecp.archive._tables import shape_in
 from aecp.calls import encode
@@ -21,6 +23,7 @@ from aecp.faults import Fault
 from aecp.options import FLAGS, NUMBERS, Options
 
 USUAL = {"block_size": 16, "interval": 128}
+WRITING = ("keep", "back", "edit", "undo", "forget")  # verbs that write files
 
 
 class Wrong(Exception):
@@ -124,11 +127,23 @@ def dealt(
     """Yields each file with what happened to it, in order. The work is dealt to processes."""
     jobs, dask = getattr(asked, "jobs", None), getattr(asked, "dask", None)
     sizes = [it.size for it in found]
-    with pool_of(jobs, dask, len(found)) as pool:
+    with pool_of(jobs, dask, len(found), partial(clean, asked)) as pool:
         with console.progress(len(found), sum(sizes)) as progress:
             for it, outcome in Deal(Guarded(work), DIED).results(pool, found, sizes):
                 progress.add(1, it.size)
                 yield it, outcome
+
+
+def clean(asked: argparse.Namespace, lot: list[Found]) -> None:
+    """Removes the hidden files that killed processes have left of work on a lot."""
+    if asked.verb not in WRITING:
+        return
+    folders = {os.path.dirname(it.path) for it in lot}
+    to = getattr(asked, "to", None)
+    if to is not None:
+        folders = {os.path.dirname(os.path.join(to, it.below)) for it in lot}
+    for folder in folders:
+        remove_leftovers(folder)
 
 
 class Counts:

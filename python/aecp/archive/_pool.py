@@ -3,14 +3,22 @@ cluster."""
 
 from __future__ import annotations
 
+import asyncio
 import concurrent.futures
 import contextlib
+import ctypes
+import multiprocessing
 import os
 import signal
+import sys
 from collections.abc import Iterator, Sequence
+from concurrent.futures import Future, ProcessPoolExecutor
 from concurrent.futures.process import BrokenProcessPool
 from typing import Any, Callable, Generic, Optional, Protocol, TypeVar
 
+from aecp._console import reason, shown
+
+PR_SET_PDEATHSIG = 1  # the number of a call of prctl
 STOPS = (signal.SIGINT, signal.SIGTERM, signal.SIGHUP)
 LOTS = 8  # lots for each process, so that all processes end at nearly the same time
 MOST_BYTES = 1 << 24  # bytes of a lot of several files
@@ -57,10 +65,62 @@ def cores() -> int:
         return os.cpu_count() or 1
 
 
-def leave_stops() -> None:
-    """Ignores signals to stop, in a process of a pool: the first process handles them."""
+def begin(parent: int) -> None:
+    """Begins a process of a pool. It ignores signals to stop, which the first process handles, and
+    is killed as soon as the first process dies. `parent` is the number of the first process, 0 if
+    another process starts those of the pool."""
     for number in STOPS:
         signal.signal(number, signal.SIG_IGN)
+    with contextlib.suppress(AttributeError, OSError):  # only Linux has prctl
+        ctypes.CDLL(None).prctl(PR_SET_PDEATHSIG, signal.SIGKILL, 0, 0, 0)
+    if parent and os.getppid() != parent:  # it died before the call of prctl
+        os._exit(1)
+
+
+@contextlib.contextmanager
+def no_processes() -> Iterator[None]:
+    """Raises Failed if the block can't get processes, pipes or locks from the system."""
+    try:
+        yield
+    except BrokenProcessPool:  # a RuntimeError too
+        raise
+    except (OSError, NotImplementedError, RuntimeError) as error:
+        text = reason(error, "")
+        raise Failed(f"no processes can be had: {text}; try --jobs 1") from None
+
+
+@contextlib.contextmanager
+def executor(workers: int) -> Iterator[ProcessPoolExecutor]:
+    """Yields an executor of new processes. In the end it kills them, whatever they do, and waits
+    for their end: after the last result they do nothing. Raises Failed."""
+    is_direct = multiprocessing.get_start_method() != "forkserver"
+    parent = os.getpid() if is_direct else 0
+    with no_processes():
+        pool = ProcessPoolExecutor(workers, initializer=begin, initargs=(parent,))
+    try:
+        yield pool
+    finally:
+        kill(pool)
+        with contextlib.suppress(RuntimeError):  # its thread couldn't begin
+            pool.shutdown(wait=True, cancel_futures=True)
+
+
+def kill(pool: ProcessPoolExecutor) -> None:
+    """Kills the processes of an executor. They ignore SIGTERM, which the executor sends, and may be
+    blocked: by a lock of a file, or by a lock of the queue that a dead process holds."""
+    for process in list((pool._processes or {}).values()):
+        process.kill()
+    if sys.version_info < (3, 11, 5):
+        # These versions leave the pipe of the queue open, and a thread that writes to it for ever.
+        queue: Any = getattr(pool, "_call_queue", None)
+        with contextlib.suppress(AttributeError, OSError):
+            queue._reader.close()
+
+
+def submitted(pool: ProcessPoolExecutor, work: Callable[[Any], Any], lot: Any) -> Future[Any]:
+    """Returns the future of work on a lot. Raises Failed; BrokenProcessPool."""
+    with no_processes():
+        return pool.submit(work, lot)
 
 
 class Here:
@@ -73,10 +133,11 @@ class Here:
 
 
 class Processes:
-    """Processes of this machine."""
+    """Processes of this machine. `clean` removes what killed processes have left of work on a
+    lot."""
 
-    def __init__(self, workers: int) -> None:
-        self.workers = workers
+    def __init__(self, workers: int, clean: Callable[[Any], None]) -> None:
+        self.workers, self.clean = workers, clean
 
     def results(self, work: Callable[[Any], Any], lots: list[Any]) -> Iterator[Any]:
         done: dict[int, Any] = {}
@@ -90,7 +151,7 @@ class Processes:
             # If a process has died, one of the lots that were begun is the cause: each is done
             # again in a process of its own.
             for i in [it for it in rest if it >= at and it not in done][: self.workers]:
-                done[i] = alone(work, lots[i])
+                done[i] = self.alone(work, lots[i])
             while at in done:
                 yield done.pop(at)
                 at += 1
@@ -100,29 +161,43 @@ class Processes:
     ) -> Iterator[None]:
         """Adds the results of lots to `done`, and yields after each, until all are done or a
         process dies."""
-        pool = concurrent.futures.ProcessPoolExecutor(self.workers, initializer=leave_stops)
-        futures = [pool.submit(work, lots[i]) for i in rest]
+        futures: list[Future[Any]] = []
         try:
-            for i, future in zip(rest, futures):
-                done[i] = future.result()
-                yield
-        except BrokenProcessPool:
-            for i, future in zip(rest, futures):
-                if future.done() and future.exception() is None:
+            with executor(self.workers) as pool:
+                futures.extend(submitted(pool, work, lots[i]) for i in rest)
+                for i, future in zip(rest, futures):
                     done[i] = future.result()
-        finally:
-            pool.shutdown(wait=True, cancel_futures=True)
+                    yield
+        except BaseException as error:
+            for i, future in zip(rest, futures):
+                if is_done(future):
+                    done[i] = future.result()
+            # The queue is in order, so the lots that the killed processes had begun are the first
+            # ones without a result.
+            for i in [it for it in rest if it not in done][: self.workers]:
+                self.clean(lots[i])
+            if not isinstance(error, BrokenProcessPool):
+                raise
+
+    def alone(self, work: Callable[[Any], Any], lot: Any) -> Optional[Any]:
+        """Returns the result for a lot in a process of its own, or None if that process dies."""
+        try:
+            with executor(1) as pool:
+                return submitted(pool, work, lot).result()
+        except BaseException as error:
+            self.clean(lot)
+            if isinstance(error, BrokenProcessPool):
+                return None
+            raise
 
 
-def alone(work: Callable[[Any], Any], lot: Any) -> Optional[Any]:
-    """Returns the result for a lot in a process of its own, or None if that process dies."""
-    pool = concurrent.futures.ProcessPoolExecutor(1, initializer=leave_stops)
-    try:
-        return pool.submit(work, lot).result()
-    except BrokenProcessPool:
-        return None
-    finally:
-        pool.shutdown(wait=True, cancel_futures=True)
+def is_done(future: Future[Any]) -> bool:
+    """Returns whether a future has a result."""
+    return future.done() and not future.cancelled() and future.exception() is None
+
+
+# What dask raises: asyncio's CancelledError is no Exception.
+FAULTS = (Exception, asyncio.CancelledError)
 
 
 class Cluster:
@@ -139,29 +214,53 @@ class Cluster:
         except (OSError, ValueError, TypeError) as error:
             why = str(error) or type(error).__name__
             raise Failed(f"no dask scheduler at {address}: {why}") from None
-        self.workers = max(1, sum(self.client.ncores().values()))
+        with cluster_faults():
+            self.workers = max(1, sum(self.client.ncores().values()))
 
     def results(self, work: Callable[[Any], Any], lots: list[Any]) -> Iterator[Any]:
+        futures: list[Any] = []
+        try:
+            with cluster_faults():
+                futures.extend(self.client.submit(work, lot, pure=False) for lot in lots)
+            for future in futures:
+                yield self.result(future)
+        finally:
+            with contextlib.suppress(*FAULTS):
+                self.client.cancel([it for it in futures if not it.done()])
+
+    def result(self, future: Any) -> Any:
+        """Returns the result of a future, or None if the workers that worked on it died. Raises
+        Failed."""
         from distributed.scheduler import KilledWorker
 
-        futures = [self.client.submit(work, lot, pure=False) for lot in lots]
-        try:
-            for future in futures:
-                try:
-                    yield future.result()
-                except KilledWorker:
-                    yield None
-        finally:
-            self.client.cancel([it for it in futures if not it.done()])
+        with cluster_faults():
+            try:
+                return future.result()
+            except KilledWorker:
+                return None
 
     def close(self) -> None:
         """Leaves the cluster."""
-        self.client.close()
+        with contextlib.suppress(*FAULTS):
+            self.client.close()
 
 
 @contextlib.contextmanager
-def pool_of(jobs: Optional[int], dask: Optional[str], items: int) -> Iterator[Pool]:
-    """Yields the pool for so many items. Raises Failed if it can't be had."""
+def cluster_faults() -> Iterator[None]:
+    """Raises Failed for whatever dask raises in the block: work on files raises nothing."""
+    try:
+        yield
+    except FAULTS as error:
+        text = f"{type(error).__name__}: {error}" if str(error) else type(error).__name__
+        raise Failed(f"the dask cluster failed: {shown(text)}") from None
+
+
+@contextlib.contextmanager
+def pool_of(
+    jobs: Optional[int], dask: Optional[str], items: int, clean: Callable[[Any], None]
+) -> Iterator[Pool]:
+    """Yields the pool for so many items. `clean` removes what a killed process has left of work on
+    a lot. Raises Failed if the pool can't be had."""
     if dask is not None:
         cluster = Cluster(dask)
         try:
@@ -171,7 +270,7 @@ def pool_of(jobs: Optional[int], dask: Optional[str], items: int) -> Iterator[Po
         return
     workers = min(jobs or cores(), items)
     if workers > 1:
-        yield Processes(workers)
+        yield Processes(workers, clean)
     else:
         yield Here()
 

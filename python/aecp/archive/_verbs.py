@@ -163,6 +163,8 @@ def do_back(asked: argparse.Namespace, console: Console) -> int:
     if asked.out is not None and asked.to is not None:
         raise Wrong("-o and --to exclude each other")
     take_out(asked)
+    if asked.out is not None and asked.dask is not None:
+        raise Wrong("OUT and --dask exclude each other: the workers write below --to DIR")
     passed: list[Passed] = []
     found = list(kept_files(asked.paths, passed))
     if asked.out is not None and len(found) > 1:
