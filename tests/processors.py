@@ -55,6 +55,7 @@ sys.modules["aecp"].__path__ = [sys.argv[1]]
 import aecp.levels
 aecp.levels.CPUINFO = sys.argv[2]
 import aecp.library
+aecp.library.LIBRARY.load_now()
 """
 SAYS = "this machine lacks a feature of"
 SAMPLES = bytes(range(200))
