@@ -25,7 +25,7 @@ TOP = Path(__file__).resolve().parents[1]
 TESTS = TOP / "tests" / "archive"
 NEEDED = "import pytest, hypothesis, numpy"
 # The files that take longest begin first.
-SLOW = ("test_stops", "test_hostile", "test_edit", "test_pool", "test_reading", "test_keep")
+SLOW = ("test_stops", "test_hostile", "test_edit", "test_pool", "test_dask", "test_reading", "test_keep")
 
 
 class Counts(NamedTuple):
