@@ -117,11 +117,11 @@ keep_gate() {
 }
 
 state=$(python3 packaging/proved.py state)
-# As measured on 29 November 2026, on a busy host (`make gate-times`).
-work=190
+# As measured on 30 November 2026, beside other work (`make gate-times`).
+work=125
 processors=$(getconf _NPROCESSORS_ONLN)
 echo "make test has about $work minutes of work for one processor, so at least $((work / processors)) for the $processors of this machine."
-echo "On four it took 62. Crates whose files are as they were in an earlier run on this machine aren't proved again."
+echo "On four it took 44. Some kits don't prove crates again whose files are as they were in an earlier run on this machine."
 echo "$parts" > "$kept/parts"
 last=
 while read -r name command; do
