@@ -249,6 +249,63 @@ def test_a_stop_leaves_no_hidden_files(place: str, verb: str) -> None:
     assert ran.status == 128 + signal.SIGTERM and not hidden(), (ran, hidden())
 
 
+@pytest.mark.parametrize("number", [signal.SIGTERM, 0])
+def test_a_script_that_fills_the_queue(place: str, number: int) -> None:
+    """Each lot has the script. Where all processes wait, the queue is full, and its thread too waits."""
+    write(place, "script", b"overwrite 3 1\n" * 20000)
+    locks = []
+    for i in range(8):
+        keep(place, f"f{i}", walk(1, 300))
+        locks.append(os.open(os.path.join(place, f"f{i}.aec"), os.O_RDWR))
+        fcntl.flock(locks[-1], fcntl.LOCK_EX)
+    words = [sys.executable, "-c", THREE, "edit", "script", *(f"f{i}.aec" for i in range(8))]
+    environment = {key: it for key, it in os.environ.items() if key != "LD_PRELOAD"}
+    run = subprocess.Popen(words, cwd=place, env=environment, stdout=subprocess.PIPE, stderr=subprocess.PIPE, text=True)
+    try:
+        assert until(lambda: sum(has_open(it, ".aec") for it in children(run.pid)) == 3)
+        time.sleep(0.2)
+        os.kill(run.pid if number else children(run.pid)[0], number or signal.SIGKILL)
+        time.sleep(0.2)
+        for lock in locks:
+            fcntl.flock(lock, fcntl.LOCK_UN)
+        out, err = run.communicate(timeout=60)
+    finally:
+        run.kill()
+        run.wait()
+        for lock in locks:
+            os.close(lock)
+    assert run.returncode == (128 + number if number else 0), (out, err)
+    assert number or out.count(" samples changed") == 8, (out, err)
+
+
+def test_no_edit_is_done_twice(place: str) -> None:
+    """A process that dies after it has edited a file: the file isn't edited again."""
+    write(place, "script", b"append 1\n")
+    names = [f"f{i:02}" for i in range(40)]
+    for name in names:
+        keep(place, name, walk(1, 300))
+
+    def deadly() -> None:
+        import aecp.archive._pool as pool
+
+        pool.cores = lambda: 2
+        first, real, died = os.getpid(), os.rename, os.path.join(place, "died")
+
+        def renamed(old: Any, new: Any, **named: Any) -> None:
+            real(old, new, **named)
+            if os.getpid() != first and str(new).endswith("f04.aec") and not os.path.exists(died):
+                os.close(os.open(died, os.O_CREAT | os.O_WRONLY))
+                os.kill(os.getpid(), signal.SIGKILL)
+
+        os.rename = renamed  # type: ignore[assignment]
+
+    ran = command(place, "edit", "script", *(f"{it}.aec" for it in names), how=How(before=deadly))
+    assert os.path.exists(os.path.join(place, "died"))
+    assert ran.status == 1 and "f04.aec: a process died" in ran.err and "aecp log" in ran.err, ran
+    for name in names:
+        assert len(done(place, "log", f"{name}.aec").out.splitlines()) == 2, name
+
+
 def test_no_files_for_a_pool(place: str) -> None:
     for name in ("a", "b"):
         keep(place, name, walk(1, 300))

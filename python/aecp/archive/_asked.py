@@ -123,13 +123,16 @@ def dealt(
     console: Console,
     work: Callable[[Found], Outcome],
     found: list[Found],
+    again: Optional[Callable[[Found], Outcome]] = None,
 ) -> Iterator[tuple[Found, Outcome]]:
-    """Yields each file with what happened to it, in order. The work is dealt to processes."""
+    """Yields each file with what happened to it, in order. The work is dealt to processes. After a
+    process has died, `again` is done instead of `work`."""
     jobs, dask = getattr(asked, "jobs", None), getattr(asked, "dask", None)
     sizes = [it.size for it in found]
+    deal = Deal(Guarded(work), DIED, Guarded(again or work))
     with pool_of(jobs, dask, len(found), partial(clean, asked)) as pool:
         with console.progress(len(found), sum(sizes)) as progress:
-            for it, outcome in Deal(Guarded(work), DIED).results(pool, found, sizes):
+            for it, outcome in deal.results(pool, found, sizes):
                 progress.add(1, it.size)
                 yield it, outcome
 

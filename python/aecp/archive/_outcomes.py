@@ -2,11 +2,12 @@
 
 from __future__ import annotations
 
+import os
 from dataclasses import dataclass, field
 from typing import Any, Callable
 
 from aecp._console import reason
-from aecp.archive._form import Damaged, Range
+from aecp.archive._form import Damaged, Range, Refused
 from aecp.archive._paths import Found
 from aecp.options import Options
 
@@ -51,6 +52,18 @@ class Guarded:
             return Outcome("refused", f"{reason(error, found.path)}{advice(error)}")
         except Exception as error:
             return Outcome("refused", reason(error, found.path))
+
+
+@dataclass(frozen=True)
+class Unchanged:
+    """Work on a file that may have been changed by a process that died. Leaves a changed file."""
+
+    work: Callable[[Found], Outcome]
+
+    def __call__(self, found: Found) -> Outcome:
+        if os.stat(found.path).st_ino != found.inode:
+            raise Refused("a process died, and the file has changed: see `aecp log`")
+        return self.work(found)
 
 
 def advice(error: Damaged) -> str:

@@ -2,6 +2,7 @@
 
 from __future__ import annotations
 
+import contextlib
 import fnmatch
 import os
 import re
@@ -28,6 +29,7 @@ class Found(NamedTuple):
     below     its path below the folder of --to
     size      its bytes when it was found
     is_named  it was named itself, instead of found in a folder
+    inode     its number in the file system when it was found, 0 if that isn't known
     """
 
     path: str
@@ -35,6 +37,7 @@ class Found(NamedTuple):
     below: str
     size: int
     is_named: bool
+    inode: int = 0
 
 
 class Passed(NamedTuple):
@@ -54,11 +57,11 @@ def names_below(path: str) -> str:
 
 def file_of(path: str, below: str, is_named: bool) -> Found:
     """Returns a file with its size."""
-    try:
-        size = os.stat(path).st_size
-    except OSError:
-        size = 0
-    return Found(os.path.abspath(path), path, below, size, is_named)
+    size = inode = 0
+    with contextlib.suppress(OSError):
+        status = os.stat(path)
+        size, inode = status.st_size, status.st_ino
+    return Found(os.path.abspath(path), path, below, size, is_named, inode)
 
 
 def walked(top: str, passed: list[Passed]) -> Iterator[tuple[os.DirEntry[str], str]]:

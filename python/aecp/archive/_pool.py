@@ -4,7 +4,6 @@ cluster."""
 from __future__ import annotations
 
 import asyncio
-import concurrent.futures
 import contextlib
 import ctypes
 import multiprocessing
@@ -86,7 +85,7 @@ def no_processes() -> Iterator[None]:
         raise
     except (OSError, NotImplementedError, RuntimeError) as error:
         text = reason(error, "")
-        raise Failed(f"no processes can be had: {text}; try --jobs 1") from None
+        raise Failed(f"no processes can be had: {text}; try --jobs 1, or a single file") from None
 
 
 @contextlib.contextmanager
@@ -149,7 +148,8 @@ class Processes:
                     yield done.pop(at)
                     at += 1
             # If a process has died, one of the lots that were begun is the cause: each is done
-            # again in a process of its own.
+            # again in a process of its own. Others may have been begun meanwhile.
+            work = getattr(work, "once_more", work)
             for i in [it for it in rest if it >= at and it not in done][: self.workers]:
                 done[i] = self.alone(work, lots[i])
             while at in done:
@@ -172,9 +172,9 @@ class Processes:
             for i, future in zip(rest, futures):
                 if is_done(future):
                     done[i] = future.result()
-            # The queue is in order, so the lots that the killed processes had begun are the first
-            # ones without a result.
-            for i in [it for it in rest if it not in done][: self.workers]:
+            # The executor's queue is in order, and has room for one lot more than processes: what
+            # the killed processes had begun is among the first lots without a result.
+            for i in [it for it in rest if it not in done][: 2 * self.workers + 1]:
                 self.clean(lots[i])
             if not isinstance(error, BrokenProcessPool):
                 raise
@@ -276,14 +276,19 @@ def pool_of(
 
 
 class Deal(Generic[T, R]):
-    """One piece of work on many items: what is done with a lot, and the result of an item whose
-    process died."""
+    """One piece of work on many items: what is done with an item, the result of an item whose
+    process died, and what is done instead of the work after a process has died."""
 
-    def __init__(self, work: Callable[[T], R], died: R) -> None:
-        self.work, self.died = work, died
+    def __init__(self, work: Callable[[T], R], died: R, again: Callable[[T], R]) -> None:
+        self.work, self.died, self.again = work, died, again
 
     def __call__(self, lot: list[T]) -> list[R]:
         return [self.work(item) for item in lot]
+
+    @property
+    def once_more(self) -> Deal[T, R]:
+        """What is done after a process has died."""
+        return Deal(self.again, self.died, self.again)
 
     def results(
         self, pool: Pool, items: Sequence[T], sizes: Sequence[int]
@@ -293,7 +298,7 @@ class Deal(Generic[T, R]):
         for lot, results in zip(lots, pool.results(self, lots)):
             if results is None and len(lot) > 1:
                 singles = [[item] for item in lot]
-                for item, result in zip(lot, pool.results(self, singles)):
+                for item, result in zip(lot, pool.results(self.once_more, singles)):
                     yield item, self.died if result is None else result[0]
             else:
                 yield from zip(lot, [self.died] * len(lot) if results is None else results)

@@ -30,7 +30,7 @@ from aecp.archive._form import Refused
 from aecp.archive._headers import layout_of
 from aecp.archive._headers import options_of as dtype_options
 from aecp.archive._originals import original
-from aecp.archive._outcomes import Outcome
+from aecp.archive._outcomes import Outcome, Unchanged
 from aecp.archive._paths import STREAM, Found, Passed, kept_files, originals
 from aecp.archive._pool import Failed
 
@@ -222,7 +222,7 @@ def changed(
     passed: list[Passed] = []
     found = list(kept_files(paths, passed))
     status = say_passed(console, passed)
-    for it, outcome in dealt(asked, console, work, found):
+    for it, outcome in dealt(asked, console, work, found, Unchanged(work)):
         if outcome.kind == "refused":
             status = console.complain(f"{shown(it.name)}: {outcome.said}")
         else:
