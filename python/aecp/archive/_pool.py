@@ -6,6 +6,7 @@ from __future__ import annotations
 import asyncio
 import contextlib
 import ctypes
+import logging
 import multiprocessing
 import os
 import signal
@@ -208,6 +209,8 @@ class Cluster:
             import distributed
         except ImportError:
             raise Failed("--dask needs the Python module distributed") from None
+        for name in ("asyncio", "distributed"):  # each failure is told by a line of our own
+            logging.getLogger(name).setLevel(logging.CRITICAL)
         try:
             connect: Any = distributed.Client
             self.client: Any = connect(address, timeout=20, set_as_default=False)
@@ -225,8 +228,10 @@ class Cluster:
             for future in futures:
                 yield self.result(future)
         finally:
-            with contextlib.suppress(*FAULTS):
-                self.client.cancel([it for it in futures if not it.done()])
+            left = [it for it in futures if not it.done()]
+            if left:
+                with contextlib.suppress(*FAULTS):
+                    self.client.cancel(left)
 
     def result(self, future: Any) -> Any:
         """Returns the result of a future, or None if the workers that worked on it died. Raises
