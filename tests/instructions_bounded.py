@@ -60,19 +60,19 @@ INPUTS = {
 MEASURED = {
     ("detector", 8, 128): (48.6, 42.4),
     ("detector", 16, 128): (38.8, 34.6),
-    ("detector", 64, 128): (36.4, 37.2),
-    ("detector", 8, 2): (49.4, 43.5),
-    ("detector", 8, 1): (50.6, 47.0),
-    ("zeros", 8, 128): (19.3, 6.9),
-    ("zeros", 8, 8): (20.1, 10.2),
-    ("zeros", 8, 2): (22.8, 15.5),
-    ("zeros", 8, 1): (26.5, 25.2),
-    ("patches", 8, 1): (38.3, 44.3),
-    ("walk", 16, 128): (44.2, 48.0),
+    ("detector", 64, 128): (36.4, 36.7),
+    ("detector", 8, 2): (49.4, 43.8),
+    ("detector", 8, 1): (50.6, 47.4),
+    ("zeros", 8, 128): (19.3, 7.0),
+    ("zeros", 8, 8): (20.1, 10.3),
+    ("zeros", 8, 2): (22.8, 15.6),
+    ("zeros", 8, 1): (26.5, 25.3),
+    ("patches", 8, 1): (38.3, 45.6),
+    ("walk", 16, 128): (44.2, 45.9),
     ("ramp", 8, 128): (47.7, 42.0),
-    ("mask", 8, 2): (47.6, 40.8),
+    ("mask", 8, 2): (47.7, 39.6),
     ("mask", 16, 128): (44.2, 29.8),
-    ("mask", 64, 128): (40.0, 28.4),
+    ("mask", 64, 128): (40.0, 28.2),
     ("residues", 8, 128): (54.4, 41.2),
     ("noise without prediction", 8, 128): (41.3, 26.0),
     ("noise without prediction", 16, 128): (30.9, 21.2),
@@ -80,10 +80,10 @@ MEASURED = {
 
 # The kind of samples, J and r; and the branches of a block that are mispredicted in coding.
 MISPREDICTED = {
-    ("detector", 8, 128): 0.47,
-    ("detector", 16, 128): 1.19,
-    ("detector", 64, 128): 8.70,
-    ("detector", 8, 2): 0.66,
+    ("detector", 8, 128): 0.46,
+    ("detector", 16, 128): 1.18,
+    ("detector", 64, 128): 8.71,
+    ("detector", 8, 2): 0.65,
 }
 
 
