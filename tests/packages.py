@@ -30,6 +30,7 @@ from lib.program import TOP, Tally
 sys.path.insert(0, os.path.join(TOP, "packaging"))
 
 import elf
+from lib import package_debs
 from lib import package_modules
 from lib import package_roots
 import proved
@@ -102,6 +103,19 @@ def copied_checkout(folder):
     (shutil.copytree if os.path.isdir(git) else shutil.copy2)(git, os.path.join(folder, ".git"))
 
 
+def try_python_build(checkout, made, folder, tally):
+    """Checks that `python3 -m build` in a checkout makes the wheel that `make dist` makes, without the file PROVED."""
+    words = [python.builder(), "-m", "build", "--no-isolation", "--outdir", folder, os.path.join(checkout, "bindings/python")]
+    done = subprocess.run(words, capture_output=True, text=True)
+    tally.holds(done.returncode == 0, f"python3 -m build: {done.stdout[-1000:]}{done.stderr[-1000:]}")
+    wheel = next(path for name, path in made.items() if name.endswith(".whl"))
+    built = os.path.join(folder, os.path.basename(wheel))
+    tally.holds(os.path.exists(built), f"python3 -m build makes no {os.path.basename(wheel)}")
+    if os.path.exists(built):
+        with zipfile.ZipFile(wheel) as one, zipfile.ZipFile(built) as other:
+            tally.check("the files of python3 -m build", sorted({*one.namelist()} - {"aecp/PROVED"}), sorted(other.namelist()))
+
+
 def try_builds(made, folder, tally):
     """Checks that a build in another folder writes the same bytes, and that no binary contains a path of this machine."""
     other = os.path.join(folder, "elsewhere", "checkout")
@@ -110,6 +124,7 @@ def try_builds(made, folder, tally):
     tally.check("the names of a second build", sorted(again), sorted(made))
     for name in sorted(made):
         tally.holds(data_of(made[name]) == data_of(again.get(name, made[name])), f"a second build of {name} has other bytes")
+    try_python_build(other, made, os.path.join(folder, "elsewhere", "made"), tally)
     for name in BINARIES:
         found = re.findall(rb"/(?:tmp|home|root|work)/[\w./-]+|" + re.escape(TOP.encode()), data_of(os.path.join(TOP, "bin", name)))
         tally.check(f"paths of this machine in bin/{name}", found, [])
@@ -132,12 +147,16 @@ def try_notices(made, tally):
     text = stage.notices(TOP).decode()
     for name in ("byteorder", "clap", "smallvec", "strsim", "thiserror", "\nTHE SOFTWARE IS PROVIDED", "\n\nPermission is hereby granted"):
         tally.holds(name in text, f"the notices lack {name!r}")
-    tally.check("lines of the notices that begin with a blank", re.findall(r"(?m)^[ .].*", text), [])
+    with open(os.path.join(TOP, "debian/copyright"), encoding="utf-8") as file:
+        in_debian = re.sub(r"(?m)^ \.?", "", file.read())
+    for part in text.split("\n\n", 1):
+        tally.holds(part.strip() in in_debian, f"debian/copyright lacks a part of NOTICES: {part[:60]}")
     top = f"aec-{version()}-x86_64-linux"
     with tarfile.open(made[top + ".tar.gz"]) as archive:
         for place in ("NOTICES", "share/doc/aec/NOTICES"):
             tally.check(f"{place} of the tarball", archive.extractfile(f"{top}/{place}").read().decode(), text)
     with zipfile.ZipFile(next(path for name, path in made.items() if name.endswith(".whl"))) as archive:
+        tally.holds("aecp/PROVED" in archive.namelist(), "the wheel has no PROVED")
         tally.check("NOTICES of the wheel", archive.read(f"aecp-{version()}.dist-info/NOTICES").decode(), text)
 
 
@@ -310,13 +329,6 @@ def try_link(root, deb, last, tally):
         tally.check(f"the command aec-proved on {level}", root.run("readlink -f /usr/bin/aec-proved"), (0, wanted))
 
 
-def try_lintian(made, tally):
-    if tally.has("lintian", "lintian on the Debian packages"):
-        debs = sorted(path for name, path in made.items() if name.endswith(".deb"))
-        done = subprocess.run(["lintian", "--fail-on", "error,warning", "--tag-display-limit", "0", *debs], capture_output=True, text=True)
-        tally.check("lintian", (done.returncode, done.stdout), (0, ""))
-
-
 def try_versions(made, tally):
     """Checks that each package has the version of the file VERSION, in its name and inside."""
     for name in made:
@@ -340,11 +352,12 @@ def main():
         try_links_again(tally)
         try_wheel_libraries(made, tally)
         try_symbols(made, tally)
-        try_lintian(made, tally)
+        package_debs.try_lintian(made, tally)
         root = package_roots.Root(folder)
         print(f"installed in {root.kind}, {time.monotonic() - begun:.0f} s after the start", flush=True)
         try_tarball(made, root, folder, tally)
         try_debs(made, root, folder, tally)
+        package_debs.try_apt(made, root, tally)
         package_modules.try_make(os.path.join(folder, "made"), tally)
         package_modules.try_wheel(next(path for name, path in made.items() if name.endswith(".whl")), folder, tally)
         package_modules.try_crate(os.path.join(folder, f"aec-{version()}-x86_64-linux"), folder, tally)

@@ -25,6 +25,7 @@ PLACES = [
     ("bindings/python/aecp/library.py", "\nVERSION = NUMBER  # POINTS, as AECP_VERSION of aecp.h\n"),
     ("bindings/rust/aecp/Cargo.toml", '\nversion = "POINTS"\n'),
     ("bindings/rust/aecp/src/raw.rs", "pub const VERSION: u32 = NUMBER;\n"),
+    ("debian/changelog", "aec-proved (POINTS) unstable; urgency=medium\n"),
     ("CITATION.cff", "\nversion: POINTS\n"),
     ("bindings/c/aecp.3", '.TH AECP 3 "" "aecp POINTS"\n'),
 ]
