@@ -144,8 +144,8 @@ FILTERS = ["HDF5 bitshuffle + LZ4", "HDF5 shuffle + deflate"]
 
 
 def by_hdf5(name, kind, samples, folder):
-    """Writes samples to an HDF5 file with a filter, a chunk for each picture, and reads them again, in this process. Returns the file's bytes
-    and the processor seconds of both. Returns None if h5py or the filter isn't installed."""
+    """Writes samples to an HDF5 file with a filter, a chunk for each picture, and reads them again, in this process. Returns the
+    file's bytes and the processor seconds of both. Returns None if h5py or the filter isn't installed."""
     try:
         import h5py
         import hdf5plugin

@@ -67,7 +67,8 @@ def by_program(coder, kind, samples, folder, runs):
     head, stored = coder.form(kind, samples)
     with open(source, "wb") as file:
         file.write(head + stored)
-    seconds = least_seconds(named(coding, source, coded), coded, folder, runs), least_seconds(named(decoding, coded, back), back, folder, runs)
+    jobs = (named(coding, source, coded), coded), (named(decoding, coded, back), back)
+    seconds = [least_seconds(command, dest, folder, runs) for command, dest in jobs]
     with open(back, "rb") as file:
         if not file.read().endswith(stored):
             raise SystemExit(f"{coder.name} doesn't give the samples back")
@@ -100,27 +101,30 @@ def row(*cells):
 
 
 def sizes(told, names):
-    """Prints the table of bytes, and returns nothing."""
+    """Prints the table of bytes."""
     row(f"Bytes of {MIBS} MiB", *(kind.name for kind in KINDS))
     row(*["---"] * (1 + len(KINDS)))
     for name in names:
         row(name, *(f"{told[name, kind.name].size:,}" if told[name, kind.name] else "-" for kind in KINDS))
 
 
-def speeds(told, counts, names, theirs):
-    """Prints for each kind of pictures the table of speeds and instructions."""
-    for kind in filter(lambda kind: kind.pictures, KINDS):
-        print()
-        ways = "coding, MB/s | / libaec | instructions a sample | decoding, MB/s | / libaec | instructions a sample"
-        row(kind.name.capitalize(), ways)
-        row(*["---"] * 7)
-        base = told[theirs, kind.name]
-        for name in filter(lambda name: told[name, kind.name], names):
-            one, count, cells = told[name, kind.name], counts.get((name, kind.name)), []
-            for way, (seconds, of_theirs) in enumerate(zip(one[1:], base[1:])):
-                speed = MIBS * 1.048576 / seconds
-                cells += [f"{speed:.0f}" if speed >= 10 else f"{speed:.1f}", f"{of_theirs / seconds:.2g}", f"{count[way]:.0f}" if count else "-"]
-            row(name, *cells)
+def speed_cells(seconds, of_theirs, count):
+    """Returns the cells of one way: the speed, the speed over libaec's, the instructions."""
+    speed, count = MIBS * 1.048576 / seconds, f"{count:.0f}" if count else "-"
+    return [f"{speed:.0f}" if speed >= 10 else f"{speed:.1f}", f"{of_theirs / seconds:.2g}", count]
+
+
+def speeds(kind, told, counts, names, theirs):
+    """Prints the table of speeds and instructions for a kind of samples."""
+    ways = [f"{way}, MB/s | times libaec | instructions" for way in ("Coding", "decoding")]
+    print(f"\n### Speed, {kind.name}\n")
+    row("Coder", *ways)
+    row(*["---"] * 7)
+    for name in filter(lambda name: told[name, kind.name], names):
+        _, *seconds = told[name, kind.name]
+        both = counts.get((name, kind.name)) or [None, None]
+        ways = zip(seconds, told[theirs, kind.name][1:], both)
+        row(name, *(cell for way in ways for cell in speed_cells(*way)))
 
 
 def main():
@@ -143,7 +147,8 @@ def main():
                 }
     sizes(told, names)
     if not only_sizes:
-        speeds(told, counts, names, all_programs[2].name)
+        for kind in filter(lambda kind: kind.pictures, KINDS):
+            speeds(kind, told, counts, names, all_programs[2].name)
 
 
 if __name__ == "__main__":
