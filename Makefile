@@ -11,7 +11,7 @@ VERSION := $(shell cat VERSION)
 PYTHON ?= python3
 # Only as an argument of make: some systems have an environment variable CPU, with other values.
 ifneq ($(origin CPU),command line)
-CPU := $(shell AECP_LEVEL= $(PYTHON) python/aecp/levels.py)
+CPU := $(shell AECP_LEVEL= $(PYTHON) bindings/python/aecp/levels.py)
 else ifeq ($(filter x86-64-v2 x86-64-v3,$(CPU)),)
 $(error CPU is x86-64-v2 or x86-64-v3, not $(CPU))
 endif
@@ -59,7 +59,7 @@ example: all
 FILE ?= examples/durations.raw
 OPTIONS ?= -n 16
 sizes:
-	@PYTHONPATH=python python3 -m aecp fit $(FILE) $(OPTIONS)
+	@PYTHONPATH=bindings/python python3 -m aecp fit $(FILE) $(OPTIONS)
 
 # Checks the contracts and the generated pages, runs the gate (`rt ci`), then tests the program that the gate has built.
 test:
@@ -86,7 +86,7 @@ theorem:
 # Prints the contract of each public function, its must-fail edits and its tests. make contracts offset: only those with this word.
 .PHONY: contracts
 contracts:
-	@python3 tools/contracts.py $(WORDS)
+	@python3 checks/contracts.py $(WORDS)
 
 # Prints the functions that are called for one sample, with their files, and the mean number of clauses of a function in each crate.
 .PHONY: walk
@@ -107,7 +107,7 @@ figures:
 # only those of the crates that differ from this commit. For each crate whose bodies were all refused it leaves a record in bin/.
 CHANGED ?=
 wrong-bodies: bin/aec
-	python3 tests/wrong_bodies.py $(if $(CHANGED),--changed $(CHANGED))
+	python3 checks/wrong_bodies.py $(if $(CHANGED),--changed $(CHANGED))
 
 # Prints tables of time and memory beside libaec's client, and of what edits cost. Tests nothing.
 bench: bin/aec
@@ -179,26 +179,26 @@ install-c install-python: $(filter library,$(MAKECMDGOALS))
 install-c:
 	@test -e bin/libaecp.a -a -e bin/libaecp.so || { echo "there is no bin/libaecp.a or no bin/libaecp.so: run make library first" >&2; exit 1; }
 	install -d $(DESTDIR)$(PREFIX)/include $(DESTDIR)$(LIBDIR)/pkgconfig
-	install -m 644 include/aecp.h $(DESTDIR)$(PREFIX)/include/aecp.h
+	install -m 644 bindings/c/aecp.h $(DESTDIR)$(PREFIX)/include/aecp.h
 	install -m 644 bin/libaecp.a $(DESTDIR)$(LIBDIR)/libaecp.a
 	install -m 755 bin/libaecp.so $(DESTDIR)$(LIBDIR)/libaecp.so.0
 	ln -sf libaecp.so.0 $(DESTDIR)$(LIBDIR)/libaecp.so
 	if [ -e bin/x86-64-v3/libaecp.so ]; then \
 	    install -D -m 755 bin/x86-64-v3/libaecp.so $(DESTDIR)$(LIBDIR)/$(hwcaps)/libaecp.so.0; \
 	else rm -f $(DESTDIR)$(LIBDIR)/$(hwcaps)/libaecp.so.0; fi
-	sed 's|@PREFIX@|$(PC_PREFIX)|; s|@LIBDIR@|$(patsubst $(PREFIX)/%,$${prefix}/%,$(LIBDIR))|; s|@VERSION@|$(VERSION)|' include/aecp.pc.in \
+	sed 's|@PREFIX@|$(PC_PREFIX)|; s|@LIBDIR@|$(patsubst $(PREFIX)/%,$${prefix}/%,$(LIBDIR))|; s|@VERSION@|$(VERSION)|' bindings/c/aecp.pc.in \
 	    > $(DESTDIR)$(LIBDIR)/pkgconfig/aecp.pc
 	install -d $(DESTDIR)$(LIBDIR)/cmake/aecp $(share)/man/man3
 	for file in aecpConfig aecpConfigVersion; do \
-	    sed 's|@VERSION@|$(VERSION)|' include/$$file.cmake.in > $(DESTDIR)$(LIBDIR)/cmake/aecp/$$file.cmake || exit 1; done
-	install -m 644 man/aecp.3 $(share)/man/man3/aecp.3
+	    sed 's|@VERSION@|$(VERSION)|' bindings/c/$$file.cmake.in > $(DESTDIR)$(LIBDIR)/cmake/aecp/$$file.cmake || exit 1; done
+	install -m 644 bindings/c/aecp.3 $(share)/man/man3/aecp.3
 
 install-python:
 	@test -e bin/libaecp.so || { echo "there is no bin/libaecp.so: run make library first" >&2; exit 1; }
 	install -d $(DESTDIR)$(PREFIX)/bin $(share)/man/man1 $(DESTDIR)$(PYTHON_DIR)/aecp/archive $(info)
 	install -d $(share)/bash-completion/completions $(share)/zsh/site-functions
-	install -m 644 python/aecp/*.py python/aecp/py.typed $(DESTDIR)$(PYTHON_DIR)/aecp
-	install -m 644 python/aecp/archive/*.py $(DESTDIR)$(PYTHON_DIR)/aecp/archive
+	install -m 644 bindings/python/aecp/*.py bindings/python/aecp/py.typed $(DESTDIR)$(PYTHON_DIR)/aecp
+	install -m 644 bindings/python/aecp/archive/*.py $(DESTDIR)$(PYTHON_DIR)/aecp/archive
 	install -m 755 bin/libaecp.so $(DESTDIR)$(PYTHON_DIR)/aecp/libaecp.so
 	if [ -e bin/x86-64-v3/libaecp.so ]; then \
 	    install -D -m 755 bin/x86-64-v3/libaecp.so $(DESTDIR)$(PYTHON_DIR)/aecp/x86-64-v3/libaecp.so; \
@@ -209,7 +209,7 @@ install-python:
 	install -m 644 completions/aecp.bash $(share)/bash-completion/completions/aecp
 	install -m 644 completions/_aecp $(share)/zsh/site-functions/_aecp
 	printf 'Metadata-Version: 2.1\nName: aecp\nVersion: $(VERSION)\n' > $(info)/METADATA
-	install -m 644 python/entry_points.txt $(info)/entry_points.txt
+	install -m 644 bindings/python/entry_points.txt $(info)/entry_points.txt
 
 # Removes what `make install-library` has installed below the same PREFIX, LIBDIR and PYTHON_DIR.
 uninstall-library:

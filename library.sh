@@ -25,7 +25,7 @@ fi
 
 # One object of the archive and of the kit's calls of malloc, realloc and free: what the exports reach, with no names for others
 # but theirs.
-roots=$(sed -n 's/.*\(aecp_[a-z_]*\)(.*/-u \1/p' include/aecp.h | sort -u)
+roots=$(sed -n 's/.*\(aecp_[a-z_]*\)(.*/-u \1/p' bindings/c/aecp.h | sort -u)
 work=$(mktemp -d)
 trap 'rm -rf "$work"' EXIT
 # shellcheck disable=SC2086

@@ -48,7 +48,7 @@ def library(top, folder, prefix, libdir, pc_prefix):
 
 def level_function(top):
     """Returns the shell function of level.sh, with the flags that the Python module has."""
-    flags = runpy.run_path(os.path.join(top, "python/aecp/levels.py"))["FLAGS"]
+    flags = runpy.run_path(os.path.join(top, "bindings/python/aecp/levels.py"))["FLAGS"]
     return read(os.path.join(top, "packaging/level.sh")).decode().replace("@FLAGS@", " ".join(flags))
 
 

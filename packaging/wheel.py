@@ -94,7 +94,7 @@ def build(top, folder, version, moment, proved):
     libraries = {name: os.path.join(top, "bin", name) for name in PLACES}
     for library in libraries.values():
         check_library(library)
-    source = os.path.join(top, "python")
+    source = os.path.join(top, "bindings", "python")
     project = data_of(os.path.join(source, "pyproject.toml")).decode()
     metadata = METADATA.format(
         version=version,

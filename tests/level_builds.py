@@ -23,10 +23,10 @@ import tempfile
 
 sys.dont_write_bytecode = True
 
-from program import TOP, Tally
+from lib.program import TOP, Tally
 
 PLAIN, V3 = "x86-64-v2", "x86-64-v3"
-FILES = ["Makefile", "VERSION", "LICENSE", "build.sh", "library.sh", "packaging", "tools", "python", "include", "man", "completions"]
+FILES = ["Makefile", "VERSION", "LICENSE", "build.sh", "library.sh", "packaging", "tools", "bindings", "man", "completions"]
 CRATES = "low:\naec_c staticlib: low byteorder\nmid: low\naec: mid\n"
 TOOLS = ("make", "cc", "ld", "objcopy", "ar")
 # Notes the call; for `run` and `lib` writes the file that is asked for, as the variables FAKE_.. say.
@@ -85,7 +85,7 @@ class Checkout:
         self.write("README.md", "")
         self.write("../bin/rt", RT)
         os.chmod(os.path.join(folder, "bin/rt"), 0o755)
-        shutil.copy(os.path.join(TOP, "include/aecp.h"), folder)
+        shutil.copy(os.path.join(TOP, "bindings/c/aecp.h"), folder)
         subprocess.run(["ar", "rcs", os.path.join(folder, "c/liblibc_c.a")], check=True)
 
     def path(self, name):

@@ -16,7 +16,7 @@ import subprocess
 import sys
 import tempfile
 
-from program import TOP, Tally
+from lib.program import TOP, Tally
 
 PROGRAM = """
 #include <aecp.h>

@@ -25,13 +25,13 @@ import zipfile
 
 sys.dont_write_bytecode = True
 
-from program import TOP, Tally
+from lib.program import TOP, Tally
 
 sys.path.insert(0, os.path.join(TOP, "packaging"))
 
 import elf
-import package_modules
-import package_roots
+from lib import package_modules
+from lib import package_roots
 import proved
 import stage
 import wheel
@@ -39,7 +39,7 @@ import wheel
 DIST = os.path.join(TOP, "dist")
 LIB = "usr/lib/x86_64-linux-gnu"
 BINARIES = ("aec", "libaecp.a", "libaecp.so", "x86-64-v3/aec", "x86-64-v3/libaecp.so")
-LEVELS = runpy.run_path(os.path.join(TOP, "python/aecp/levels.py"))
+LEVELS = runpy.run_path(os.path.join(TOP, "bindings/python/aecp/levels.py"))
 PLAIN, V3 = LEVELS["PLAIN"], LEVELS["V3"]
 # Flags in /proc/cpuinfo of a processor of each level.
 FLAGS = {PLAIN: "sse4_2 popcnt", V3: " ".join(["sse4_2", "popcnt", *LEVELS["FLAGS"]])}
