@@ -11,6 +11,7 @@ passed. Ends with status 1 if one failed.
 """
 
 import os
+import re
 import shutil
 import subprocess
 import sys
@@ -36,7 +37,24 @@ cmake_minimum_required(VERSION 3.10)
 project(uses_aecp C)
 find_package(aecp {asked} CONFIG REQUIRED)
 add_executable(uses_aecp main.c)
-target_link_libraries(uses_aecp aecp::aecp)
+target_link_libraries(uses_aecp {target})
+"""
+TARGETS = ("aecp::aecp", "aecp::static")
+
+# Prints whether find_package finds what is asked for.
+ASKING = """
+cmake_minimum_required(VERSION 3.19)
+project(asks C)
+set(out ${CMAKE_CURRENT_BINARY_DIR})
+foreach(asked QUESTIONS)
+  string(REPLACE " " ";" words "${asked}")
+  find_package(aecp ${words} CONFIG QUIET)
+  message(STATUS "asked ${asked}: ${aecp_FOUND}")
+  unset(aecp_DIR CACHE)
+  unset(aecp_FOUND)
+  unset(aecp_shared_FOUND)
+  unset(aecp_static_FOUND)
+endforeach()
 """
 
 
@@ -59,12 +77,12 @@ def later(version):
 
 
 def try_cmake(prefix, version, folder, tally):
-    """Builds a project that asks `find_package` for the version, and one that asks for a later version."""
+    """Builds projects that ask `find_package` for the version, with each target, and one that asks for a later version."""
     source, built = os.path.join(folder, "source"), os.path.join(folder, "cmake")
     os.makedirs(source)
-    for asked, is_there in ((version, True), (later(version), False)):
+    for asked, target, is_there in (*((version, it, True) for it in TARGETS), (later(version), TARGETS[0], False)):
         with open(os.path.join(source, "CMakeLists.txt"), "w", encoding="utf-8") as file:
-            file.write(PROJECT.format(asked=asked))
+            file.write(PROJECT.format(asked=asked, target=target))
         with open(os.path.join(source, "main.c"), "w", encoding="utf-8") as file:
             file.write(PROGRAM)
         shutil.rmtree(built, ignore_errors=True)
@@ -73,14 +91,36 @@ def try_cmake(prefix, version, folder, tally):
         if is_there:
             status, said = ran("cmake", "--build", built)
             tally.holds(status == 0, f"cmake --build: {said[-800:]}")
-            tally.check("the program that CMake builds", ran(os.path.join(built, "uses_aecp")), (0, ""))
+            program = os.path.join(built, "uses_aecp")
+            tally.check(f"the program that CMake builds with {target}", ran(program), (0, ""))
+            is_shared = "libaecp.so" in ran("ldd", program)[1]
+            tally.check(f"whether the program with {target} needs libaecp.so.1", is_shared, target == TARGETS[0])
+
+
+def try_asking(prefix, version, folder, tally):
+    """Asks `find_package` for versions, ranges and components."""
+    major, minor, _ = map(int, version.split("."))
+    questions = {
+        **dict.fromkeys([f"{major}", f"{major}.{minor}", version, f"{version} EXACT", f"{major}...<{major + 1}"], True),
+        **dict.fromkeys([f"{major}.{minor + 1}", f"{major + 1}", f"{major - 1}"], False),
+        **dict.fromkeys([f"{major}...{major + 1}", f"{major + 1}...99"], False),
+        **dict.fromkeys(["COMPONENTS shared", "COMPONENTS static", "COMPONENTS shared static"], True),
+        **{"COMPONENTS other": False, "OPTIONAL_COMPONENTS other": True},
+    }
+    source, built = os.path.join(folder, "asking"), os.path.join(folder, "asked")
+    os.makedirs(source)
+    with open(os.path.join(source, "CMakeLists.txt"), "w", encoding="utf-8") as file:
+        file.write(ASKING.replace("QUESTIONS", " ".join(f'"{it}"' for it in questions)))
+    said = ran("cmake", "-S", source, "-B", built, f"-DCMAKE_PREFIX_PATH={prefix}")[1]
+    found = {asked: is_found in ("1", "TRUE") for asked, is_found in re.findall(r"asked (.*): (\w*)\n", said)}
+    tally.check("what find_package finds", found, questions)
 
 
 def try_cmake_twice(prefix, lib, version, folder, tally):
     """Configures a project with an installation, then with a copy of it, then with the copy without its header."""
     source, built, other = (os.path.join(folder, name) for name in ("source", "twice", "other"))
     with open(os.path.join(source, "CMakeLists.txt"), "w", encoding="utf-8") as file:
-        file.write(PROJECT.format(asked=version))
+        file.write(PROJECT.format(asked=version, target=TARGETS[0]))
     shutil.copytree(prefix, other, symlinks=True)
     for place in (prefix, other):
         words = [f"-Daecp_DIR={place}/{lib}/cmake/aecp", "-DCMAKE_EXPORT_COMPILE_COMMANDS=ON"]
@@ -116,6 +156,7 @@ def try_install(lib, version, tally):
         tally.holds(status == 0, f"make install-c into {lib}: {said}")
         if has("cmake", "find_package"):
             try_cmake(prefix, version, folder, tally)
+            try_asking(prefix, version, folder, tally)
             try_cmake_twice(prefix, lib, version, folder, tally)
         if has("pkg-config", "aecp.pc"):
             try_pkg_config(os.path.join(prefix, lib), version, folder, tally)

@@ -21,6 +21,7 @@ PLACES = [
     ("crates/aec_c/src/exports.rt", "aecp_version() -> u32\n    ensures { result ≡ NUMBER }\n{\n    NUMBER\n}"),
     ("bindings/c/aecp.h", "The version of this header, POINTS:"),
     ("bindings/c/aecp.h", "#define AECP_VERSION NUMBER\n"),
+    ("bindings/c/aecp.h", '#define AECP_VERSION_STRING "POINTS"\n'),
     ("bindings/python/aecp/__init__.py", '__version__ = "POINTS"\n'),
     ("bindings/python/aecp/library.py", "\nVERSION = NUMBER  # POINTS, as AECP_VERSION of aecp.h\n"),
     ("bindings/rust/aecp/Cargo.toml", '\nversion = "POINTS"\n'),
