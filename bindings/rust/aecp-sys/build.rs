@@ -9,8 +9,11 @@ const NAME: &str = "libaecp.a";
 
 fn main() {
     println!("cargo:rerun-if-changed=build.rs");
-    for name in ["AECP_LIB_DIR", "PKG_CONFIG", "PKG_CONFIG_PATH"] {
+    for name in ["AECP_LIB_DIR", "PKG_CONFIG", "PKG_CONFIG_PATH", "DOCS_RS"] {
         println!("cargo:rerun-if-env-changed={name}");
+    }
+    if env::var_os("DOCS_RS").is_some() {
+        return; // documentation links nothing
     }
     match folder() {
         Ok(folder) => {
@@ -19,7 +22,7 @@ fn main() {
             println!("cargo:rustc-link-lib=static=aecp");
         }
         Err(why) => {
-            eprintln!("aecp: {why}. Set AECP_LIB_DIR to the folder of {NAME}, or install aecp.pc.");
+            eprintln!("aecp-sys: {why}. Set AECP_LIB_DIR to the folder of {NAME}, or install aecp.pc.");
             process::exit(1);
         }
     }
