@@ -25,7 +25,7 @@ fi
 
 # One object of the archive and of the kit's calls of malloc, realloc and free: what the exports reach, with no names for others
 # but theirs.
-roots=$(sed -n 's/.*\(aecp_[a-z_]*\)(.*/-u \1/p' include/aecp.h | sort -u)
+roots=$(sed -n 's/.*\(aecp_[a-z_]*\)(.*/-u \1/p' bindings/c/aecp.h | sort -u)
 work=$(mktemp -d)
 trap 'rm -rf "$work"' EXIT
 # shellcheck disable=SC2086
@@ -33,4 +33,4 @@ ld -r --gc-sections $roots -o "$work/all.o" --whole-archive "${ARCHIVE:-$archive
 objcopy --wildcard --keep-global-symbol='aecp_*' "$work/all.o" "$work/aecp.o"
 rm -f "$bin/libaecp.a"
 ar rcs "$bin/libaecp.a" "$work/aecp.o"
-${CC:-cc} -shared -o "$bin/libaecp.so" "$work/aecp.o" -Wl,-soname,libaecp.so.0 -Wl,-z,defs
+${CC:-cc} -shared -o "$bin/libaecp.so" "$work/aecp.o" -Wl,-soname,libaecp.so.1 -Wl,-z,defs

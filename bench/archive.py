@@ -188,8 +188,8 @@ def main() -> None:
     asked.add_argument("--only", choices=TABLES)
     words = asked.parse_args()
     os.environ["AECP_LIBRARY"] = os.path.abspath(os.path.join(words.library, "libaecp.so"))
-    os.environ["PYTHONPATH"] = str(TOP / "python")
-    sys.path.insert(0, str(TOP / "python"))
+    os.environ["PYTHONPATH"] = str(TOP / "bindings" / "python")
+    sys.path.insert(0, str(TOP / "bindings" / "python"))
     with tempfile.TemporaryDirectory(dir=words.place) as place:
         for name, table in TABLES.items():
             if words.only in (None, name):

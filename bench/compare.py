@@ -1,91 +1,154 @@
 #!/usr/bin/env python3
-"""Compares sizes and times with other compressors, for docs/SPEED.md: compare.py PATH_OF_AEC
+"""Compares sizes and speeds with other compressors, for bench/tables.md: compare.py PATH_OF_AEC [--sizes]
 
-Compresses four kinds of generated samples, 8 MiB each, and decompresses them again, with the program at PATH_OF_AEC, libaec's
-client (named by the environment variable LIBAEC, else /usr/bin/aec), flac, zstd, xz and gzip. Prints a table in Markdown: the
-compressed bytes in percent of the samples' bytes, and the processor seconds of both ways, the least of three runs. A compressor
-that isn't installed, or can't take samples of this width, has a dash. Fails if a command fails, or if decompressing yields other
-samples.
+Compresses the kinds of samples of coders.py, 8 MiB each, with each of its coders that is installed, and decompresses them again. 'ours' is
+the program at PATH_OF_AEC, libaec's client the program that the environment variable LIBAEC names, else /usr/bin/aec. Prints in Markdown:
+- for each kind the bytes of the compressed file;
+- for each kind of pictures with photon noise (photons.py) the MB of samples in a second of processor time, user and system, the least time
+  of up to five runs; these divided by those of libaec's client; and the instructions for each sample of four pictures, counted by
+  callgrind, which other work on the machine doesn't change. Slow coders aren't counted.
+
+A coder that isn't installed, or can't take samples of this kind, has a dash. HDF5's filters run in this process, by h5py and hdf5plugin,
+and no program is started. With --sizes only the first table is printed, and each command runs once. Fails if a command fails, or if
+decompressing yields other samples.
 """
 
 import os
-import random
 import shutil
 import sys
 import tempfile
+import time
+from typing import NamedTuple
 
-from bench import detector, detector_12, run, walk, waves
+from bench import run
+from coders import FILTERS, KINDS, MIBS, PICTURE, by_hdf5, programs
+from instructions import counted
 
-SIZE = 8
-# Each kind of samples: its name, a function that returns one MiB of them for a random.Random, bits, and whether they are signed.
-KINDS = [
-    ("12-bit detector", detector_12, 12, False),
-    ("16-bit detector", detector, 16, False),
-    ("16-bit waves", waves, 16, True),
-    ("32-bit walk", walk, 32, True),
-]
-
-
-def sample_coder(path):
-    """Returns a function of bits and sign, which returns the start of a command of aec or libaec's client."""
-    return lambda bits, signed: [path, "-n", str(bits), *(["-s"] if signed else []), "-j", "16", "-r", "128"]
+# At most so many runs of one command, and none begun after so many seconds.
+RUNS, PATIENCE = 5, 4
+COUNTED = 4 * PICTURE
 
 
-def flac(bits, signed):
-    """Returns the start of a flac command for raw samples of 16 bits; samples of 12 bits in two bytes count as such. None above
-    16 bits: flac can't take those samples from four bytes."""
-    if bits > 16:
+class Told(NamedTuple):
+    """What one coder did with one kind of samples: bytes, seconds of coding and decoding."""
+
+    size: int
+    coding: float
+    decoding: float
+
+
+def named(words, origin, dest):
+    """Returns a command with the names of its two files."""
+    return [word.replace("FROM", origin).replace("TO", dest) for word in words]
+
+
+def files(coder, folder):
+    """Returns the paths of the file to code, of the coded one and of the decoded one. djxl wants an ending."""
+    ending = coder.form.__name__
+    return [os.path.join(folder, name) for name in (f"source.{ending}", "coded", f"back.{ending}")]
+
+
+def least_seconds(command, dest, folder, runs):
+    """Returns the least seconds of some runs of a command. Before each its output is removed, as fpack wants."""
+    told, begun = [], time.monotonic()
+    while len(told) < runs and (not told or time.monotonic() - begun < PATIENCE):
+        if os.path.exists(dest):
+            os.remove(dest)
+        told.append(run(command, folder)[0])
+    return min(told)
+
+
+def by_program(coder, kind, samples, folder, runs):
+    """Returns what a coder does with samples, or None if it isn't installed or doesn't take them."""
+    coding, decoding = coder.coding(kind), coder.decoding(kind)
+    if not coder.takes(kind) or not (shutil.which(coding[0]) and shutil.which(decoding[0])):
         return None
-    sign = "signed" if signed else "unsigned"
-    form = ["--force-raw-format", "--endian=little", f"--sign={sign}", "--channels=1", "--bps=16", "--sample-rate=44100"]
-    return ["flac", "-8", "-s", "-f", *form]
+    source, coded, back = files(coder, folder)
+    head, stored = coder.form(kind, samples)
+    with open(source, "wb") as file:
+        file.write(head + stored)
+    jobs = (named(coding, source, coded), coded), (named(decoding, coded, back), back)
+    seconds = [least_seconds(command, dest, folder, runs) for command, dest in jobs]
+    with open(back, "rb") as file:
+        if not file.read().endswith(stored):
+            raise SystemExit(f"{coder.name} doesn't give the samples back")
+    return Told(os.path.getsize(coded), *seconds)
 
 
-def commands(name, bits, signed, paths):
-    """Returns the two commands of a compressor that code RAW to CODED and decode CODED to BACK, or None."""
-    if name in ("aec", "libaec"):
-        words = sample_coder(paths[name])(bits, signed)
-        return [*words, "RAW", "CODED"], [*words, "-d", "CODED", "BACK"]
-    if name == "flac":
-        words = flac(bits, signed)
-        return words and ([*words, "-o", "CODED", "RAW"], ["flac", "-d", "-s", "-f", *words[4:7], "-o", "BACK", "CODED"])
-    shell = lambda words: ["sh", "-c", words]
-    return shell(f"{name} -c RAW > CODED"), shell(f"{name} -dc CODED > BACK")
+def by_filter(name, kind, samples, folder, runs):
+    """Returns what one of HDF5's filters does with samples, or None."""
+    told = [by_hdf5(name, kind, samples, folder) for _ in range(runs)]
+    return Told(told[0][0], min(one[1] for one in told), min(one[2] for one in told)) if all(told) else None
 
 
-def measured(pair, raw, folder):
-    """Returns the coded bytes in percent, and the seconds of coding and of decoding."""
-    paths = {word: os.path.join(folder, word.lower()) for word in ("RAW", "CODED", "BACK")}
-    with open(paths["RAW"], "wb") as file:
-        file.write(raw)
-    seconds = []
-    for command in pair:
-        words = []
-        for word in command:
-            for name, path in paths.items():
-                word = word.replace(name, path)
-            words.append(word)
-        seconds.append(min(run(words, folder)[0] for _ in range(3)))
-    with open(paths["BACK"], "rb") as file:
-        if file.read() != raw:
-            raise SystemExit(f"{pair[1][0]} doesn't give the samples back")
-    return 100 * os.path.getsize(paths["CODED"]) / len(raw), *seconds
+def instructions(coder, kind, samples, folder):
+    """Returns the instructions for a sample in coding and in decoding, or None for a slow coder."""
+    if coder.slow:
+        return None
+    source, coded, back = files(coder, folder)
+    with open(source, "wb") as file:
+        file.write(b"".join(coder.form(kind, samples[: COUNTED * kind.width])))
+    counts = []
+    for words, origin, dest in ((coder.coding(kind), source, coded), (coder.decoding(kind), coded, back)):
+        if os.path.exists(dest):
+            os.remove(dest)
+        counts.append(counted(named(words, origin, dest)) / COUNTED)
+    return counts
+
+
+def row(*cells):
+    print(f"| {' | '.join(cells)} |", flush=True)
+
+
+def sizes(told, names):
+    """Prints the table of bytes."""
+    row(f"Bytes of {MIBS} MiB", *(kind.name for kind in KINDS))
+    row(*["---"] * (1 + len(KINDS)))
+    for name in names:
+        row(name, *(f"{told[name, kind.name].size:,}" if told[name, kind.name] else "-" for kind in KINDS))
+
+
+def speed_cells(seconds, of_theirs, count):
+    """Returns the cells of one way: the speed, the speed over libaec's, the instructions."""
+    speed, count = MIBS * 1.048576 / seconds, f"{count:.0f}" if count else "-"
+    return [f"{speed:.0f}" if speed >= 10 else f"{speed:.1f}", f"{of_theirs / seconds:.2g}", count]
+
+
+def speeds(kind, told, counts, names, theirs):
+    """Prints the table of speeds and instructions for a kind of samples."""
+    ways = [f"{way}, MB/s | times libaec | instructions" for way in ("Coding", "decoding")]
+    print(f"\n### Speed, {kind.name}\n")
+    row("Coder", *ways)
+    row(*["---"] * 7)
+    for name in filter(lambda name: told[name, kind.name], names):
+        _, *seconds = told[name, kind.name]
+        both = counts.get((name, kind.name)) or [None, None]
+        ways = zip(seconds, told[theirs, kind.name][1:], both)
+        row(name, *(cell for way in ways for cell in speed_cells(*way)))
 
 
 def main():
-    paths = {"aec": os.path.abspath(sys.argv[1]), "libaec": os.environ.get("LIBAEC", "/usr/bin/aec")}
-    names = ["aec", "libaec", "flac", "zstd", "xz", "gzip"]
-    print("| Samples | " + " | ".join(f"{name}: % of the bytes, coding s, decoding s" for name in names) + " |")
-    print("|---" * (len(names) + 1) + "|")
+    only_sizes = "--sizes" in sys.argv[2:]
+    all_programs = programs(os.path.abspath(sys.argv[1]), os.environ.get("LIBAEC", "/usr/bin/aec"))
+    names, told, counts = [coder.name for coder in all_programs] + FILTERS, {}, {}
+    runs = 1 if only_sizes else RUNS
     with tempfile.TemporaryDirectory() as folder:
-        for kind, made, bits, signed in KINDS:
-            raw, cells = b"".join(made(random.Random(seed)) for seed in range(SIZE)), []
-            for name in names:
-                there = shutil.which(paths.get(name, name))
-                pair = commands(name, bits, signed, paths) if there else None
-                told = measured(pair, raw, folder) if pair else None
-                cells.append("{:.1f}, {:.2f}, {:.2f}".format(*told) if told else "-")
-            print(f"| {kind} | " + " | ".join(cells) + " |", flush=True)
+        for kind in KINDS:
+            samples = kind.made()
+            for coder in all_programs:
+                told[coder.name, kind.name] = by_program(coder, kind, samples, folder, runs if kind.pictures else 1)
+            for name in FILTERS:
+                told[name, kind.name] = by_filter(name, kind, samples, folder, runs)
+            if kind.pictures and not only_sizes:
+                counts |= {
+                    (coder.name, kind.name): instructions(coder, kind, samples, folder)
+                    for coder in all_programs
+                    if told[coder.name, kind.name]
+                }
+    sizes(told, names)
+    if not only_sizes:
+        for kind in filter(lambda kind: kind.pictures, KINDS):
+            speeds(kind, told, counts, names, all_programs[2].name)
 
 
 if __name__ == "__main__":

@@ -26,7 +26,7 @@ HERE = os.path.dirname(os.path.abspath(__file__))
 
 def built(folder, library):
     program = os.path.join(folder, "library")
-    words = ["cc", "-O2", "-I", os.path.join(HERE, "..", "include"), "-o", program, os.path.join(HERE, "library.c")]
+    words = ["cc", "-O2", "-I", os.path.join(HERE, "..", "bindings", "c"), "-o", program, os.path.join(HERE, "library.c")]
     subprocess.run([*words, os.path.join(library, "libaecp.a"), "-laec"], check=True)
     return program
 

@@ -25,7 +25,7 @@ def counts(library, sizes):
     found = {}
     with tempfile.TemporaryDirectory() as folder:
         program, out = os.path.join(folder, "small_calls"), os.path.join(folder, "out")
-        words = ["cc", "-O2", "-I", os.path.join(HERE, "..", "include"), "-o", program, os.path.join(HERE, "small_calls.c")]
+        words = ["cc", "-O2", "-I", os.path.join(HERE, "..", "bindings", "c"), "-o", program, os.path.join(HERE, "small_calls.c")]
         subprocess.run([*words, os.path.join(library, "libaecp.a"), "-laec"], check=True)
         tool = ["valgrind", "-q", "--tool=callgrind", f"--callgrind-out-file={out}"]
         subprocess.run([*tool, program, str(sizes)], check=True, stderr=subprocess.DEVNULL)

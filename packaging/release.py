@@ -6,7 +6,7 @@ Fails, and prints what is missing, unless all of these hold:
 - the checkout is a commit without changes;
 - the binaries that `make dist` packs were proved and built at this commit, by one kit;
 - the gate has passed at this commit, on this machine;
-- the checker has refused every wrong body at this state of the crates (tests/wrong_bodies.py).
+- the checker has refused every wrong body at this state of the crates (checks/wrong_bodies.py).
 """
 
 import os
@@ -31,7 +31,7 @@ def faults() -> list[str]:
         found.append(str(fault))
     if not re.search(r"\b0 failed\b", proved.gate()):
         found.append(f"the gate: {proved.gate()}")
-    script = os.path.join(proved.TOP, "tests", "wrong_bodies.py")
+    script = os.path.join(proved.TOP, "checks", "wrong_bodies.py")
     tried = subprocess.run([sys.executable, script, "--untried"], capture_output=True, text=True)
     if tried.returncode:
         found.append((tried.stdout + tried.stderr).strip())

@@ -1,7 +1,6 @@
 """Copies the contents of each package below a folder."""
 
 import os
-import re
 import runpy
 import subprocess
 
@@ -48,7 +47,7 @@ def library(top, folder, prefix, libdir, pc_prefix):
 
 def level_function(top):
     """Returns the shell function of level.sh, with the flags that the Python module has."""
-    flags = runpy.run_path(os.path.join(top, "python/aecp/levels.py"))["FLAGS"]
+    flags = runpy.run_path(os.path.join(top, "bindings/python/aecp/levels.py"))["FLAGS"]
     return read(os.path.join(top, "packaging/level.sh")).decode().replace("@FLAGS@", " ".join(flags))
 
 
@@ -69,9 +68,5 @@ def library_page(top):
 
 
 def notices(top):
-    """Returns, as plain text, the notices of the kit's crates whose code is in the binaries. Their licence asks for them in each
-    copy."""
-    text = read(os.path.join(top, "packaging/debian/copyright")).decode()
-    comment = re.search(r"(?ms)^Comment:\n(.*?)\n\n", text)[1]
-    licence = re.search(r"(?ms)^License: Expat\n(.*)", text)[1]
-    return re.sub(r"(?m)^ \.?", "", f"{comment}\n\n{licence}").encode()
+    """Returns the notices of the kit's crates whose code is in the binaries. Their licence asks for them in each copy."""
+    return read(os.path.join(top, "NOTICES"))

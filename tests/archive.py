@@ -115,7 +115,7 @@ def main() -> int:
             **os.environ,
             "AECP_LIBRARY": os.path.abspath(os.path.join(asked.library, "libaecp.so")),
             "LD_PRELOAD": library,
-            "PYTHONPATH": str(TOP / "python"),
+            "PYTHONPATH": str(TOP / "bindings" / "python"),
             "PYTHONDONTWRITEBYTECODE": "1",
         }
         flags = ["--thorough"] if asked.thorough else []

@@ -15,12 +15,12 @@ import random
 import sys
 import tempfile
 
-import foreign_writer
-import plain_coder
-from damaged_cases import some_samples, some_settings
-from program import Program, Tally, asked_of, on_each_core, said
-from telling_jobs import try_telling_jobs
-from worked_streams import EXAMPLES
+from lib import foreign_writer
+from lib import plain_coder
+from lib.damaged_cases import some_samples, some_settings
+from lib.program import Program, Tally, asked_of, on_each_core, said
+from lib.telling_jobs import try_telling_jobs
+from lib.worked_streams import EXAMPLES
 
 
 def try_worked(program, tally):

@@ -13,9 +13,9 @@ Prints the cuts that differ and, last, how many checks passed. Ends with status 
 import sys
 import tempfile
 
-from plain_reader import Fault, reading
-from program import Program, Tally, said
-from settings import Settings
+from lib.plain_reader import Fault, reading
+from lib.program import Program, Tally, said
+from lib.settings import Settings
 
 # Samples of 8 bits, and their settings: zeros between others, so that cuts fall before zero bits and within data.
 ZEROS = [0] * 8

@@ -19,11 +19,11 @@ import sys
 import tempfile
 from collections import Counter
 
-from damaged_cases import some_count, some_damaged
-from plain_reader import Fault, reading
-from program import Program, Tally, asked_of, on_each_core, said
-from spelled_streams import SPELLED
-from worked_streams import EXAMPLES, READINGS
+from lib.damaged_cases import some_count, some_damaged
+from lib.plain_reader import Fault, reading
+from lib.program import Program, Tally, asked_of, on_each_core, said
+from lib.spelled_streams import SPELLED
+from lib.worked_streams import EXAMPLES, READINGS
 
 OLD = b"what DEST held before"
 

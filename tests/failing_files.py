@@ -23,12 +23,12 @@ import subprocess
 import sys
 import tempfile
 
-from jobs import CHANGED, CHANGED_STREAM, JOBS, LARGE_JOBS, STILL_STREAM, Job
-from program import SECONDS, Program, Tally, said
-from refusing import NO_COMPILER, has_compiler
-from telling_jobs import try_telling_jobs
-from unsynced import ALL, OF_A_DEVICE, OF_A_KIND, Syncs
-from unsynced import build as build_unsynced
+from lib.jobs import CHANGED, CHANGED_STREAM, JOBS, LARGE_JOBS, STILL_STREAM, Job
+from lib.program import SECONDS, Program, Tally, said
+from lib.refusing import NO_COMPILER, has_compiler
+from lib.telling_jobs import try_telling_jobs
+from lib.unsynced import ALL, OF_A_DEVICE, OF_A_KIND, Syncs
+from lib.unsynced import build as build_unsynced
 
 OLD = b"what DEST held before"
 NOBODY = 65534

@@ -18,7 +18,7 @@ import tempfile
 
 sys.path.insert(0, os.path.dirname(os.path.abspath(__file__)))
 
-from program import TOP, Tally
+from lib.program import TOP, Tally
 
 sys.path.insert(0, os.path.join(TOP, "packaging"))
 

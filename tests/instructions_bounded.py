@@ -21,7 +21,7 @@ import sys
 import tempfile
 from concurrent.futures import ThreadPoolExecutor
 
-from program import TOP, Tally
+from lib.program import TOP, Tally
 
 sys.path.insert(0, os.path.join(TOP, "bench"))
 from bench import detector, mask, noise_8, ramp_with_noise, residues, walk

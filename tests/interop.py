@@ -24,8 +24,8 @@ import sys
 import tempfile
 from typing import NamedTuple
 
-from program import Program, Tally
-from settings import EVEN_BLOCK_SIZES, STANDARD_BLOCK_SIZES, Settings
+from lib.program import Program, Tally
+from lib.settings import EVEN_BLOCK_SIZES, STANDARD_BLOCK_SIZES, Settings
 
 WIDTHS = [1, 2, 3, 4, 5, 7, 8, 9, 12, 16, 17, 20, 24, 25, 31, 32]
 INTERVALS = [1, 2, 3, 63, 64, 65, 128, 200, 4096]

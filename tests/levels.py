@@ -20,7 +20,7 @@ import time
 
 sys.dont_write_bytecode = True
 
-from program import TOP, Tally
+from lib.program import TOP, Tally
 
 sys.path.insert(0, os.path.join(TOP, "packaging"))
 
@@ -82,7 +82,7 @@ def main():
         return 1
     if not asked.programs:
         try_same_build(tally)
-    levels = runpy.run_path(os.path.join(TOP, "python/aecp/levels.py"))
+    levels = runpy.run_path(os.path.join(TOP, "bindings/python/aecp/levels.py"))
     if levels["level"]() == levels["V3"]:
         for name, *more in commands(*programs, asked.short):
             try_script(name, more, tally)

@@ -28,18 +28,18 @@ import subprocess
 import sys
 import tempfile
 
-import plain_coder
-from damaged_cases import some_samples, some_settings
-from library_buffers import try_buffers
-from library_edits import try_scripts
-from library_memory import try_freed, try_refusals, try_stacks
-from library_offsets import try_offset_arguments, try_offsets
-from library_room import try_room
-from library_rows import ALL, EDITED, REFUSED, ROWS, SCRIPTED, Answer, Call
-from library_types import try_readme, try_types, try_version
-from program import TOP, Program, Tally, add_case_options, numbers_of, raised
-from refusing import build, has_compiler, print_skipped
-from settings import STANDARD_BLOCK_SIZES
+from lib import plain_coder
+from lib.damaged_cases import some_samples, some_settings
+from lib.library_buffers import try_buffers
+from lib.library_edits import try_scripts
+from lib.library_memory import try_freed, try_refusals, try_stacks
+from lib.library_offsets import try_offset_arguments, try_offsets
+from lib.library_room import try_room
+from lib.library_rows import ALL, EDITED, REFUSED, ROWS, SCRIPTED, Answer, Call
+from lib.library_types import try_readme, try_types, try_version
+from lib.program import TOP, Program, Tally, add_case_options, numbers_of, raised
+from lib.refusing import build, has_compiler, print_skipped
+from lib.settings import STANDARD_BLOCK_SIZES
 
 THEIRS = os.environ.get("LIBAEC", "/usr/bin/aec")
 NO_ROOM, MEMORY = 18, 12
@@ -260,7 +260,7 @@ def words():
 
 def module(library):
     os.environ["AECP_LIBRARY"] = os.path.join(library, "libaecp.so")
-    sys.path.insert(0, os.path.join(TOP, "python"))
+    sys.path.insert(0, os.path.join(TOP, "bindings", "python"))
     sys.modules["numpy"] = None
     import aecp
 
@@ -268,14 +268,14 @@ def module(library):
 
 
 def build_in_c(asked, path, source):
-    words = ["-I", os.path.join(TOP, "include"), "-o", path, source, os.path.join(asked.library, "libaecp.a"), "-pthread"]
+    words = ["-I", os.path.join(TOP, "bindings", "c"), "-o", path, source, os.path.join(asked.library, "libaecp.a"), "-pthread"]
     subprocess.run(["cc", "-O1", "-Wall", "-Werror", *words], check=True)
 
 
 def built(asked, folder, name):
     """Builds a C program of tests/ with the library. Returns its path."""
     path = os.path.join(folder, name)
-    build_in_c(asked, path, os.path.join(TOP, "tests", f"{name}.c"))
+    build_in_c(asked, path, os.path.join(TOP, "tests", "lib", f"{name}.c"))
     return path
 
 
@@ -289,7 +289,7 @@ def try_handles(path, tally):
 def try_in_c(asked, folder, aecp, tally):
     in_c, handles = InC(Program(built(asked, folder, "library_calls"), folder)), built(asked, folder, "library_handles")
     try_page(asked, folder, tally)
-    include, said = os.path.join(TOP, "include"), Program(asked.program, folder).run("--version")[1]
+    include, said = os.path.join(TOP, "bindings", "c"), Program(asked.program, folder).run("--version")[1]
     try_version(include, said.split()[-1], tally)
     try_types(include, os.path.join(asked.library, "libaecp.a"), folder, tally)
     try_readme(include, os.path.join(asked.library, "libaecp.a"), folder, tally)

@@ -15,8 +15,8 @@ import subprocess
 import sys
 import tempfile
 
-import library_buffers
-from program import TOP, Program, Tally
+from lib import library_buffers
+from lib.program import TOP, Program, Tally
 
 TYPES = {"u1": 8, "i1": 8, "<u2": 16, ">i2": 12, "<u4": 32, ">u4": 24, "<i4": 20}
 
@@ -68,7 +68,7 @@ def try_szip(program, tally):
         print("aecp_szip.py: HDF5 has no szip here")
         return
     import aecp_szip
-    from recipe_calls import called
+    from lib.recipe_calls import called
 
     path = program.file("sets.h5")
     keys = {"compression": "szip", "compression_opts": ("nn", 8)}
@@ -119,7 +119,10 @@ def try_entry_point(tally):
     with tempfile.TemporaryDirectory() as folder:
         place = os.path.join(folder, "aecp-1.2.3.dist-info")
         os.mkdir(place)
-        shutil.copy(os.path.join(TOP, "python", "entry_points.txt"), place)
+        with open(os.path.join(TOP, "bindings", "python", "pyproject.toml"), encoding="utf-8") as file:
+            entry = re.search(r'(?m)^\[project\.entry-points\."numcodecs\.codecs"\]\naecp = "(.*)"$', file.read())[1]
+        with open(os.path.join(place, "entry_points.txt"), "w", encoding="utf-8") as file:
+            file.write(f"[numcodecs.codecs]\naecp = {entry}\n")
         with open(os.path.join(place, "METADATA"), "w", encoding="utf-8") as file:
             file.write("Metadata-Version: 2.1\nName: aecp\nVersion: 1.2.3\n")
         code = "import numcodecs; print(numcodecs.get_codec({'id': 'aecp', 'bits': 16}).decode(b'\\0\\0\\0\\0'))"
@@ -154,7 +157,7 @@ if __name__ == "__main__":
         print("the module with numpy: no numpy here\n0 passed, 0 failed")
         sys.exit(0)
     if os.environ.get("AECP_LIBRARY") is None:
-        path = os.pathsep.join([os.path.join(TOP, "python"), os.path.join(TOP, "tests")])
+        path = os.pathsep.join([os.path.join(TOP, "bindings", "python"), os.path.join(TOP, "tests")])
         made = {"AECP_LIBRARY": os.path.abspath(os.path.join(sys.argv[2], "libaecp.so")), "PYTHONPATH": path}
         sys.exit(subprocess.run([found, *sys.argv], env={**os.environ, **made}, check=False).returncode)
     import aecp

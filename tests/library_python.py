@@ -29,9 +29,9 @@ import sys
 import tempfile
 
 from library_arrays import interpreter
-from library_refusals import try_refusals
-from library_threads import try_threads
-from program import TOP, Tally, add_case_options, numbers_of, raised
+from lib.library_refusals import try_refusals
+from lib.library_threads import try_threads
+from lib.program import TOP, Tally, add_case_options, numbers_of, raised
 
 def try_copies(tally):
     options = aecp.Options(12, signed=True)
@@ -278,9 +278,9 @@ def try_mypy(tally):
         print("mypy isn't installed: the types aren't checked")
         return
     words = [command, "--strict", "--cache-dir", os.devnull, "-p", "aecp"]
-    ended = subprocess.run(words, cwd=os.path.join(TOP, "python"), capture_output=True, text=True, check=False)
+    ended = subprocess.run(words, cwd=os.path.join(TOP, "bindings", "python"), capture_output=True, text=True, check=False)
     tally.check(f"mypy: {ended.stdout}", ended.returncode, 0)
-    tally.holds(os.path.exists(os.path.join(TOP, "python", "aecp", "py.typed")), "no py.typed")
+    tally.holds(os.path.exists(os.path.join(TOP, "bindings", "python", "aecp", "py.typed")), "no py.typed")
 
 
 def words():
@@ -312,7 +312,8 @@ def main():
 
 if __name__ == "__main__":
     if os.environ.get("AECP_LIBRARY") is None:
-        made = {"AECP_LIBRARY": os.path.abspath(os.path.join(sys.argv[1], "libaecp.so")), "PYTHONPATH": os.path.join(TOP, "python")}
+        library, path = os.path.abspath(os.path.join(sys.argv[1], "libaecp.so")), os.path.join(TOP, "bindings", "python")
+        made = {"AECP_LIBRARY": library, "PYTHONPATH": path}
         found = interpreter() or sys.executable
         sys.exit(subprocess.run([found, *sys.argv], env={**os.environ, **made}, check=False).returncode)
     import aecp

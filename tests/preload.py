@@ -2,7 +2,7 @@
 """Tests examples/preload/ beside libaec: preload.py FOLDER_OF_LIBAECP [--seed N] [--cases N]
 
 Builds the library that programs preload, and runs with and without it:
-- tests/preload_calls.c: each call beside libaec's own, with random parameters, samples and damaged
+- tests/lib/preload_calls.c: each call beside libaec's own, with random parameters, samples and damaged
   streams; in eight threads; and with so little memory that libaecp must refuse
 - eccodes' grib_get_data and grib_set, on all samples of Debian's libeccodes-data with CCSDS packing
 - h5py and netCDF4 with szip, each written by one and read by the other; h5diff
@@ -23,10 +23,10 @@ import sys
 import tempfile
 from typing import NamedTuple
 
-from program import TOP, Tally, add_case_options
+from lib.program import TOP, Tally, add_case_options
 
 SOURCE = os.path.join(TOP, "examples", "preload")
-DRIVER = os.path.join(TOP, "tests", "preload_calls.c")
+DRIVER = os.path.join(TOP, "tests", "lib", "preload_calls.c")
 HEADER = "/usr/include/libaec.h"
 SAMPLES = "/usr/share/eccodes/ifs_samples/*/*.tmpl"
 MESSAGE = "/usr/share/eccodes/ifs_samples/grib1_mlgrib2_ccsds/gg_sfc_grib2.tmpl"
@@ -110,7 +110,7 @@ class Preloaded:
 def build(asked, folder, tally):
     """Builds the library and the program of the calls in a folder. Returns the library's path."""
     found = os.path.join(os.path.abspath(asked.folder), "libaecp.so")
-    for name in ("libaecp.so", "libaecp.so.0"):
+    for name in ("libaecp.so", "libaecp.so.1"):
         os.symlink(found, os.path.join(folder, name))
     library = os.path.join(folder, "aecp_preload.so")
     for words in (

@@ -2,8 +2,8 @@
 """Tests the choice between the files for x86-64-v2 and x86-64-v3: processors.py [PLAIN OTHER]
 
 Reads made-up texts of /proc/cpuinfo, of processors that have all flags of x86-64-v3, lack one, or have none, by the module
-python/aecp/levels.py and by the shell function of install.sh and of the Debian package. Both must choose the same level. Checks which
-library the Python module takes, with files in several folders and each value of AECP_LEVEL.
+aecp.levels and by the shell function of install.sh and of the Debian package. Both must choose the same level. Checks which library the
+Python module takes, with files in several folders and each value of AECP_LEVEL.
 
 With two programs, for x86-64-v2 and for x86-64-v3, runs both on older processors by qemu: on one with x86-64-v2 the first must work, and
 the second must end with status 127 and one line, and leave DEST as it is; so must both on one that lacks SSE4.2. Without
@@ -23,13 +23,13 @@ import tempfile
 
 sys.dont_write_bytecode = True
 
-from program import TOP, Program, Tally
+from lib.program import TOP, Program, Tally
 
 sys.path.insert(0, os.path.join(TOP, "packaging"))
 
 import stage
 
-LEVELS = runpy.run_path(os.path.join(TOP, "python/aecp/levels.py"))
+LEVELS = runpy.run_path(os.path.join(TOP, "bindings/python/aecp/levels.py"))
 PLAIN, V3 = LEVELS["PLAIN"], LEVELS["V3"]
 # What x86-64-v3 adds to x86-64-v2 by the x86-64 psABI, in the names of Linux.
 ADDED = "abm avx avx2 bmi1 bmi2 f16c fma movbe".split()
@@ -97,20 +97,19 @@ def place(module, cpuinfo, **given):
 
 
 def try_places(folder, tally):
-    """Tests which library the module takes, beside it and in a checkout's bin/."""
-    module, checkout = os.path.join(folder, "python/aecp"), os.path.join(folder, "bin")
-    shutil.copytree(os.path.join(TOP, "python/aecp"), module, ignore=shutil.ignore_patterns("__pycache__"))
+    """Tests which library beside the module the module takes."""
+    module = os.path.join(folder, "aecp")
+    left_out = shutil.ignore_patterns("__pycache__", "*.so")
+    shutil.copytree(os.path.join(TOP, "bindings/python/aecp"), module, ignore=left_out)
     new, old = os.path.join(folder, "new"), os.path.join(folder, "old")
     for path, flags in ((new, ADDED), (old, ADDED[1:])):
         with open(path, "w", encoding="ascii") as file:
             file.write(TEXT.format(" ".join(flags), ""))
-    tally.check("no file", place(module, new), "libaecp.so.0")
+    tally.check("no file", place(module, new), "libaecp.so.1")
     # Later files come before earlier ones.
-    for where, level in ((checkout, PLAIN), (checkout, V3), (module, PLAIN), (module, V3)):
-        best = os.path.join(where, *([V3] if level == V3 else []), "libaecp.so")
-        os.makedirs(os.path.dirname(best), exist_ok=True)
+    plain = os.path.join(module, "libaecp.so")
+    for best in (plain, os.path.join(module, V3, "libaecp.so")):
         open(best, "w").close()
-        plain = os.path.join(where, "libaecp.so")
         tally.check(f"a new processor, {best}", place(module, new), best)
         tally.check(f"an old processor, {best}", place(module, old), plain)
         tally.check(f"AECP_LEVEL={V3}, {best}", place(module, old, AECP_LEVEL=V3), best)

@@ -13,10 +13,10 @@ import struct
 import sys
 import tempfile
 
-from program import Program, Tally, asked_of
-from recipe_calls import EXAMPLES, called, hiding
-from recipe_messages import try_bad_messages, try_message
-from settings import Settings
+from lib.program import Program, Tally, asked_of
+from lib.recipe_calls import EXAMPLES, called, hiding
+from lib.recipe_messages import try_bad_messages, try_message
+from lib.settings import Settings
 
 import szip_chunks
 

@@ -15,8 +15,8 @@ import sys
 import tempfile
 
 import eccodes
-from program import Program, Tally, asked_of
-from recipe_calls import called
+from lib.program import Program, Tally, asked_of
+from lib.recipe_calls import called
 
 import grib_ccsds
 import grib_grid

@@ -18,9 +18,9 @@ import tempfile
 
 import h5py
 import numpy
-from program import Program, Tally, asked_of
-from recipe_calls import called
-from recipe_hdf5_cases import (
+from lib.program import Program, Tally, asked_of
+from lib.recipe_calls import called
+from lib.recipe_hdf5_cases import (
     is_read,
     try_command_lines,
     try_grown,

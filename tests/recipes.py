@@ -17,8 +17,8 @@ import subprocess
 import sys
 import tempfile
 
-from program import TOP, Program, Tally, asked_of
-from recipe_calls import EXAMPLES, hiding
+from lib.program import TOP, Program, Tally, asked_of
+from lib.recipe_calls import EXAMPLES, hiding
 
 PAGE = os.path.join(TOP, "docs", "RECIPES.md")
 LIBRARY = os.path.join(TOP, "bin", "libaecp.so")
@@ -105,12 +105,12 @@ def prepare_page(aec):
     os.symlink(EXAMPLES, aec.file("examples"))
     aec.write("bin/aecp", f'#!/bin/sh\nexec "{sys.executable}" -m aecp "$@"\n'.encode())
     os.chmod(aec.file("bin/aecp"), 0o755)
-    for name in ("libaecp.so", "libaecp.so.0"):
+    for name in ("libaecp.so", "libaecp.so.1"):
         os.symlink(LIBRARY, os.path.join(bin_folder, name))
     return {
         **os.environ,
         "PATH": f"{bin_folder}:{os.environ['PATH']}",
-        "PYTHONPATH": os.path.join(TOP, "python"),
+        "PYTHONPATH": os.path.join(TOP, "bindings", "python"),
         "AECP_LIBRARY": LIBRARY,
         "LIBRARY_PATH": bin_folder,  # where cc looks for libraries
         "LD_LIBRARY_PATH": bin_folder,

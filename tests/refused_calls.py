@@ -24,8 +24,8 @@ import tempfile
 from concurrent.futures import ThreadPoolExecutor
 from typing import NamedTuple
 
-from program import TOP, Program, Tally
-from refusing import Growths, build, has_compiler, print_skipped, ways
+from lib.program import TOP, Program, Tally
+from lib.refusing import Growths, build, has_compiler, print_skipped, ways
 
 ROWS = os.path.join(TOP, "crates", "aec_memory_tests", "stdout")
 WANT = "out of memory"

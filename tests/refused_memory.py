@@ -22,10 +22,10 @@ from concurrent.futures import ProcessPoolExecutor
 from functools import partial
 from typing import NamedTuple, Optional
 
-from jobs import CHANGED_STREAM, EARLY_JOB, EDIT_LINES, EVEN_JOBS, JOBS, LARGE_JOBS, LONGEST, STILL_STREAM, ZEROS, ZEROS_STREAM, Job
-from program import Program, Tally
-from refusing import MOST_GROWTHS, Growths, build, has_compiler, print_skipped, ways
-from spelling import bytes_of_bits
+from lib.jobs import CHANGED_STREAM, EARLY_JOB, EDIT_LINES, EVEN_JOBS, JOBS, LARGE_JOBS, LONGEST, STILL_STREAM, ZEROS, ZEROS_STREAM, Job
+from lib.program import Program, Tally
+from lib.refusing import MOST_GROWTHS, Growths, build, has_compiler, print_skipped, ways
+from lib.spelling import bytes_of_bits
 
 OLD = b"what DEST held before"
 LITTLE = 2**25

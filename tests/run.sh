@@ -15,16 +15,16 @@ number=0
 # sentence; that generated pages are current; that files keep the limits of the house; that each
 # must-fail edit can be applied; that each lemma is cited; that the crates export what docs/SURFACE.md
 # lists. After it: scripts that run the programs which the gate has built, but for `pictures`.
-parts='contracts python3 tools/contracts.py --check
-definitions python3 tests/definitions.py
+parts='contracts python3 checks/contracts.py --check
+definitions python3 checks/definitions.py
 modules python3 tools/modules.py --check
 theorems python3 tools/theorem.py --check
 man python3 tools/man.py --check
 completions python3 tools/completions.py --check
-limits python3 tests/limits.py
-edits python3 tests/edits_apply.py
-cited python3 tests/cited.py
-surface python3 tests/surface.py
+limits python3 checks/limits.py
+edits python3 checks/edits_apply.py
+cited python3 checks/cited.py
+surface python3 checks/surface.py
 gate gate
 kept-program keep_gate
 coded-samples on_program tests/coded.py

@@ -16,10 +16,10 @@ import re
 import sys
 import tempfile
 
-from program import TOP, Program, Tally, asked_of, said, short
-from script_cases import some_count, some_samples, some_script, some_settings
-from script_examples import BAD_LINES, EXAMPLES, SKIPPED_LINES, ZEROS
-from script_model import Refused, edited, edits_of
+from lib.program import TOP, Program, Tally, asked_of, said, short
+from lib.script_cases import some_count, some_samples, some_script, some_settings
+from lib.script_examples import BAD_LINES, EXAMPLES, SKIPPED_LINES, ZEROS
+from lib.script_model import Refused, edited, edits_of
 
 
 def try_example(example, program, tally):

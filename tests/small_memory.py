@@ -15,8 +15,8 @@ import subprocess
 import sys
 import tempfile
 
-from jobs import JOBS, LARGE_JOBS
-from program import SECONDS, Program, Tally
+from lib.jobs import JOBS, LARGE_JOBS
+from lib.program import SECONDS, Program, Tally
 
 KIB, MIB = 1024, 1024 * 1024
 STEP = 4 * KIB  # a page

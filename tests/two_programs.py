@@ -16,9 +16,9 @@ import os
 import random
 import sys
 
-import damaged_cases
-import script_cases
-from program import Program, Tally, asked_of, on_each_core, short
+from lib import damaged_cases
+from lib import script_cases
+from lib.program import Program, Tally, asked_of, on_each_core, short
 
 OLD = b"what DEST held before"
 

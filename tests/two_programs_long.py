@@ -11,10 +11,10 @@ As two_programs.py, with 1,000 to 40,000 samples a case, so that what is done fo
 import sys
 from itertools import accumulate
 
-import script_cases
+from lib import script_cases
 import two_programs
-from damaged_cases import turned
-from settings import Settings
+from lib.damaged_cases import turned
+from lib.settings import Settings
 
 WIDTHS = [1, 2, 3, 4, 5, 8, 8, 10, 12, 13, 16, 16, 16, 20, 24, 25, 27, 31, 32, 32]
 BLOCK_SIZES = [8, 8, 8, 16, 16, 32, 64, 64]

@@ -16,7 +16,7 @@ import tempfile
 
 sys.path.insert(0, os.path.dirname(os.path.abspath(__file__)))
 
-from program import TOP, Program, Tally
+from lib.program import TOP, Program, Tally
 
 EXAMPLE = re.compile(r"^- (?:without options|`(-[^`]*)`)(?: with `([^`]*)`)?: `([0-9A-F ]+)` becomes `([0-9A-F ]+)`\.$", re.M)
 

@@ -20,7 +20,7 @@ FOLDERS = ("DIR",)
 
 def parsers():
     """Returns the parser of each verb."""
-    sys.path.insert(0, os.path.join(TOP, "python"))
+    sys.path.insert(0, os.path.join(TOP, "bindings", "python"))
     from aecp import _words
 
     return _words.parsers()[1]

@@ -4,7 +4,7 @@
 These are the numbers of tracked files, of words written by hand and of generated words, by their
 kind, of public functions, and of must-fail edits. Of source files only the words of comments are
 counted. Of pages, what a script writes into them counts as generated; the tables of docs/SURFACE.md
-aren't counted, since tests/surface.py compares them with the sources. tools/gate_times.py prints how
+aren't counted, since checks/surface.py compares them with the sources. tools/gate_times.py prints how
 long the gate takes.
 """
 
@@ -17,7 +17,7 @@ import sys
 from must_fail import edits_of
 from sources import TOP, all_crates, text_of
 
-sys.path.insert(0, os.path.join(TOP, "tests"))
+sys.path.insert(0, os.path.join(TOP, "checks"))
 
 from page_limits import LISTS, WRITTEN
 
@@ -46,8 +46,8 @@ KINDS = [
     ("comments of code", re.compile(r".*\.rt"), comments(SLASHES)),
     ("comments of definitions", re.compile(r"crates/\w+/specs/.*\.antt"), comments(DASHES)),
     ("comments of proofs", re.compile(r".*\.antt"), comments(DASHES)),
-    ("docstrings of the module aecp", re.compile(r"python/.*\.py"), docstrings),
-    ("docstrings of tests", re.compile(r"tests/.*\.py"), docstrings),
+    ("docstrings of the module aecp", re.compile(r"bindings/python/.*\.py"), docstrings),
+    ("docstrings of tests and checks", re.compile(r"(tests|checks)/.*\.py"), docstrings),
     ("docstrings of tools", re.compile(r".*\.py"), docstrings),
     ("comments of C and Rust", re.compile(r".*\.(h|c|rs)"), comments(SLASHES)),
     ("comments of scripts", re.compile(r".*\.(sh|toml)|Makefile|\.ci/run|crates\.txt"), comments(HASHES)),

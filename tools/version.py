@@ -19,14 +19,14 @@ PLACES = [
     ("crates/aec_cli/src/words.rt", 'const VERSION: &str = "POINTS";'),
     ("crates/aec_tests/src/words.rt", 'b"aec POINTS\\n"'),
     ("crates/aec_c/src/exports.rt", "aecp_version() -> u32\n    ensures { result ≡ NUMBER }\n{\n    NUMBER\n}"),
-    ("include/aecp.h", "The version of this header, POINTS:"),
-    ("include/aecp.h", "#define AECP_VERSION NUMBER\n"),
-    ("python/aecp/__init__.py", '__version__ = "POINTS"\n'),
-    ("python/aecp/library.py", "\nVERSION = NUMBER  # POINTS, as AECP_VERSION of aecp.h\n"),
-    ("rust/aecp/Cargo.toml", '\nversion = "POINTS"\n'),
-    ("rust/aecp/src/raw.rs", "pub const VERSION: u32 = NUMBER;\n"),
+    ("bindings/c/aecp.h", "The version of this header, POINTS:"),
+    ("bindings/c/aecp.h", "#define AECP_VERSION NUMBER\n"),
+    ("bindings/python/aecp/__init__.py", '__version__ = "POINTS"\n'),
+    ("bindings/python/aecp/library.py", "\nVERSION = NUMBER  # POINTS, as AECP_VERSION of aecp.h\n"),
+    ("bindings/rust/aecp/Cargo.toml", '\nversion = "POINTS"\n'),
+    ("bindings/rust/aecp/src/raw.rs", "pub const VERSION: u32 = NUMBER;\n"),
     ("CITATION.cff", "\nversion: POINTS\n"),
-    ("man/aecp.3", '.TH AECP 3 "" "aecp POINTS"\n'),
+    ("bindings/c/aecp.3", '.TH AECP 3 "" "aecp POINTS"\n'),
 ]
 
 

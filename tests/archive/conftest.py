@@ -13,7 +13,7 @@ import pytest
 from hypothesis import HealthCheck, settings
 
 TOP = Path(__file__).resolve().parents[2]
-sys.path[:0] = [str(TOP / "python"), str(TOP / "tests"), str(Path(__file__).parent)]
+sys.path[:0] = [str(TOP / "bindings" / "python"), str(TOP / "tests"), str(Path(__file__).parent)]
 
 import running  # noqa: E402 - it needs the path
 

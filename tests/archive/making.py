@@ -14,7 +14,7 @@ from aecp import Options
 from hypothesis import strategies as st
 from plain_form import Parts, demand_sound, parts_of
 from running import command, done
-from settings import Settings
+from lib.settings import Settings
 
 SIGNS = {"signed": "-s", "msb_first": "-m", "three_byte": "-3", "pad": "-p", "restricted": "-t", "even_blocks": "--even-blocks"}
 USUAL = Settings(bits=16, block_size=16, interval=4)

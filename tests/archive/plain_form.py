@@ -1,4 +1,4 @@
-"""A plain reader and writer of FILE.aec, by docs/ARCHIVE.md alone: it shares nothing with python/aecp/archive.
+"""A plain reader and writer of FILE.aec, by docs/ARCHIVE.md alone: it shares nothing with bindings/python/aecp/archive.
 
 `parts_of` demands the form to the letter, with assertions. `Parts.sealed` makes a file again of parts that a test has changed.
 """

@@ -12,7 +12,7 @@ from typing import Any
 
 import pytest
 
-sys.path.insert(0, os.path.join(os.path.dirname(__file__), "..", "..", "python"))
+sys.path.insert(0, os.path.join(os.path.dirname(__file__), "..", "..", "bindings", "python"))
 
 import aecp  # noqa: E402
 from aecp import Options, archive  # noqa: E402
@@ -352,7 +352,7 @@ with aecp.open({path!r}) as samples:
     subprocess.run([sys.executable, script], check=True, env=given, stdout=subprocess.DEVNULL)
 
 
-PATH = {"PYTHONPATH": os.path.join(os.path.dirname(__file__), "..", "..", "python")}
+PATH = {"PYTHONPATH": os.path.join(os.path.dirname(__file__), "..", "..", "bindings", "python")}
 
 
 def test_index_of_a_long_list_is_small() -> None:

@@ -10,7 +10,7 @@ from typing import Any
 
 import aecp
 import pytest
-import script_model
+from lib import script_model
 from hypothesis import strategies as st
 from hypothesis.stateful import RuleBasedStateMachine, initialize, invariant, precondition, rule
 from making import (
@@ -19,7 +19,7 @@ from making import (
 )  # fmt: skip
 from plain_form import script_of
 from running import command, done, refused
-from settings import Settings
+from lib.settings import Settings
 
 
 def script_for(settings: Settings, samples: list[int], chance: random.Random, lines: int = 5) -> tuple[bytes, list[int]]:

@@ -9,7 +9,7 @@ import aecp
 import pytest
 from making import FAST, keep, leftovers, noise, parts_at, read, samples_at, walk, write
 from running import How, Hooks, command, done, refused
-from settings import Settings
+from lib.settings import Settings
 
 
 @pytest.mark.parametrize("how", ["inverse", "inverse stream", "stream", "sum"])

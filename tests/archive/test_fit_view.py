@@ -12,7 +12,7 @@ import aecp
 import pytest
 from making import FAST, USUAL, keep, made, options_of, read, walk, words_of, write
 from running import command, done, refused
-from settings import Settings
+from lib.settings import Settings
 
 WALK = Settings(bits=12, block_size=32, interval=8)
 

@@ -11,7 +11,7 @@ from pathlib import Path
 from typing import Any
 
 import aecp
-import plain_reader
+from lib import plain_reader
 import pytest
 from hypothesis import given
 from hypothesis import strategies as st
@@ -20,7 +20,7 @@ from making import (
 )  # fmt: skip
 from plain_form import GROUP_BITS, packed, parts_of, script_of, sha256
 from running import command, done, refused
-from settings import Settings
+from lib.settings import Settings
 
 TOP = Path(__file__).resolve().parents[2]
 

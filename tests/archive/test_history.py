@@ -11,7 +11,7 @@ import pytest
 from making import FAST, USUAL, flip, keep, leftovers, noise, parts_at, read, samples_at, sound_parts, walk, write
 from plain_form import as_packed, script_of
 from running import command, done, refused
-from settings import Settings
+from lib.settings import Settings
 
 SENSOR = Settings(bits=16, block_size=16, interval=128)
 

@@ -10,7 +10,7 @@ import time
 import pytest
 from making import FAST, USUAL, check_json, keep, leftovers, old_pair, read, samples_at, tree, walk, words_of, write
 from running import How, Hooks, command, done, in_child, refused, start
-from settings import Settings
+from lib.settings import Settings
 
 NAMES = [b"plain", b"with blanks  in it", b"line\nfeed", b"-n", b"--help", b"\xff\xfe no text", "ü".encode(), b"'quotes\"", b"*?[x]"]
 DATA = USUAL.stored(walk(3, 500))

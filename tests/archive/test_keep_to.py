@@ -11,7 +11,7 @@ import aecp
 import pytest
 from making import FAST, USUAL, flip, keep, leftovers, noise, parts_at, read, samples_at, sound_parts, tree, walk, words_of, write
 from running import How, Hooks, command, done, refused
-from settings import Settings
+from lib.settings import Settings
 
 DATA = USUAL.stored(walk(3, 500))
 

@@ -18,7 +18,7 @@ from hypothesis import given
 from hypothesis import strategies as st
 from making import FAST, USUAL, flip, made, noise, parts_at, samples_for, settings_by_chance, walk
 from running import How, done, in_child
-from settings import Settings
+from lib.settings import Settings
 
 numpy = pytest.importorskip("numpy")
 

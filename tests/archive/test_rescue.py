@@ -12,7 +12,7 @@ import pytest
 from making import FAST, USUAL, flip, keep, leftovers, made, noise, numbers_of, options_of, parts_at, read, walk, words_of, write
 from plain_form import Parts
 from running import How, Hooks, command, done, refused
-from settings import Settings
+from lib.settings import Settings
 from test_check import ranges_of
 
 numpy = pytest.importorskip("numpy")

@@ -15,7 +15,7 @@ from hypothesis.extra import numpy as arrays
 from making import USUAL, leftovers, made, options_of, read, samples_for, settings_by_chance, sound_parts, walk
 from plain_form import demand_sound, parts_of
 from running import How, Hooks, in_child
-from settings import Settings
+from lib.settings import Settings
 
 numpy = pytest.importorskip("numpy")
 

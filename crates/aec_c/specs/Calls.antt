@@ -1,4 +1,4 @@
--- The results of the calls from C: bytes, or one refusal. `include/aecp.h` has the sentences.
+-- The results of the calls from C: bytes, or one refusal. `aecp.h` has the sentences.
 use Rattle.std.specs.Prelude.{◌≡◌, ℕ, ◌-◌, ◌^◌, ◌⊎◌, ◌==◌, if◌then◌else◌, false, Option, Some, None, Result, Ok, Err, List}
 use Rattle.aec_params.specs.declared.settings.Settings.{Settings}
 use Rattle.aec_params.specs.declared.fault.Fault.{Fault}

@@ -1,5 +1,5 @@
 -- The results of decoding from a bit on, and of finding the bits where intervals begin.
--- `include/aecp.h` has the sentences.
+-- `aecp.h` has the sentences.
 use Rattle.std.specs.Prelude.{◌≡◌, ℕ, ◌-◌, ◌*◌, ◌%◌, ◌^◌, ◌==◌, ◌&&◌, ◌||◌, nat_lt, min, not, Bool, true, false, Option, Some, Result, Err, List, length}
 use Rattle.aec_params.specs.declared.settings.Settings.{Settings}
 use Rattle.aec_params.specs.declared.fault.Fault.{Fault}

@@ -1,4 +1,4 @@
-//! The calls from C that need no handle. `include/aecp.h` says the same to its reader.
+//! The calls from C that need no handle. `aecp.h` says the same to its reader.
 
 ghost use Rattle.std.specs.Prelude.{◌≡◌};
 ghost use Rattle.aec_c.specs.Calls.{settings_of, count_of, IsCoding, IsDecoding, IsRanging};
