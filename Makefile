@@ -1,10 +1,11 @@
 # What a user, a packager and a developer run. Building needs the kit's command `rt` and python3; the library also cc, ld, objcopy and
-# ar. Installing needs python3. `make dist` needs objdump, dpkg-deb, and git or the variable SOURCE_DATE_EPOCH.
+# ar. Installing needs python3; `make wheel` needs objdump and Python's build, setuptools and wheel, `make install-python` pip too. `make
+# dist` also needs dpkg-deb, and git or the variable SOURCE_DATE_EPOCH.
 #
 # Variables: PREFIX; DESTDIR, a folder that replaces / as the root; PROGRAM, the program's installed name; CPU, the level of processor
 # to build and install for, x86-64-v2 or x86-64-v3, by default the one that this processor has; BUILT, the file to install as the
-# program, by default the one for CPU; LIBDIR and PYTHON_DIR, where the library and the Python module go; PC_PREFIX, the prefix in
-# aecp.pc; PYTHON, the interpreter that runs the scripts of packaging/ and says what PYTHON_DIR is if that isn't given.
+# program, by default the one for CPU; LIBDIR, where the library goes; PC_PREFIX, the prefix in aecp.pc; PYTHON, the interpreter that
+# runs the scripts of packaging/ and into whose environment `install-python` installs; PIP_OPTIONS, more options of pip.
 PREFIX ?= /usr/local
 
 VERSION := $(shell cat VERSION)
@@ -164,28 +165,26 @@ test-library:
 	python3 tests/archive.py bin
 	python3 tests/preload.py bin
 
-# Header, libraries, aecp(3), files for pkg-config and CMake, Python module, command `aecp` with aecp(1). The module goes where `python3`
-# looks for modules, with its own copy of the library. If the library for x86-64-v3 is built, it is installed too: the loader chooses it
-# by its folder, from glibc 2.33 on, and the module by the processor. Else one that is there, of an earlier build, is removed.
+# Header, libraries, aecp(3), files for pkg-config and CMake; by `install-python` the Python module with its own copy of the library and the
+# command `aecp` with aecp(1). If the library for x86-64-v3 is built, it is installed too: the loader chooses it by its folder, from glibc
+# 2.33 on, and the module by the processor. Else one that is there, of an earlier build, is removed.
 hwcaps = glibc-hwcaps/x86-64-v3
-PYTHON_DIR ?= $(shell $(PYTHON) -c 'import sysconfig; print(sysconfig.get_path("purelib"))')
 LIBDIR ?= $(PREFIX)/lib
 PC_PREFIX ?= $(PREFIX)
-info = $(DESTDIR)$(PYTHON_DIR)/aecp-$(VERSION).dist-info
 install-library: install-c install-python
 # With `make -j library install-library` the library is built first.
-install-c install-python: $(filter library,$(MAKECMDGOALS))
+install-c: $(filter library,$(MAKECMDGOALS))
 
 install-c:
 	@test -e bin/libaecp.a -a -e bin/libaecp.so || { echo "there is no bin/libaecp.a or no bin/libaecp.so: run make library first" >&2; exit 1; }
 	install -d $(DESTDIR)$(PREFIX)/include $(DESTDIR)$(LIBDIR)/pkgconfig
 	install -m 644 bindings/c/aecp.h $(DESTDIR)$(PREFIX)/include/aecp.h
 	install -m 644 bin/libaecp.a $(DESTDIR)$(LIBDIR)/libaecp.a
-	install -m 755 bin/libaecp.so $(DESTDIR)$(LIBDIR)/libaecp.so.0
-	ln -sf libaecp.so.0 $(DESTDIR)$(LIBDIR)/libaecp.so
+	install -m 755 bin/libaecp.so $(DESTDIR)$(LIBDIR)/libaecp.so.1
+	ln -sf libaecp.so.1 $(DESTDIR)$(LIBDIR)/libaecp.so
 	if [ -e bin/x86-64-v3/libaecp.so ]; then \
-	    install -D -m 755 bin/x86-64-v3/libaecp.so $(DESTDIR)$(LIBDIR)/$(hwcaps)/libaecp.so.0; \
-	else rm -f $(DESTDIR)$(LIBDIR)/$(hwcaps)/libaecp.so.0; fi
+	    install -D -m 755 bin/x86-64-v3/libaecp.so $(DESTDIR)$(LIBDIR)/$(hwcaps)/libaecp.so.1; \
+	else rm -f $(DESTDIR)$(LIBDIR)/$(hwcaps)/libaecp.so.1; fi
 	sed 's|@PREFIX@|$(PC_PREFIX)|; s|@LIBDIR@|$(patsubst $(PREFIX)/%,$${prefix}/%,$(LIBDIR))|; s|@VERSION@|$(VERSION)|' bindings/c/aecp.pc.in \
 	    > $(DESTDIR)$(LIBDIR)/pkgconfig/aecp.pc
 	install -d $(DESTDIR)$(LIBDIR)/cmake/aecp $(share)/man/man3
@@ -193,31 +192,31 @@ install-c:
 	    sed 's|@VERSION@|$(VERSION)|' bindings/c/$$file.cmake.in > $(DESTDIR)$(LIBDIR)/cmake/aecp/$$file.cmake || exit 1; done
 	install -m 644 bindings/c/aecp.3 $(share)/man/man3/aecp.3
 
-install-python:
+# Builds the Python module's sdist and wheel in bin/wheel/, with the library for each level that is built. The wheel is for any Python 3.
+.PHONY: wheel uninstall-c uninstall-python
+wheel: $(filter library,$(MAKECMDGOALS))
 	@test -e bin/libaecp.so || { echo "there is no bin/libaecp.so: run make library first" >&2; exit 1; }
-	install -d $(DESTDIR)$(PREFIX)/bin $(share)/man/man1 $(DESTDIR)$(PYTHON_DIR)/aecp/archive $(info)
-	install -d $(share)/bash-completion/completions $(share)/zsh/site-functions
-	install -m 644 bindings/python/aecp/*.py bindings/python/aecp/py.typed $(DESTDIR)$(PYTHON_DIR)/aecp
-	install -m 644 bindings/python/aecp/archive/*.py $(DESTDIR)$(PYTHON_DIR)/aecp/archive
-	install -m 755 bin/libaecp.so $(DESTDIR)$(PYTHON_DIR)/aecp/libaecp.so
-	if [ -e bin/x86-64-v3/libaecp.so ]; then \
-	    install -D -m 755 bin/x86-64-v3/libaecp.so $(DESTDIR)$(PYTHON_DIR)/aecp/x86-64-v3/libaecp.so; \
-	else rm -f $(DESTDIR)$(PYTHON_DIR)/aecp/x86-64-v3/libaecp.so; fi
-	printf '#!/usr/bin/env python3\nfrom aecp.cli import main\n\nmain()\n' > $(DESTDIR)$(PREFIX)/bin/aecp
-	chmod 755 $(DESTDIR)$(PREFIX)/bin/aecp
-	install -m 644 man/aecp.1 $(share)/man/man1/aecp.1
-	install -m 644 completions/aecp.bash $(share)/bash-completion/completions/aecp
-	install -m 644 completions/_aecp $(share)/zsh/site-functions/_aecp
-	printf 'Metadata-Version: 2.1\nName: aecp\nVersion: $(VERSION)\n' > $(info)/METADATA
-	install -m 644 bindings/python/entry_points.txt $(info)/entry_points.txt
+	@rm -rf bin/wheel
+	@$(PYTHON) packaging/python.py bin/wheel
 
-# Removes what `make install-library` has installed below the same PREFIX, LIBDIR and PYTHON_DIR.
-uninstall-library:
-	rm -f $(DESTDIR)$(PREFIX)/include/aecp.h $(DESTDIR)$(PREFIX)/bin/aecp $(DESTDIR)$(LIBDIR)/pkgconfig/aecp.pc
-	rm -f $(DESTDIR)$(LIBDIR)/libaecp.a $(DESTDIR)$(LIBDIR)/libaecp.so.0 $(DESTDIR)$(LIBDIR)/libaecp.so
-	rm -f $(share)/bash-completion/completions/aecp $(share)/zsh/site-functions/_aecp
-	rm -f $(share)/man/man1/aecp.1 $(share)/man/man3/aecp.3 $(DESTDIR)$(LIBDIR)/$(hwcaps)/libaecp.so.0
-	rm -rf $(DESTDIR)$(LIBDIR)/cmake/aecp $(DESTDIR)$(PYTHON_DIR)/aecp $(info)
+# Installs the wheel by pip into the environment of PYTHON, below DESTDIR if that is given. `pip uninstall aecp` knows each file.
+PIP = $(PYTHON) -m pip --disable-pip-version-check
+PIP_OPTIONS ?=
+install-python: wheel
+	$(PIP) install -q --no-index --no-deps --force-reinstall $(if $(DESTDIR),--root $(DESTDIR)) $(PIP_OPTIONS) bin/wheel/aecp-$(VERSION)-*.whl
+
+# Removes what `make install-library` has installed below the same PREFIX and LIBDIR. pip removes the module from the environment of PYTHON
+# alone, so not below a DESTDIR.
+uninstall-library: uninstall-c $(if $(DESTDIR),,uninstall-python)
+
+uninstall-python:
+	$(PIP) uninstall -q -y aecp
+
+uninstall-c:
+	rm -f $(DESTDIR)$(PREFIX)/include/aecp.h $(DESTDIR)$(LIBDIR)/pkgconfig/aecp.pc $(share)/man/man3/aecp.3
+	rm -f $(DESTDIR)$(LIBDIR)/libaecp.a $(DESTDIR)$(LIBDIR)/libaecp.so.1 $(DESTDIR)$(LIBDIR)/libaecp.so
+	rm -f $(DESTDIR)$(LIBDIR)/$(hwcaps)/libaecp.so.1
+	rm -rf $(DESTDIR)$(LIBDIR)/cmake/aecp
 	-rmdir $(DESTDIR)$(LIBDIR)/cmake 2> /dev/null
 	rmdir $(DESTDIR)$(LIBDIR)/$(hwcaps) $(DESTDIR)$(LIBDIR)/glibc-hwcaps 2> /dev/null || true
 

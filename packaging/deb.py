@@ -1,4 +1,4 @@
-"""Builds the Debian packages: aec-proved (the program), libaecp0 (the shared library), libaecp-dev (header and archive)."""
+"""Builds the Debian packages: aec-proved (the program), libaecp1 (the shared library), libaecp-dev (header and archive)."""
 
 import gzip
 import hashlib
@@ -13,7 +13,7 @@ import stage
 ARCH, TRIPLET = "amd64", "x86_64-linux-gnu"
 LIB = f"lib/{TRIPLET}"
 # The library for x86-64-v3, below LIB, where the loader looks for it.
-HWCAPS = f"glibc-hwcaps/{stage.V3}/libaecp.so.0"
+HWCAPS = f"glibc-hwcaps/{stage.V3}/libaecp.so.1"
 MAINTAINER = "The maintainers of aec <maintainers@users.noreply.citruslapis.example>"
 # The folders of bin/ for each level.
 LEVELS = (("", stage.PLAIN), (f"{stage.V3}/", stage.V3))
@@ -35,7 +35,7 @@ PACKAGES = {
  The program is /usr/bin/aec-proved; the alternatives system adds the name
  aec. If libaec-tools is installed too, aec is libaec's program.""",
     },
-    "libaecp0": {
+    "libaecp1": {
         "Section": "libs",
         "Multi-Arch": "same",
         "Description": """proved lossless coding of integer samples - shared library
@@ -178,10 +178,10 @@ def program(top, root):
 
 
 def split_library(top, work):
-    """Writes the files of libaecp0 and libaecp-dev. Returns the root folders of both."""
-    dev, shared = os.path.join(work, "libaecp-dev"), os.path.join(work, "libaecp0")
+    """Writes the files of libaecp1 and libaecp-dev. Returns the root folders of both."""
+    dev, shared = os.path.join(work, "libaecp-dev"), os.path.join(work, "libaecp1")
     stage.library(top, dev, "/usr", LIB, "/usr")
-    for name in ("libaecp.so.0", HWCAPS):
+    for name in ("libaecp.so.1", HWCAPS):
         moved = os.path.join(dev, "usr", LIB, name)
         stage.write(os.path.join(shared, "usr", LIB, name), stage.read(moved))
         os.remove(moved)
@@ -200,13 +200,13 @@ def build(top, work, folder, version, moment, proved):
     shared, dev = split_library(top, work)
     places = {
         "aec-proved": (root, {f"{at}aec": f"/usr/lib/aec-proved/{level}/aec-proved" for at, level in LEVELS}),
-        "libaecp0": (shared, {"libaecp.so": f"/usr/{LIB}/libaecp.so.0", f"{stage.V3}/libaecp.so": f"/usr/{LIB}/{HWCAPS}"}),
+        "libaecp1": (shared, {"libaecp.so": f"/usr/{LIB}/libaecp.so.1", f"{stage.V3}/libaecp.so": f"/usr/{LIB}/{HWCAPS}"}),
         "libaecp-dev": (dev, {"libaecp.a": f"/usr/{LIB}/libaecp.a"}),
     }
     depends = {
         "aec-proved": libc_of(top, "aec"),
-        "libaecp0": libc_of(top, "libaecp.so"),
-        "libaecp-dev": f"libaecp0 (= {version}), libc6-dev",
+        "libaecp1": libc_of(top, "libaecp.so"),
+        "libaecp-dev": f"libaecp1 (= {version}), libc6-dev",
     }
     made = []
     for name, (at, where) in places.items():

@@ -1,8 +1,8 @@
 #!/usr/bin/env python3
 """Packs what `make levels` has built into dist/: dist.py [--unproved]
 
-Writes a tarball, the Debian packages and the wheel, each with the files for x86-64-v2 and for x86-64-v3. Two runs with the same bin/
-write the same bytes, in any folder: each date is SOURCE_DATE_EPOCH or else the commit's, names are sorted, and no package contains a
+Writes a tarball, the Debian packages, the sdist and the wheel, each with the files for x86-64-v2 and for x86-64-v3. Two runs with the
+same bin/ write the same bytes, in any folder: each date is SOURCE_DATE_EPOCH or else the commit's, names are sorted, and no package contains a
 path of this machine.
 
 Fails unless each binary was proved and built at this commit; a checkout with changes counts as the commit 'NAME with changes'.
@@ -20,9 +20,9 @@ sys.dont_write_bytecode = True
 
 import deb
 import proved
+import python
 import stage
 import tarball
-import wheel
 
 BINARIES = {name: f"bin/{name}" for name in ("aec", "libaecp.a", "libaecp.so", f"{stage.V3}/aec", f"{stage.V3}/libaecp.so")}
 DIST = os.path.join(proved.TOP, "dist")
@@ -31,14 +31,6 @@ DIST = os.path.join(proved.TOP, "dist")
 def version():
     with open(os.path.join(proved.TOP, "VERSION"), encoding="utf-8") as file:
         return file.read().strip()
-
-
-def moment():
-    """Returns the date of every file, in seconds: SOURCE_DATE_EPOCH, else the commit's. Raises NotProved if there is neither."""
-    given = os.environ.get("SOURCE_DATE_EPOCH") or proved.git("log", "-1", "--format=%ct")
-    if not given:
-        raise proved.NotProved("there is no commit to take a date from: set SOURCE_DATE_EPOCH")
-    return int(given)
 
 
 def texts(is_proved):
@@ -56,7 +48,7 @@ def texts(is_proved):
 def build(is_proved):
     """Writes all packages. Returns their paths."""
     os.umask(0o022)
-    when = moment()
+    when = proved.moment()
     os.environ["SOURCE_DATE_EPOCH"] = str(when)
     text = texts(is_proved)
     shutil.rmtree(DIST, ignore_errors=True)
@@ -65,7 +57,7 @@ def build(is_proved):
         os.chmod(work, 0o755)
         made = [tarball.build(proved.TOP, work, DIST, version(), when, text(tarball.PLACES))]
         made += deb.build(proved.TOP, work, DIST, version(), when, text)
-        made.append(wheel.build(proved.TOP, DIST, version(), when, text(wheel.PLACES)))
+        made += python.build(DIST, when, text(python.PLACES))
     return made
 
 
@@ -78,7 +70,7 @@ def main():
         return 1
     try:
         made = build(is_proved)
-    except (proved.NotProved, wheel.Unfit, subprocess.CalledProcessError) as fault:
+    except (proved.NotProved, python.Unfit, subprocess.CalledProcessError) as fault:
         shutil.rmtree(DIST, ignore_errors=True)
         print(fault, file=sys.stderr)
         return 1

@@ -113,7 +113,7 @@ esac
 
 if [ $action = install ]; then
     files | while IFS= read -r file; do install_file "$file"; done
-    echo "installed in $prefix: bin/$program for $level, lib/libaecp.a, lib/libaecp.so.0. If $prefix/lib is on the loader's path, run ldconfig."
+    echo "installed in $prefix: bin/$program for $level, lib/libaecp.a, lib/libaecp.so.1. If $prefix/lib is on the loader's path, run ldconfig."
 else
     check_installed
     files | while IFS= read -r file; do rm -f "$prefix/$(place "$file")"; done

@@ -79,6 +79,14 @@ def commit():
     return name + (" with changes" if git("status", "--porcelain", "--untracked-files=no") else "")
 
 
+def moment():
+    """Returns the date of every packed file, in seconds: SOURCE_DATE_EPOCH, else the commit's. Raises NotProved if there is neither."""
+    given = os.environ.get("SOURCE_DATE_EPOCH") or git("log", "-1", "--format=%ct")
+    if not given:
+        raise NotProved("there is no commit to take a date from: set SOURCE_DATE_EPOCH")
+    return int(given)
+
+
 def crates():
     """Returns a sum of what the proofs read: crates.txt, and src/, specs/ and proofs/ of each crate."""
     top = os.path.join(TOP, "crates")

@@ -1,7 +1,6 @@
 """Copies the contents of each package below a folder."""
 
 import os
-import re
 import runpy
 import subprocess
 
@@ -69,9 +68,5 @@ def library_page(top):
 
 
 def notices(top):
-    """Returns, as plain text, the notices of the kit's crates whose code is in the binaries. Their licence asks for them in each
-    copy."""
-    text = read(os.path.join(top, "packaging/debian/copyright")).decode()
-    comment = re.search(r"(?ms)^Comment:\n(.*?)\n\n", text)[1]
-    licence = re.search(r"(?ms)^License: Expat\n(.*)", text)[1]
-    return re.sub(r"(?m)^ \.?", "", f"{comment}\n\n{licence}").encode()
+    """Returns the notices of the kit's crates whose code is in the binaries. Their licence asks for them in each copy."""
+    return read(os.path.join(top, "NOTICES"))

@@ -11,8 +11,8 @@ PLACES = {
     "aec": "bin/aec",
     f"{stage.V3}/aec": f"{stage.V3}/aec",
     "libaecp.a": "lib/libaecp.a",
-    "libaecp.so": "lib/libaecp.so.0",
-    f"{stage.V3}/libaecp.so": f"lib/glibc-hwcaps/{stage.V3}/libaecp.so.0",
+    "libaecp.so": "lib/libaecp.so.1",
+    f"{stage.V3}/libaecp.so": f"lib/glibc-hwcaps/{stage.V3}/libaecp.so.1",
 }
 
 

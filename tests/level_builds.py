@@ -26,7 +26,7 @@ sys.dont_write_bytecode = True
 from lib.program import TOP, Tally
 
 PLAIN, V3 = "x86-64-v2", "x86-64-v3"
-FILES = ["Makefile", "VERSION", "LICENSE", "build.sh", "library.sh", "packaging", "tools", "bindings", "man", "completions"]
+FILES = ["Makefile", "VERSION", "LICENSE", "NOTICES", "build.sh", "library.sh", "packaging", "tools", "bindings", "man", "completions"]
 CRATES = "low:\naec_c staticlib: low byteorder\nmid: low\naec: mid\n"
 TOOLS = ("make", "cc", "ld", "objcopy", "ar")
 # Notes the call; for `run` and `lib` writes the file that is asked for, as the variables FAKE_.. say.
@@ -75,8 +75,8 @@ class Checkout:
         for name in ("bin", "c", "temporary", "checkout"):
             os.makedirs(os.path.join(folder, name))
         for name in FILES:
-            copy = shutil.copytree if os.path.isdir(os.path.join(TOP, name)) else shutil.copy
-            copy(os.path.join(TOP, name), os.path.join(self.top, name))
+            path, place = os.path.join(TOP, name), os.path.join(self.top, name)
+            shutil.copytree(path, place, symlinks=True) if os.path.isdir(path) else shutil.copy(path, place)
         for name in re.findall(r"^\w+", CRATES, re.M):
             self.write(f"crates/{name}/src/{'main' if name == 'aec' else 'lib'}.rt", f"code of {name}")
             self.write(f"crates/{name}/out/incremental/kept", "")
@@ -198,19 +198,17 @@ def try_install(it, tally):
         status, said = it.make("install", f"DESTDIR={it.folder}/{level}", "PREFIX=/usr", f"CPU={level}")
         tally.check(f"make install CPU={level}", (status, said), (0, f"installing {path} for {level} as /usr/bin/aec\n"))
         tally.check(f"the program for {level}", it.read(f"../{level}/usr/bin/aec"), it.read(path))
-    places = [f"DESTDIR={it.folder}/both", "PREFIX=/usr", f"PYTHON_DIR=/usr/python"]
-    tally.check("make install-library", it.make("install-library", *places), (0, ""))
-    for place, path in (("lib/libaecp.so.0", "libaecp.so"), (f"lib/glibc-hwcaps/{V3}/libaecp.so.0", f"{V3}/libaecp.so"),
-                        ("python/aecp/libaecp.so", "libaecp.so"), (f"python/aecp/{V3}/libaecp.so", f"{V3}/libaecp.so")):  # fmt: skip
+    places, better = [f"DESTDIR={it.folder}/both", "PREFIX=/usr"], f"lib/glibc-hwcaps/{V3}/libaecp.so.1"
+    tally.check("make install-c", it.make("install-c", *places), (0, ""))
+    for place, path in (("lib/libaecp.so.1", "libaecp.so"), (better, f"{V3}/libaecp.so")):
         tally.holds(it.read(f"../both/usr/{place}") == it.read(f"bin/{path}"), f"{place} isn't bin/{path}")
     os.rename(it.path(f"bin/{V3}/libaecp.so"), it.path("away"))
-    tally.check("make install-library for one level", it.make("install-library", *places), (0, ""))
+    tally.check("make install-c for one level", it.make("install-c", *places), (0, ""))
     os.rename(it.path("away"), it.path(f"bin/{V3}/libaecp.so"))
-    for place in (f"lib/glibc-hwcaps/{V3}/libaecp.so.0", f"python/aecp/{V3}/libaecp.so"):
-        tally.check(f"the {place} that was there", it.read(f"../both/usr/{place}"), None)
-    tally.check("make uninstall-library", it.make("uninstall-library", *places), (0, ""))
+    tally.check(f"the {better} that was there", it.read(f"../both/usr/{better}"), None)
+    tally.check("make uninstall-c", it.make("uninstall-c", *places), (0, ""))
     left = [os.path.join(at, name) for at, folders, names in os.walk(f"{it.folder}/both") for name in names + folders if "hwcaps" in name]
-    tally.check("what uninstall-library leaves", left, [])
+    tally.check("what uninstall-c leaves", left, [])
 
 
 def main():

@@ -119,7 +119,10 @@ def try_entry_point(tally):
     with tempfile.TemporaryDirectory() as folder:
         place = os.path.join(folder, "aecp-1.2.3.dist-info")
         os.mkdir(place)
-        shutil.copy(os.path.join(TOP, "bindings", "python", "entry_points.txt"), place)
+        with open(os.path.join(TOP, "bindings", "python", "pyproject.toml"), encoding="utf-8") as file:
+            entry = re.search(r'(?m)^\[project\.entry-points\."numcodecs\.codecs"\]\naecp = "(.*)"$', file.read())[1]
+        with open(os.path.join(place, "entry_points.txt"), "w", encoding="utf-8") as file:
+            file.write(f"[numcodecs.codecs]\naecp = {entry}\n")
         with open(os.path.join(place, "METADATA"), "w", encoding="utf-8") as file:
             file.write("Metadata-Version: 2.1\nName: aecp\nVersion: 1.2.3\n")
         code = "import numcodecs; print(numcodecs.get_codec({'id': 'aecp', 'bits': 16}).decode(b'\\0\\0\\0\\0'))"

@@ -4,7 +4,7 @@
 Installs bin/libaecp.a, bin/libaecp.so and the header by `make install-c`, once into lib and once into a folder below lib, and builds a
 small program with them: by CMake's `find_package`, and by the words of pkg-config. The program must code and decode samples. Both must
 refuse a version that isn't there. A project that CMake configures twice, with two installations, must use the second one; an installation
-without the header is refused. Then `make uninstall-library` must leave no file.
+without the header is refused. Then `make uninstall-c` must leave no file.
 
 Needs cc, cmake and pkg-config; a part whose command is missing is skipped, with a line. Prints the checks that fail and, last, how many
 passed. Ends with status 1 if one failed.
@@ -111,7 +111,7 @@ def try_pkg_config(libdir, version, folder, tally):
 def try_install(lib, version, tally):
     with tempfile.TemporaryDirectory() as folder:
         prefix = os.path.join(folder, "prefix")
-        places = [f"PREFIX={prefix}", f"LIBDIR={prefix}/{lib}", f"PYTHON_DIR={prefix}/python"]
+        places = [f"PREFIX={prefix}", f"LIBDIR={prefix}/{lib}"]
         status, said = ran("make", "-s", "-C", TOP, "install-c", *places)
         tally.holds(status == 0, f"make install-c into {lib}: {said}")
         if has("cmake", "find_package"):
@@ -119,9 +119,9 @@ def try_install(lib, version, tally):
             try_cmake_twice(prefix, lib, version, folder, tally)
         if has("pkg-config", "aecp.pc"):
             try_pkg_config(os.path.join(prefix, lib), version, folder, tally)
-        status, said = ran("make", "-s", "-C", TOP, "uninstall-library", *places)
+        status, said = ran("make", "-s", "-C", TOP, "uninstall-c", *places)
         left = [os.path.join(at, name) for at, _, names in os.walk(prefix) for name in names]
-        tally.check(f"what uninstall-library leaves of {lib}: {said}", left, [])
+        tally.check(f"what uninstall-c leaves of {lib}: {said}", left, [])
 
 
 def main():

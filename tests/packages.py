@@ -33,8 +33,8 @@ import elf
 from lib import package_modules
 from lib import package_roots
 import proved
+import python
 import stage
-import wheel
 
 DIST = os.path.join(TOP, "dist")
 LIB = "usr/lib/x86_64-linux-gnu"
@@ -143,7 +143,7 @@ def try_notices(made, tally):
 
 def try_wheel_libraries(made, tally):
     with zipfile.ZipFile(next(path for name, path in made.items() if name.endswith(".whl"))) as archive:
-        for name, place in wheel.PLACES.items():
+        for name, place in python.PLACES.items():
             tally.holds(archive.read(place) == data_of(os.path.join(TOP, "bin", name)), f"{place} of the wheel isn't bin/{name}")
 
 
@@ -152,7 +152,7 @@ def try_symbols(made, tally):
     paths = {name: os.path.join(TOP, "bin", name) for name in BINARIES if not name.endswith(".a")}
     needs = {name: elf.glibc_needed(path) for name, path in paths.items()}
     library, program = (max(it for name, it in needs.items() if name.endswith(end)) for end in ("libaecp.so", "aec"))
-    tally.holds(library <= wheel.GLIBC, f"the wheel is {wheel.TAG}, and the library needs glibc {library}")
+    tally.holds(library <= python.glibc_allowed(), f"the wheel is for {python.platform_tag()}, and the library needs glibc {library}")
     for path in paths.values():
         tally.holds(set(elf.libraries_needed(path)) <= {"libc.so.6"}, f"{path} needs {elf.libraries_needed(path)}")
     told = subprocess.run(["dpkg-deb", "-f", made[f"aec-proved_{version()}_amd64.deb"], "Depends"], capture_output=True, text=True).stdout
@@ -262,7 +262,7 @@ def try_c(prefix, lib, name, root, folder, tally):
             if kind == "shared":
                 said = root.run(f"export LD_TRACE_LOADED_OBJECTS=1; {program}")[1]
                 wanted = f"/glibc-hwcaps/{V3}/" if levels_here()[-1] == V3 else "/"
-                tally.holds(re.search(rf"libaecp.so.0 => \S+(?<!/{V3}){wanted}libaecp.so.0", said), f"{name}: the loader takes {said}")
+                tally.holds(re.search(rf"libaecp.so.1 => \S+(?<!/{V3}){wanted}libaecp.so.1", said), f"{name}: the loader takes {said}")
 
 
 def try_debs(made, root, folder, tally):
@@ -270,7 +270,7 @@ def try_debs(made, root, folder, tally):
     if root.words is None:
         print("skipped, since no other root can be entered here: dpkg")
         return
-    debs = [f"{name}_{version()}_amd64.deb" for name in ("aec-proved", "libaecp0", "libaecp-dev")]
+    debs = [f"{name}_{version()}_amd64.deb" for name in ("aec-proved", "libaecp1", "libaecp-dev")]
     for deb in debs:
         root.copy(made[deb], f"/tmp/{deb}")
     before = root.files()
@@ -292,7 +292,7 @@ def try_debs(made, root, folder, tally):
             tally.check("aec of the alternatives", root.run("aec --version"), (0, f"aec {version()}\n"))
             try_commands(root, "/usr/share/doc/aec-proved/README.md", "deb", tally)
             try_c(root.inside("/usr"), LIB.removeprefix("usr/"), "deb", root, folder, tally)
-        status, said = root.run("dpkg -P libaecp-dev libaecp0 aec-proved")
+        status, said = root.run("dpkg -P libaecp-dev libaecp1 aec-proved")
         tally.holds(status == 0, f"dpkg -P: {said}")
         if has_other:
             tally.check("a file of another package, at last", data_of(other), b"libaec's client\n")

@@ -110,7 +110,7 @@ class Preloaded:
 def build(asked, folder, tally):
     """Builds the library and the program of the calls in a folder. Returns the library's path."""
     found = os.path.join(os.path.abspath(asked.folder), "libaecp.so")
-    for name in ("libaecp.so", "libaecp.so.0"):
+    for name in ("libaecp.so", "libaecp.so.1"):
         os.symlink(found, os.path.join(folder, name))
     library = os.path.join(folder, "aecp_preload.so")
     for words in (

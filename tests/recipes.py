@@ -105,7 +105,7 @@ def prepare_page(aec):
     os.symlink(EXAMPLES, aec.file("examples"))
     aec.write("bin/aecp", f'#!/bin/sh\nexec "{sys.executable}" -m aecp "$@"\n'.encode())
     os.chmod(aec.file("bin/aecp"), 0o755)
-    for name in ("libaecp.so", "libaecp.so.0"):
+    for name in ("libaecp.so", "libaecp.so.1"):
         os.symlink(LIBRARY, os.path.join(bin_folder, name))
     return {
         **os.environ,

@@ -30,7 +30,7 @@ extern "C" {
 
 /* The version of this header, 1.0.0: 10,000 times its first number, plus 100 times its second, plus its third. aecp_version returns that of
  * the library, which may differ; it allocates nothing. The structs and calls below change only with the first number, and then the soname
- * changes too (now libaecp.so.0). A greater second number means that calls were added. */
+ * changes too (now libaecp.so.1). A greater second number means that calls were added. */
 #define AECP_VERSION 10000
 uint32_t aecp_version(void);
 

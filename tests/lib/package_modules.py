@@ -88,6 +88,11 @@ def run(words, **more):
     return done.returncode, done.stdout + done.stderr
 
 
+def version():
+    with open(os.path.join(TOP, "VERSION"), encoding="utf-8") as file:
+        return file.read().strip()
+
+
 def venv(python, folder, *words):
     """Makes a fresh environment. Returns the path of its interpreter, or None."""
     status, said = run([python, "-m", "venv", *words, folder])
@@ -109,7 +114,7 @@ def try_bare(python, wheel, tally):
     status, said = run([python, "-m", "pip", "install", "--no-index", "--disable-pip-version-check", wheel])
     tally.holds(status == 0, f"pip install: {said}")
     status, said = run([python, "-c", WITHOUT_NUMPY])
-    tally.check("the module without numpy", (status, said.strip()), (0, open(os.path.join(TOP, "VERSION")).read().strip()))
+    tally.check("the module without numpy", (status, said.strip()), (0, version()))
     try_library(python, tally)
     command = os.path.join(os.path.dirname(python), "aecp")
     status, said = run([command, "--help"])
@@ -180,20 +185,33 @@ def try_wheel(wheel, folder, tally):
 
 
 def try_make(folder, tally):
-    """Runs `make install-library` below an empty folder, and removes what it installed."""
-    places = [f"DESTDIR={folder}", "PREFIX=/usr", "PYTHON_DIR=/usr/lib/python3/dist-packages"]
-    words = ["make", "-s", "-C", TOP, *places, f"PYTHON={sys.executable}"]
-    tally.check("make install-library", run([*words, "install-library"]), (0, ""))
-    tally.holds(os.path.exists(os.path.join(folder, "usr/share/man/man1/aecp.1")), "make install-library installs no aecp(1)")
-    module = os.path.join(folder, "usr/lib/python3/dist-packages")
-    for place in ("usr/lib/glibc-hwcaps/x86-64-v3/libaecp.so.0", "usr/lib/python3/dist-packages/aecp/x86-64-v3/libaecp.so"):
-        is_there = os.path.exists(os.path.join(folder, place))
-        tally.check(f"{place} is installed", is_there, os.path.exists(os.path.join(TOP, "bin/x86-64-v3/libaecp.so")))
-    status, said = run([sys.executable, "-c", "import aecp; print(aecp.__version__)"], PYTHONPATH=module)
-    tally.check("the installed module", (status, said.strip()), (0, open(os.path.join(TOP, "VERSION")).read().strip()))
-    tally.check("make uninstall-library", run([*words, "uninstall-library"]), (0, ""))
+    """Runs `make install-c` below an empty folder, and removes what it installed. Then does so with `make install-python` in a fresh
+    environment, and checks that pip knows each file: of its records nothing may be left."""
+    words = ["make", "-s", "-C", TOP, f"DESTDIR={folder}", "PREFIX=/usr"]
+    tally.check("make install-c", run([*words, "install-c"]), (0, ""))
+    better = os.path.join(folder, "usr/lib/glibc-hwcaps/x86-64-v3/libaecp.so.1")
+    tally.check(f"{better} is installed", os.path.exists(better), os.path.exists(os.path.join(TOP, "bin/x86-64-v3/libaecp.so")))
+    tally.check("make uninstall-c", run([*words, "uninstall-c"]), (0, ""))
     left = [os.path.join(at, name) for at, _, names in os.walk(folder) for name in names]
-    tally.check("what make uninstall-library leaves", left, [])
+    tally.check("what make uninstall-c leaves", left, [])
+    for target in ("make -s uninstall-python", "python -m pip uninstall -q -y --disable-pip-version-check aecp"):
+        python = venv(sys.executable, os.path.join(folder, target.split()[0]))
+        if python:
+            try_make_python(python, target.split(), tally)
+
+
+def try_make_python(python, removal, tally):
+    """Runs `make install-python` in an environment, uses what it installed, and removes it by the words of a command."""
+    before, top = files_of(python), os.path.dirname(os.path.dirname(python))
+    given = {"PATH": f"{top}/bin:/usr/bin:/bin", "VIRTUAL_ENV": top}
+    status, said = run(["make", "-s", "-C", TOP, "install-python", f"PYTHON={python}"], **given)
+    tally.holds(status == 0, f"make install-python: {said}")
+    status, said = run(["aecp", "--version"], **given)
+    tally.check("the installed command aecp", (status, said.split()[-1:]), (0, [version()]))
+    tally.holds(os.path.exists(os.path.join(top, "share/man/man1/aecp.1")), "make install-python installs no aecp(1)")
+    status, said = run([*removal, *(["-C", TOP, f"PYTHON={python}"] if removal[0] == "make" else [])], **given)
+    tally.holds(status == 0, f"{removal}: {said}")
+    tally.check(f"what {removal} leaves", sorted(files_of(python) - before), [])
 
 
 def try_unsafe(tally):

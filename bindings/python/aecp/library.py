@@ -13,7 +13,7 @@ from aecp.options import FLAGS, NUMBERS, Options
 
 HERE = os.path.dirname(os.path.abspath(__file__))
 NAME = "libaecp.so"
-SONAME = "libaecp.so.0"  # what a program is linked to; a distribution has NAME in its package for developers
+SONAME = "libaecp.so.1"  # what a program is linked to; a distribution has NAME in its package for developers
 TEXT_BYTES = 200
 VERSION = 10000  # 1.0.0, as AECP_VERSION of aecp.h
 
@@ -60,13 +60,12 @@ class Reader(ctypes.Structure):
 
 
 def place_of_library() -> str:
-    """Returns the path of the library: AECP_LIBRARY, else beside this module, else in a checkout's bin/, else where the loader
-    looks for SONAME. Beside this module and in bin/, the library for the processor's level comes first."""
+    """Returns the path of the library: AECP_LIBRARY, else beside this module, else where the loader looks for SONAME. Beside this
+    module the library for the processor's level comes first. A checkout has links to its bin/ there."""
     named = os.environ.get("AECP_LIBRARY")
     if named:
         return named
-    folders = (HERE, os.path.normpath(os.path.join(HERE, "..", "..", "..", "bin")))
-    places = (os.path.join(folder, name) for folder in folders for name in names_of(NAME))
+    places = (os.path.join(HERE, name) for name in names_of(NAME))
     return next(filter(os.path.exists, places), SONAME)
 
 

@@ -5,6 +5,7 @@ pub mod WorkedSettings
 pub mod WorkedStreams
 pub mod WorkedBlocks
 pub mod WorkedEdits
+pub mod ReadingParts
 pub mod WorkedReadings
 pub mod WorkedRests
 pub mod WorkedCorners

@@ -8,16 +8,11 @@ use Rattle.aec_params.specs.Places.{zero_block}
 use Rattle.aec_params.specs.Reading.{IsReading}
 use Rattle.aec_params.specs.Faults.{IsFault, not_read, cut_short}
 use Rattle.aec_params.proofs.WorkedSettings.{usual, padded}
+use Rattle.aec_params.proofs.ReadingParts.{is_reading}
 
 -- with a count of 0 no bit is read
 pub nothing_needed : IsReading usual (Some 0) 4096 (bits_of_bytes (0xFF ∷ [])) []
-nothing_needed = record {
-  blocks = [];
-  read = record { sets = []; end_block = 0; end_bit = 0; leads = (refl, refl); done = refl; kept = refl };
-  all_samples = [];
-  filled = record { held = tt; whole = refl; mapped = refl };
-  counted = refl;
-}
+nothing_needed = is_reading [] [] 0 0 [] (refl, refl) refl refl tt refl refl refl
 
 -- ---- with padding, the bits after a full interval are skipped, whatever they are
 
@@ -28,82 +23,37 @@ abbrev run_from_the_start : ℕ → CodedDataSet
 run_from_the_start m = record { reference = Some 0; body = zero_blocks m }
 
 pub ones_skipped : IsReading padded None 4096 (bits_of_bytes (0x00 ∷ 0x07 ∷ [])) (zeros 16)
-ones_skipped = record {
-  blocks = zero_block usual (Some 0) ∷ zero_block usual None ∷ [];
-  read = record {
-    sets = run_from_the_start 1 ∷ [];
-    end_block = 2;
-    end_bit = 16;
-    leads = (refl, refl, record { shape = record { reference = lit< tt; body = tt }; small = refl; within = refl }, refl, (refl, refl));
-    done = refl;
-    kept = refl;
-  };
-  all_samples = zeros 16;
-  filled = record { held = search rules; whole = refl; mapped = refl };
-  counted = refl;
-}
+ones_skipped = is_reading (zero_block usual (Some 0) ∷ zero_block usual None ∷ []) (run_from_the_start 1 ∷ []) 2 16 (zeros 16)
+    (refl, refl, record { shape = record { reference = lit< tt; body = tt }; small = refl; within = refl }, refl, (refl, refl))
+    refl refl (search rules) refl refl refl
 
 pub ones_skipped_between : IsReading padded None 4096 (bits_of_bytes (0x00 ∷ 0x07 ∷ 0x00 ∷ 0x08 ∷ [])) (zeros 24)
-ones_skipped_between = record {
-  blocks = zero_block usual (Some 0) ∷ zero_block usual None ∷ zero_block usual (Some 0) ∷ [];
-  read = record {
-    sets = run_from_the_start 1 ∷ run_from_the_start 0 ∷ [];
-    end_block = 3;
-    end_bit = 29;
-    leads = (
-      refl,
-      refl,
-      record { shape = record { reference = lit< tt; body = tt }; small = refl; within = refl },
-      refl,
-      (refl, refl, record { shape = record { reference = lit< tt; body = tt }; small = refl; within = refl }, refl, (refl, refl)),
-    );
-    done = refl;
-    kept = refl;
-  };
-  all_samples = zeros 24;
-  filled = record { held = search rules; whole = refl; mapped = refl };
-  counted = refl;
-}
+ones_skipped_between =
+    is_reading (zero_block usual (Some 0) ∷ zero_block usual None ∷ zero_block usual (Some 0) ∷ [])
+    (run_from_the_start 1 ∷ run_from_the_start 0 ∷ []) 3 29 (zeros 24)
+    (refl, refl, record { shape = record { reference = lit< tt; body = tt }; small = refl; within = refl }, refl,
+    (refl, refl, record { shape = record { reference = lit< tt; body = tt }; small = refl; within = refl }, refl, (refl, refl)))
+    refl refl (search rules) refl refl refl
 
 -- ---- choices of other coders
 
 -- the second extension for zeros with the first pair (1, 0): the reader ignores the 1, which is in
 -- the reference place
 pub first_member_ignored : IsReading usual (Some 8) 4096 (bits_of_bytes (0x10 ∷ 0x07 ∷ 0x80 ∷ [])) (zeros 8)
-first_member_ignored = record {
-  blocks = zero_block usual (Some 0) ∷ [];
-  read = record {
-    sets = (record { reference = Some 0; body = value_pairs (1 ∷ replicate 7 0) }) ∷ [];
-    end_block = 1;
-    end_bit = 17;
-    leads = (refl, refl, record { shape = record { reference = lit< tt; body = refl }; small = refl; within = refl }, refl, (refl, refl));
-    done = refl;
-    kept = refl;
-  };
-  all_samples = zeros 8;
-  filled = record { held = search rules; whole = refl; mapped = refl };
-  counted = refl;
-}
+first_member_ignored = is_reading (zero_block usual (Some 0) ∷ []) ((record { reference = Some 0; body = value_pairs (1 ∷ replicate 7 0) }) ∷ []) 1 17 (zeros 8)
+    (refl, refl, record { shape = record { reference = lit< tt; body = refl }; small = refl; within = refl }, refl, (refl, refl))
+    refl refl (search rules) refl refl refl
 
 -- a ramp split with k = 1, although k = 0 is as short
 abbrev ramp : List ℤ
 ramp = map pos (0 ∷ 1 ∷ 2 ∷ 3 ∷ 4 ∷ 5 ∷ 6 ∷ 7 ∷ [])
 
 pub ramp_by_the_greater_split : IsReading usual (Some 8) 4096 (bits_of_bytes (0x40 ∷ 0x15 ∷ 0x55 ∷ 0x80 ∷ [])) ramp
-ramp_by_the_greater_split = record {
-  blocks = (record { reference = Some 0; values = 0 ∷ 1 ∷ 2 ∷ 2 ∷ 2 ∷ 2 ∷ 2 ∷ 2 ∷ [] }) ∷ [];
-  read = record {
-    sets = (record { reference = Some 0; body = split_values 1 (1 ∷ 2 ∷ 2 ∷ 2 ∷ 2 ∷ 2 ∷ 2 ∷ []) }) ∷ [];
-    end_block = 1;
-    end_bit = 31;
-    leads = (refl, refl, record { shape = record { reference = lit< tt; body = (lit< tt, refl) }; small = refl; within = refl }, refl, (refl, refl));
-    done = refl;
-    kept = refl;
-  };
-  all_samples = ramp;
-  filled = record { held = search rules; whole = refl; mapped = refl };
-  counted = refl;
-}
+ramp_by_the_greater_split =
+    is_reading ((record { reference = Some 0; values = 0 ∷ 1 ∷ 2 ∷ 2 ∷ 2 ∷ 2 ∷ 2 ∷ 2 ∷ [] }) ∷ [])
+    ((record { reference = Some 0; body = split_values 1 (1 ∷ 2 ∷ 2 ∷ 2 ∷ 2 ∷ 2 ∷ 2 ∷ []) }) ∷ []) 1 31 ramp
+    (refl, refl, record { shape = record { reference = lit< tt; body = (lit< tt, refl) }; small = refl; within = refl }, refl, (refl, refl))
+    refl refl (search rules) refl refl refl
 
 -- ---- no bits, although a block is needed
 

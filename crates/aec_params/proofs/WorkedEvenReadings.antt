@@ -8,6 +8,7 @@ use Rattle.aec_params.specs.Places.{zero_block}
 use Rattle.aec_params.specs.Reading.{IsReading}
 use Rattle.aec_params.specs.Faults.{IsFault, too_long, too_many}
 use Rattle.aec_params.proofs.WorkedSettings.{tens}
+use Rattle.aec_params.proofs.ReadingParts.{is_reading}
 
 abbrev ramp : List ℤ
 ramp = map pos (0 ∷ 1 ∷ 2 ∷ 3 ∷ 4 ∷ 5 ∷ 6 ∷ 7 ∷ 8 ∷ 9 ∷ [])
@@ -22,53 +23,20 @@ abbrev ramp_set : ℕ → CodedDataSet
 ramp_set k = record { reference = Some 0; body = split_values k (1 ∷ replicate 8 2) }
 
 pub ramp_with_count : IsReading (tens 1) (Some 10) 4096 (bits_of_bytes ramp_bytes) ramp
-ramp_with_count = record {
-  blocks = ramp_block ∷ [];
-  read = record {
-    sets = ramp_set 0 ∷ [];
-    end_block = 1;
-    end_bit = 37;
-    leads = (refl, refl, record { shape = record { reference = lit< tt; body = (lit< tt, refl) }; small = refl; within = refl }, refl, (refl, refl));
-    done = refl;
-    kept = refl;
-  };
-  all_samples = ramp;
-  filled = record { held = search rules; whole = refl; mapped = refl };
-  counted = refl;
-}
+ramp_with_count = is_reading (ramp_block ∷ []) (ramp_set 0 ∷ []) 1 37 ramp
+    (refl, refl, record { shape = record { reference = lit< tt; body = (lit< tt, refl) }; small = refl; within = refl }, refl, (refl, refl))
+    refl refl (search rules) refl refl refl
 
 pub ramp_without_count : IsReading (tens 1) None 4096 (bits_of_bytes ramp_bytes) ramp
-ramp_without_count = record {
-  blocks = ramp_block ∷ [];
-  read = record {
-    sets = ramp_set 0 ∷ [];
-    end_block = 1;
-    end_bit = 37;
-    leads = (refl, refl, record { shape = record { reference = lit< tt; body = (lit< tt, refl) }; small = refl; within = refl }, refl, (refl, refl));
-    done = refl;
-    kept = refl;
-  };
-  all_samples = ramp;
-  filled = record { held = search rules; whole = refl; mapped = refl };
-  counted = refl;
-}
+ramp_without_count = is_reading (ramp_block ∷ []) (ramp_set 0 ∷ []) 1 37 ramp
+    (refl, refl, record { shape = record { reference = lit< tt; body = (lit< tt, refl) }; small = refl; within = refl }, refl, (refl, refl))
+    refl refl (search rules) refl refl refl
 
 -- a choice of another coder: k = 1, although k = 0 is as short
 pub ramp_by_the_greater_split : IsReading (tens 1) (Some 10) 4096 (bits_of_bytes (0x40 ∷ 0x15 ∷ 0x55 ∷ 0x58 ∷ 0x00 ∷ [])) ramp
-ramp_by_the_greater_split = record {
-  blocks = ramp_block ∷ [];
-  read = record {
-    sets = ramp_set 1 ∷ [];
-    end_block = 1;
-    end_bit = 37;
-    leads = (refl, refl, record { shape = record { reference = lit< tt; body = (lit< tt, refl) }; small = refl; within = refl }, refl, (refl, refl));
-    done = refl;
-    kept = refl;
-  };
-  all_samples = ramp;
-  filled = record { held = search rules; whole = refl; mapped = refl };
-  counted = refl;
-}
+ramp_by_the_greater_split = is_reading (ramp_block ∷ []) (ramp_set 1 ∷ []) 1 37 ramp
+    (refl, refl, record { shape = record { reference = lit< tt; body = (lit< tt, refl) }; small = refl; within = refl }, refl, (refl, refl))
+    refl refl (search rules) refl refl refl
 
 abbrev sevens : ℕ → List ℤ
 sevens n = map pos (replicate n 7)
@@ -77,37 +45,15 @@ abbrev sevens_set : CodedDataSet
 sevens_set = record { reference = Some 7; body = zero_blocks 0 }
 
 pub five_sevens : IsReading (tens 2) (Some 5) 4096 (bits_of_bytes (0x00 ∷ 0x78 ∷ [])) (sevens 5)
-five_sevens = record {
-  blocks = zero_block (tens 2) (Some 7) ∷ [];
-  read = record {
-    sets = sevens_set ∷ [];
-    end_block = 1;
-    end_bit = 13;
-    leads = (refl, refl, record { shape = record { reference = lit< tt; body = tt }; small = refl; within = refl }, refl, (refl, refl));
-    done = refl;
-    kept = refl;
-  };
-  all_samples = sevens 10;
-  filled = record { held = search rules; whole = refl; mapped = refl };
-  counted = refl;
-}
+five_sevens = is_reading (zero_block (tens 2) (Some 7) ∷ []) (sevens_set ∷ []) 1 13 (sevens 10)
+    (refl, refl, record { shape = record { reference = lit< tt; body = tt }; small = refl; within = refl }, refl, (refl, refl))
+    refl refl (search rules) refl refl refl
 
 -- without a count, the whole block is read
 pub ten_sevens : IsReading (tens 2) None 4096 (bits_of_bytes (0x00 ∷ 0x78 ∷ [])) (sevens 10)
-ten_sevens = record {
-  blocks = zero_block (tens 2) (Some 7) ∷ [];
-  read = record {
-    sets = sevens_set ∷ [];
-    end_block = 1;
-    end_bit = 13;
-    leads = (refl, refl, record { shape = record { reference = lit< tt; body = tt }; small = refl; within = refl }, refl, (refl, refl));
-    done = refl;
-    kept = refl;
-  };
-  all_samples = sevens 10;
-  filled = record { held = search rules; whole = refl; mapped = refl };
-  counted = refl;
-}
+ten_sevens = is_reading (zero_block (tens 2) (Some 7) ∷ []) (sevens_set ∷ []) 1 13 (sevens 10)
+    (refl, refl, record { shape = record { reference = lit< tt; body = tt }; small = refl; within = refl }, refl, (refl, refl))
+    refl refl (search rules) refl refl refl
 
 -- ---- faults
 

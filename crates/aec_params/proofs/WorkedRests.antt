@@ -11,6 +11,7 @@ use Rattle.aec_params.specs.Params.{IsHeld}
 use Rattle.aec_params.specs.Reading.{IsReading}
 use Rattle.aec_params.specs.Faults.{IsFault, not_read, too_large, too_long, too_many}
 use Rattle.aec_params.proofs.WorkedSettings.{usual, with_interval, unprocessed}
+use Rattle.aec_params.proofs.ReadingParts.{is_reading}
 
 -- ---- the remainder code: all blocks that the segment has left, or those that a count needs
 
@@ -28,36 +29,14 @@ abbrev remainder_set : CodedDataSet
 remainder_set = record { reference = Some 0; body = zero_blocks 4 }
 
 pub forty_zeros : IsReading (with_interval 64) (Some 40) 4096 (bits_of_bytes (0x00 ∷ 0x00 ∷ 0x80 ∷ [])) (zeros 40)
-forty_zeros = record {
-  blocks = zero_run_blocks 4;
-  read = record {
-    sets = remainder_set ∷ [];
-    end_block = 64;
-    end_bit = 17;
-    leads = (refl, refl, record { shape = record { reference = lit< tt; body = tt }; small = refl; within = refl }, refl, (refl, refl));
-    done = refl;
-    kept = refl;
-  };
-  all_samples = zeros 40;
-  filled = record { held = search rules; whole = refl; mapped = refl };
-  counted = refl;
-}
+forty_zeros = is_reading (zero_run_blocks 4) (remainder_set ∷ []) 64 17 (zeros 40)
+    (refl, refl, record { shape = record { reference = lit< tt; body = tt }; small = refl; within = refl }, refl, (refl, refl))
+    refl refl (search rules) refl refl refl
 
 pub whole_segment_of_zeros : IsReading (with_interval 64) None 4096 (bits_of_bytes (0x00 ∷ 0x00 ∷ 0x80 ∷ [])) (zeros 512)
-whole_segment_of_zeros = record {
-  blocks = zero_run_blocks 63;
-  read = record {
-    sets = remainder_set ∷ [];
-    end_block = 64;
-    end_bit = 17;
-    leads = (refl, refl, record { shape = record { reference = lit< tt; body = tt }; small = refl; within = refl }, refl, (refl, refl));
-    done = refl;
-    kept = refl;
-  };
-  all_samples = zeros 512;
-  filled = record { held = held_zeros 512; whole = refl; mapped = refl };
-  counted = refl;
-}
+whole_segment_of_zeros = is_reading (zero_run_blocks 63) (remainder_set ∷ []) 64 17 (zeros 512)
+    (refl, refl, record { shape = record { reference = lit< tt; body = tt }; small = refl; within = refl }, refl, (refl, refl))
+    refl refl (held_zeros 512) refl refl refl
 
 -- ---- an uncompressed block without preprocessing
 
@@ -66,20 +45,11 @@ eight_values = 0 ∷ 1 ∷ 2 ∷ 3 ∷ 4 ∷ 5 ∷ 6 ∷ 7 ∷ []
 
 pub uncompressed_block :
     IsReading unprocessed None 4096 (bits_of_bytes (0xE0 ∷ 0x00 ∷ 0x20 ∷ 0x40 ∷ 0x60 ∷ 0x80 ∷ 0xA0 ∷ 0xC0 ∷ 0xE0 ∷ [])) (map pos eight_values)
-uncompressed_block = record {
-  blocks = (record { reference = None; values = eight_values }) ∷ [];
-  read = record {
-    sets = (record { reference = None; body = uncompressed_values eight_values }) ∷ [];
-    end_block = 1;
-    end_bit = 67;
-    leads = (refl, refl, record { shape = record { reference = tt; body = (refl, search rules) }; small = refl; within = refl }, refl, (refl, refl));
-    done = refl;
-    kept = refl;
-  };
-  all_samples = map pos eight_values;
-  filled = record { held = search rules; whole = refl; mapped = refl };
-  counted = refl;
-}
+uncompressed_block =
+    is_reading ((record { reference = None; values = eight_values }) ∷ [])
+    ((record { reference = None; body = uncompressed_values eight_values }) ∷ []) 1 67 (map pos eight_values)
+    (refl, refl, record { shape = record { reference = tt; body = (refl, search rules) }; small = refl; within = refl }, refl, (refl, refl))
+    refl refl (search rules) refl refl refl
 
 -- ---- faults
 

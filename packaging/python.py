@@ -1,0 +1,139 @@
+#!/usr/bin/env python3
+"""Builds the sdist and the wheel of the Python module, with the library inside: python.py FOLDER
+
+Copies bindings/python, with the files that its links lead to, and runs `python3 -m build` there: all metadata are in its pyproject.toml.
+FOLDER gets both files, whose dates are SOURCE_DATE_EPOCH or else the commit's. This Python must have build, setuptools and wheel, or
+else Debian's, /usr/bin/python3: the wheel is for any Python.
+"""
+
+import glob
+import gzip
+import io
+import os
+import re
+import shutil
+import subprocess
+import sys
+import tarfile
+import tempfile
+
+sys.dont_write_bytecode = True
+
+import elf
+import proved
+import stage
+
+SOURCE = os.path.join(proved.TOP, "bindings", "python")
+LIBRARIES = ("libaecp.so", f"{stage.V3}/libaecp.so")
+# Where the wheel has the libraries, by their names in bin/.
+PLACES = {name: f"aecp/{name}" for name in LIBRARIES}
+NEEDED = "import build, setuptools, wheel"
+LEFT_OUT = ("__pycache__", "build", "dist", "*.egg-info", "tests", ".*")
+
+
+class Unfit(Exception):
+    """The library needs more than the wheel's tag allows, or nothing here can build wheels."""
+
+
+def platform_tag():
+    """Returns the wheel's platform, which setup.py names."""
+    with open(os.path.join(SOURCE, "setup.py"), encoding="utf-8") as file:
+        return re.search(r'(?m)^PLATFORM = "(.*)"$', file.read())[1]
+
+
+def glibc_allowed():
+    """Returns the version of glibc in the platform's name, as (2, 17)."""
+    return tuple(map(int, re.search(r"_(\d+)_(\d+)_", platform_tag()).groups()))
+
+
+def check_library(path):
+    """Raises Unfit if a library needs more than the tag allows."""
+    needed, libraries = elf.glibc_needed(path), elf.libraries_needed(path)
+    if needed > glibc_allowed() or not set(libraries) <= {"libc.so.6"}:
+        version = ".".join(map(str, needed))
+        raise Unfit(f"{path} needs glibc {version} and {', '.join(libraries)}, which {platform_tag()} doesn't allow")
+
+
+def builder():
+    """Returns the words of an interpreter that can build wheels. Raises Unfit if there is none."""
+    for path in (sys.executable, "/usr/bin/python3"):
+        if os.path.exists(path) and subprocess.run([path, "-c", NEEDED], capture_output=True, check=False).returncode == 0:
+            return path
+    raise Unfit("no Python here has build, setuptools and wheel (on Debian: python3-build, python3-setuptools, python3-wheel)")
+
+
+def copy_sources(folder, text):
+    """Copies the module's sources and what their links lead to. A link that leads to nothing is left out. `text` is that of PROVED, or
+    None."""
+    for at, folders, names in os.walk(SOURCE):
+        kept = shutil.ignore_patterns(*LEFT_OUT)
+        folders[:] = sorted(set(folders) - kept(at, folders))
+        for name in sorted(set(names) - kept(at, names)):
+            path = os.path.join(at, name)
+            if os.path.exists(path):
+                mode = 0o755 if name.endswith(".so") else 0o644
+                stage.write(os.path.join(folder, os.path.relpath(path, SOURCE)), stage.read(path), mode)
+    if text is not None:
+        stage.write(os.path.join(folder, "aecp", "PROVED"), text.encode())
+
+
+def date_all(folder, moment):
+    """Gives each file and folder a date."""
+    for path in [folder, *stage.below(folder)]:
+        os.utime(path, (moment, moment))
+
+
+def repack(path, moment):
+    """Writes an sdist again, with sorted names, one date and no owner: setuptools writes the time of the build."""
+    with tarfile.open(path) as archive:
+        members = [(it, archive.extractfile(it).read() if it.isreg() else None) for it in archive.getmembers()]
+    with open(path, "wb") as raw, gzip.GzipFile("", "wb", 9, raw, mtime=moment) as packed:
+        with tarfile.open(fileobj=packed, mode="w", format=tarfile.GNU_FORMAT) as archive:
+            for info, data in sorted(members, key=lambda it: it[0].name):
+                info.uid = info.gid = 0
+                info.uname = info.gname = "root"
+                info.mtime, info.pax_headers = moment, {}
+                archive.addfile(info, io.BytesIO(data) if data is not None else None)
+
+
+def build(folder, moment, text=None):
+    """Writes the sdist and the wheel into a folder. Returns their paths. Raises Unfit."""
+    for name in LIBRARIES:
+        path = os.path.join(proved.TOP, "bin", name)
+        if os.path.exists(path):
+            check_library(path)
+    python = builder()
+    with tempfile.TemporaryDirectory() as work:
+        source, made = os.path.join(work, "python"), os.path.join(work, "made")
+        copy_sources(source, text)
+        date_all(source, moment)
+        given = {**os.environ, "SOURCE_DATE_EPOCH": str(max(moment, 315532800)), "PYTHONDONTWRITEBYTECODE": "1"}
+        words = [python, "-m", "build", "--no-isolation", "--outdir", made, source]
+        done = subprocess.run(words, env=given, capture_output=True, text=True, check=False)
+        if done.returncode:
+            raise Unfit(f"{' '.join(words)} fails:\n{(done.stdout + done.stderr)[-2000:]}")
+        (sdist,) = glob.glob(os.path.join(made, "*.tar.gz"))
+        repack(sdist, moment)
+        return [shutil.copy(path, folder) for path in sorted(glob.glob(os.path.join(made, "*")))]
+
+
+def main():
+    if len(sys.argv) != 2:
+        print(__doc__.splitlines()[0], file=sys.stderr)
+        return 1
+    if not os.path.exists(os.path.join(proved.TOP, "bin", LIBRARIES[0])):
+        print(f"there is no bin/{LIBRARIES[0]}: run make library first", file=sys.stderr)
+        return 1
+    os.umask(0o022)
+    os.makedirs(sys.argv[1], exist_ok=True)
+    try:
+        made = build(sys.argv[1], proved.moment())
+    except (Unfit, proved.NotProved) as fault:
+        print(fault, file=sys.stderr)
+        return 1
+    print("\n".join(made))
+    return 0
+
+
+if __name__ == "__main__":
+    sys.exit(main())
