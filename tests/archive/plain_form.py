@@ -8,6 +8,7 @@ from __future__ import annotations
 import base64
 import hashlib
 import json
+import math
 import re
 import struct
 import zlib
@@ -15,6 +16,10 @@ from copy import deepcopy
 from dataclasses import dataclass
 from typing import Any, NamedTuple, Optional
 
+import plain_reader
+from settings import Settings
+
+GAPS = Settings(bits=32, block_size=16, interval=128, preprocess=False)
 MAGIC = b"aecp\r\n\x1a\n"
 VERSION = 2
 FOOT = struct.Struct("<8sIIQII")
@@ -26,7 +31,7 @@ FIELDS = {
 }  # fmt: skip
 ENTRIES = {
     "keep": {"what", "when", "by", "after"},
-    "edit": {"what", "when", "by", "before", "after", "samples_changed", "script", "inverse"},
+    "edit": {"what", "when", "by", "before", "after", "samples_changed", "script", "inverse", "shape"},
     "undo": {"what", "when", "by", "before", "after", "edit"},
     "forget": {"what", "when", "by", "entries"},
 }
@@ -97,6 +102,7 @@ def demand_entry(entry: Any) -> None:
     for name in ("before", "after"):
         if name in entry:
             demand_state(entry[name])
+    assert entry.get("shape") is None or math.prod(entry["shape"]) == entry["before"]["samples"]["count"], entry
 
 
 def parts_of(data: bytes) -> Parts:
@@ -141,6 +147,28 @@ def sha256(data: bytes) -> str:
 def packed(it: str) -> bytes:
     """Returns the bytes of a text that is base64 of zlib. An empty text has no bytes."""
     return zlib.decompress(base64.b64decode(it, validate=True)) if it else b""
+
+
+def script_of(parts: Parts, number: int) -> bytes:
+    """Returns the script of an entry of the history."""
+    it = parts.history[number]["script"]
+    if isinstance(it, str):
+        return packed(it)
+    if "same" in it:
+        assert it["same"] < number, it
+        return script_of(parts, it["same"])
+    given, places = it["pixels"], [-1]
+    for gap in numbers_in(given["gaps"], GAPS, given["count"]):
+        places.append(places[-1] + 1 + gap)
+    values = numbers_in(given["values"], Settings(**parts.fields["options"]), given["count"])
+    return b"".join(b"overwrite %d %d\n" % it for it in zip(places[1:], values))
+
+
+def numbers_in(it: str, settings: Settings, count: int) -> list[int]:
+    """Returns the samples of a stream in base64, which must be whole."""
+    samples = plain_reader.reading(base64.b64decode(it, validate=True), settings, count)
+    assert len(samples) == count, samples
+    return samples
 
 
 def as_packed(data: bytes) -> str:

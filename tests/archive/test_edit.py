@@ -17,14 +17,16 @@ from making import (
     USUAL, keep, made, noise, numbers_of, options_of, parts_at, read, samples_at, settings_by_chance, sound_parts, walk,
     walks_for, words_of, write,
 )  # fmt: skip
-from plain_form import packed
+from plain_form import script_of
 from running import command, done, refused
 from lib.settings import Settings
 
 
-def script_of(settings: Settings, samples: list[int], chance: random.Random, lines: int = 5) -> tuple[bytes, list[int]]:
-    """Returns a random script that fits, and the samples after it by the model."""
+def script_for(settings: Settings, samples: list[int], chance: random.Random, lines: int = 5) -> tuple[bytes, list[int]]:
+    """Returns a random script that fits, and the samples after it by the model. One in three only overwrites."""
     script: list[str] = []
+    if samples and chance.random() < 0.3:
+        return pixels_for(settings, samples, chance)
     for _ in range(chance.randint(1, lines)):
         count = len(samples)
         first = chance.randint(0, count)
@@ -41,6 +43,18 @@ def script_of(settings: Settings, samples: list[int], chance: random.Random, lin
         script.append(line)
         samples = script_model.edited(settings, samples, script_model.edits_of(line.encode()))
     return "\n".join(script).encode() + b"\n", samples
+
+
+def pixels_for(settings: Settings, samples: list[int], chance: random.Random) -> tuple[bytes, list[int]]:
+    """Returns a script that overwrites single samples, mostly in ascending order, and the samples after it."""
+    places = chance.sample(range(len(samples)), min(len(samples), chance.choice([1, 2, 50, 700])))
+    if chance.random() < 0.7:
+        places.sort()
+    after, script = samples.copy(), b""
+    for place in places:
+        after[place] = chance.choice([settings.least(), settings.most(), samples[place]])
+        script += b"overwrite %d %d\n" % (place, after[place])
+    return script, after
 
 
 class Archive(RuleBasedStateMachine):
@@ -67,15 +81,19 @@ class Archive(RuleBasedStateMachine):
     @rule(seed=st.integers(0, 2**32))
     def edit(self, seed: int) -> None:
         before = parts_at(self.path)
-        script, after = script_of(self.settings, self.samples, random.Random(seed))
+        script, after = script_for(self.settings, self.samples, random.Random(seed))
         if len(after) > 20000:
             return
         self.undone.append((self.samples, before.stream))
         done(self.folder, "edit", "f.aec", "-", given=script)
-        entry = parts_at(self.path).history[-1]
-        assert packed(entry["script"] if isinstance(entry["script"], str) else "") in (script, b"")
-        same = sum(a == b for a, b in zip(self.samples, after))
-        assert len(after) != len(self.samples) or entry["samples_changed"] == len(after) - same
+        parts = parts_at(self.path)
+        assert script_of(parts, len(parts.history) - 1) == script
+        changed, differ = parts.history[-1]["samples_changed"], sum(a != b for a, b in zip(self.samples, after))
+        if all(line.startswith((b"overwrite", b"#")) for line in script.splitlines()):
+            assert changed == differ
+        else:
+            assert abs(len(after) - len(self.samples)) <= changed <= len(self.samples) + len(after)
+            assert changed > 0 or after == self.samples
         self.samples = after
         self.entries.append("edit")
 
@@ -236,7 +254,7 @@ def test_diff_of_random_lists(place: str, times: int) -> None:
     for number in range(12 * times):
         chance = random.Random(number)
         samples = walk(number, chance.choice([0, 50, 2500, 7000]))
-        _, wanted = script_of(USUAL, samples, chance, 8)
+        _, wanted = script_for(USUAL, samples, chance, 8)
         folder = tempfile.mkdtemp(dir=place)
         made(os.path.join(folder, "a.aec"), samples)
         made(os.path.join(folder, "b.aec"), wanted)

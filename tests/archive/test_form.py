@@ -18,7 +18,7 @@ from hypothesis import strategies as st
 from making import (
     FAST, USUAL, flip, keep, made, noise, options_of, parts_at, read, samples_for, settings_by_chance, sound_parts, walk, write,
 )  # fmt: skip
-from plain_form import GROUP_BITS, packed, parts_of, sha256
+from plain_form import GROUP_BITS, packed, parts_of, script_of, sha256
 from running import command, done, refused
 from lib.settings import Settings
 
@@ -138,13 +138,14 @@ def test_history_has_the_documented_entries(place: str) -> None:
     assert edit["before"] == kept["after"] == undo["after"] == last["before"]
     assert edit["after"] == undo["before"]
     assert undo["edit"] == 1 and edit["inverse"] is None and edit["samples_changed"] >= 1
-    assert packed(edit["script"]) == b"overwrite 5 9\nappend 1 2\n"
+    assert script_of(parts, 1) == b"overwrite 5 9\nappend 1 2\n"
     assert last["after"]["samples"] == parts.fields["samples"]
     assert parts.fields["source"] == first.fields["source"], "the source is described as it was kept"
     done(place, "forget", "f.aec", "--keep", "1")
-    entries = sound_parts(path).history
+    parts = sound_parts(path)
+    entries = parts.history
     assert entries[0]["what"] == "forget" and entries[0]["entries"] >= 1
-    assert entries[-1]["what"] == "edit" and packed(entries[-1]["script"]) == b"remove 0 7\n"
+    assert entries[-1]["what"] == "edit" and script_of(parts, 1) == b"remove 0 7\n"
 
 
 @pytest.mark.parametrize("settings", [USUAL, Settings(bits=3, restricted=True), Settings(bits=20, three_byte=True)], ids=str)

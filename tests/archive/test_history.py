@@ -9,7 +9,7 @@ from typing import Any
 
 import pytest
 from making import FAST, USUAL, flip, keep, leftovers, noise, parts_at, read, samples_at, sound_parts, walk, write
-from plain_form import as_packed, packed
+from plain_form import as_packed, script_of
 from running import command, done, refused
 from lib.settings import Settings
 
@@ -119,7 +119,7 @@ def test_forget_twice_counts_all(place: str) -> None:
     parts = sound_parts(path)
     assert [it["what"] for it in parts.history] == ["forget", "edit"]
     assert parts.history[0]["entries"] == 4 and dropped == 2
-    assert packed(parts.history[1]["script"]) == b"overwrite 3 9\n"
+    assert script_of(parts, 1) == b"overwrite 3 9\n"
 
 
 def test_forget_keeps_scripts_that_later_entries_need(place: str) -> None:
@@ -130,8 +130,8 @@ def test_forget_keeps_scripts_that_later_entries_need(place: str) -> None:
     done(place, "undo", "f.aec")
     done(place, "edit", "f.aec", "-", given=b"overwrite 1 9\n" * 50)
     done(place, "forget", "f.aec", "--keep", "1")
-    history = sound_parts(path).history
-    assert packed(history[-1]["script"]) == b"overwrite 1 9\n" * 50
+    parts = sound_parts(path)
+    assert script_of(parts, len(parts.history) - 1) == b"overwrite 1 9\n" * 50
     done(place, "undo", "f.aec")
     assert samples_at(path) == samples
 
@@ -141,6 +141,10 @@ def changed(path: str, change: Any) -> None:
     change(parts.history)
     with open(path, "wb") as file:
         file.write(parts.sealed())
+
+
+def pixels(count: int) -> dict[str, Any]:
+    return {"pixels": {"count": count, "gaps": "", "values": ""}}
 
 
 FORGERIES = {
@@ -158,6 +162,17 @@ FORGERIES = {
     "front past the end": lambda it: it[2].update(inverse={"difference": {"front": 2**63, "end": 0, "middle": as_packed(b"")}}),
     "front negative": lambda it: it[2].update(inverse={"difference": {"front": -1, "end": 0, "middle": as_packed(b"")}}),
     "front and end overlap": lambda it: it[2].update(inverse={"difference": {"front": 500, "end": 10**6, "middle": as_packed(b"")}}),
+    "values that don't decode": lambda it: it[2].update(inverse={"values": ""}),
+    "values that are a number": lambda it: it[2].update(inverse={"values": 7}),
+    "values and more": lambda it: it[2].update(inverse={"values": "", "script": ""}),
+    "values of a script that inserts": lambda it: it[2].update(script=as_packed(b"insert 0 1\n"), inverse={"values": "AAAA"}),
+    "values of a script that doesn't fit": lambda it: it[2].update(script=as_packed(b"overwrite 9999 1\n"), inverse={"values": "AAAA"}),
+    "pixels that don't decode": lambda it: it[2].update(script=pixels(1), inverse={"values": "AAAA"}),
+    "pixels without gaps": lambda it: it[2].update(script={"pixels": {"count": 1, "values": "AAAA"}}),
+    "no pixels": lambda it: it[2].update(script=pixels(0)),
+    "too many pixels": lambda it: it[2].update(script=pixels(2**32)),
+    "a shape of other samples": lambda it: it[2].update(shape=[3, 999]),
+    "a shape that is a text": lambda it: it[2].update(shape="30x100"),
     "an undo of no edit": lambda it: it.append({**it[2], "what": "undo", "edit": 0}),
     "no list": lambda it: it.clear(),
     "an entry more": lambda it: it.append(dict(it[2])),
@@ -196,7 +211,11 @@ def test_forged_histories(place: str, name: str) -> None:
     assert leftovers(place) == []
 
 
-HARMLESS = {"states that don't follow", "no list", "an entry more"}
+FOUND_BY_UNDO = {
+    "front past the end", "front and end overlap", "values that don't decode", "values of a script that inserts",
+    "values of a script that doesn't fit", "pixels that don't decode",
+}  # fmt: skip
+HARMLESS = {"states that don't follow", "no list", "an entry more", "a script that is no zlib"}
 
 
 @pytest.mark.parametrize("name", sorted(set(FORGERIES) - HARMLESS))
@@ -205,8 +224,9 @@ def test_forged_histories_are_found_by_check(place: str, name: str) -> None:
     done(place, "edit", "f.aec", "-", given=b"overwrite 1 9\n")
     done(place, "edit", "f.aec", "-", given=b"overwrite 2 9\n")
     changed(path, FORGERIES[name])
-    if name in ("a script that is no zlib", "front past the end", "front and end overlap"):
-        return  # found by undo, which compares sums
+    if name in FOUND_BY_UNDO:
+        refused(place, "undo", "f.aec")
+        return
     assert command(place, "check", "f.aec").status == 1
 
 
@@ -278,10 +298,11 @@ def test_forget_moves_the_places_of_undone_edits(place: str) -> None:
     done(place, "undo", "f.aec")
     done(place, "edit", "f.aec", "-", given=b"overwrite 7 9\n")
     done(place, "forget", "f.aec", "--keep", "3")
-    history = sound_parts(path).history
+    parts = sound_parts(path)
+    history = parts.history
     assert [it["what"] for it in history] == ["forget", "edit", "undo", "edit"]
     assert history[2]["edit"] == 1 and history[1]["inverse"] is None
-    assert packed(history[1]["script"]) == b"overwrite 2 9\n"
+    assert script_of(parts, 1) == b"overwrite 2 9\n"
     done(place, "forget", "f.aec", "--keep", "2")
     history = sound_parts(path).history
     assert [it["what"] for it in history] == ["forget", "undo", "edit"] and history[1]["edit"] is None

@@ -30,21 +30,28 @@ def crafted_place(tmp_path: Path) -> str:
     done(str(folder), "edit", "f.aec", "-", given=b"remove 0 100\n")
     done(str(folder), "undo", "f.aec")
     done(str(folder), "edit", "f.aec", "-", given=b"overwrite 5 9 8 7\nappend 4\n")
+    pixels = b"".join(b"overwrite %d %d\n" % (it * 40, it) for it in range(300))
+    done(str(folder), "edit", "f.aec", "-", given=pixels)
+    assert [list(it["script"]) for it in parts_at(str(folder / "f.aec")).history[-2:]] == [["same"], ["pixels"]]
     shutil.copy(folder / "f.aec", folder / "sound.aec")
     (folder / "script").write_bytes(b"overwrite 0 1\n")
     return str(folder)
 
 
-@pytest.mark.parametrize("part", range(4))
-def test_crafted_files(tmp_path: Path, part: int, times: int) -> None:
-    folder = crafted_place(tmp_path)
+def test_crafted_files(tmp_path: Path, times: int) -> None:
+    """Four processes try a quarter of the files each."""
     count = 200 if times == 1 else 5000
     environment = {key: it for key, it in os.environ.items() if key != "LD_PRELOAD"}
-    words = [sys.executable, str(HERE / "crafted.py"), folder, str(part * count), str(count)]
-    ended = subprocess.run(words, env=environment, capture_output=True, text=True, check=False)
-    lines = [json.loads(it) for it in ended.stdout.splitlines()]
-    assert ended.returncode == 0 and lines and lines[-1] == {"done": count}, ended.stderr[-3000:]
-    assert not lines[:-1], f"{len(lines) - 1} of {count} crafted files: " + "\n".join(map(str, lines[:5]))
+    running = []
+    for part in range(4):
+        (tmp_path / str(part)).mkdir()
+        words = [sys.executable, str(HERE / "crafted.py"), crafted_place(tmp_path / str(part)), str(part * count), str(count)]
+        running.append(subprocess.Popen(words, env=environment, stdout=subprocess.PIPE, stderr=subprocess.PIPE, text=True))
+    for it in running:
+        out, err = it.communicate()
+        lines = [json.loads(line) for line in out.splitlines()]
+        assert it.returncode == 0 and lines and lines[-1] == {"done": count}, err[-3000:]
+        assert not lines[:-1], f"{len(lines) - 1} of {count} crafted files: " + "\n".join(map(str, lines[:5]))
 
 
 def test_one_crafted_file_ends_no_run(place: str) -> None:

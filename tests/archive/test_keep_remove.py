@@ -194,3 +194,44 @@ def test_new_folders_are_synced_before_the_original_goes(place: str) -> None:
     synced = [os.path.realpath(it.first) for it in ran.calls[: unlinked(ran.calls, "a")] if it.name == "fsync" and it.result == 0]
     made = [place, *(os.path.join(place, it) for it in ("new", "new/to", "new/to/src", "new/to/src/deep"))]
     assert {os.path.realpath(it) for it in made} <= set(synced), synced
+
+
+@pytest.mark.parametrize("at", [0, 5 << 20, (6 << 20) - 1])
+def test_remove_compares_all_of_a_large_file(place: str, at: int) -> None:
+    """A byte has changed, with size and time as they were."""
+    path = write(place, "a", os.urandom(6 << 20))
+    done(place, "keep", "a", "-n", "16", "--anyway")
+    before = os.stat(path).st_mtime_ns
+    with open(path, "r+b") as file:
+        file.seek(at)
+        byte = file.read(1)[0]
+        file.seek(at)
+        file.write(bytes([byte ^ 1]))
+    os.utime(path, ns=(before, before))
+    ran = command(place, "keep", "a", "-n", "16", "--remove")
+    assert ran.status == 1 and os.path.exists(path), ran
+
+
+def test_a_large_file_that_changes_while_it_is_compared(place: str) -> None:
+    """What was compared already changes: the file isn't removed."""
+    path = write(place, "a", os.urandom(6 << 20))
+    done(place, "keep", "a", "-n", "16", "--anyway")
+    other = bytes(99)
+
+    def changing() -> None:
+        from aecp.archive import _keeping
+
+        real, calls = _keeping.read_all, [0]
+
+        def read_all(file: Any, length: int) -> bytes:
+            calls[0] += 1
+            data = real(file, length)
+            if calls[0] == 9:
+                with open(path, "r+b") as another:
+                    another.write(other)
+            return data
+
+        _keeping.read_all = read_all  # type: ignore[attr-defined]
+
+    ran = command(place, "keep", "a", "-n", "16", "--remove", how=How(before=changing))
+    assert ran.status == 1 and read(path).startswith(other), ran

@@ -227,6 +227,27 @@ def test_a_stop_ends_blocked_processes(place: str, blocked: Blocked, number: int
     assert status == 128 + number and "stopped" in err, (status, err)
 
 
+@pytest.mark.parametrize("number", [signal.SIGINT, signal.SIGTERM, signal.SIGHUP])
+def test_a_stop_before_a_process_begins(place: str, number: int) -> None:
+    """A process of the pool that gets a signal directly after the fork goes on without a word: the first process ends it."""
+    for name in ("a", "b", "c"):
+        keep(place, name, walk(1, 300))
+
+    def before() -> None:
+        real = os.fork
+
+        def fork() -> int:
+            child = real()
+            if child == 0:
+                os.kill(os.getpid(), number)
+            return child
+
+        os.fork = fork  # type: ignore[assignment]
+
+    ran = command(place, "check", ".", "--jobs", "2", how=How(before=before, seconds=60))
+    assert ran.status == 0 and "3 sound" in ran.out and not ran.err, ran
+
+
 @pytest.mark.parametrize("verb", ["keep", "back"])
 def test_a_stop_leaves_no_hidden_files(place: str, verb: str) -> None:
     """Processes that are killed in the middle of their work leave files, which the first process removes."""

@@ -201,7 +201,7 @@ def test_random_moments(place: str, name: str, times: int) -> None:
     begun = time.monotonic()
     start(trial.folder, *trial.verb.words, how=How(trial.verb.given)).ended()
     whole, stopped = time.monotonic() - begun, 0
-    rounds = 12 * times
+    rounds = 12 if times == 1 else 500
     for number in range(rounds):
         trial.begin()
         running = start(trial.folder, *trial.verb.words, how=How(trial.verb.given))

@@ -50,7 +50,7 @@ pub(crate) fn text_of(alloc: Global, reply: &Reply) -> Result<String, AllocError
             "the handle, coder or reader isn't open"
         ),
         None if reply.fault == BIT_OUT_OF_RANGE => format!(in alloc;
-            "the bit is out of range: the stream has {} bits; padding needs a multiple of 8",
+            "the bit is past the stream's {} bits or, with padding, isn't a multiple of 8",
             reply.place
         ),
         None => format!(in alloc; "no fault has the number {}", reply.fault),

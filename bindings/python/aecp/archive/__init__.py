@@ -6,10 +6,11 @@ describes the form, so that other programs can read it too.
 
 from aecp.archive._file import ArchiveFile, opened
 from aecp.archive._form import Damaged, Exists, Facts, Range, Refused, Source, State, Sum
-from aecp.archive._history import Difference, Entry, Inverse, Script
+from aecp.archive._history import Entry
 from aecp.archive._index import Group, Index
 from aecp.archive._samples import Samples, open
 from aecp.archive._saving import Busy
+from aecp.archive._stored import Difference, Inverse, Pixels, Script, Values
 from aecp.archive._writer import Creation, Writer, create, pack, unpack
 
 __all__ = [
@@ -24,6 +25,7 @@ __all__ = [
     "Group",
     "Index",
     "Inverse",
+    "Pixels",
     "Range",
     "Refused",
     "Samples",
@@ -31,6 +33,7 @@ __all__ = [
     "Source",
     "State",
     "Sum",
+    "Values",
     "Writer",
     "create",
     "open",

@@ -5,9 +5,9 @@ from __future__ import annotations
 import contextlib
 import math
 import os
-from collections.abc import Iterator, Sequence
+from collections.abc import Iterable, Iterator, Sequence
 from dataclasses import dataclass
-from typing import NamedTuple, Optional
+from typing import NamedTuple, Optional, Union
 
 from aecp import streams
 from aecp.archive import _history, _saving
@@ -17,20 +17,25 @@ from aecp.archive._keeping import clean
 from aecp.archive._outcomes import Outcome
 from aecp.archive._pairs import note_at
 from aecp.archive._paths import Found
-from aecp.archive._scripts import (
-    change_of,
-    difference,
-    edited,
-    judged,
-    parts_of,
-    script_within,
+from aecp.archive._result import Exchange, Forward, Result
+from aecp.archive._scripts import Edit, Store, differing_runs, judged, lines_of
+from aecp.archive._stored import (
+    MOST_SCRIPT,
+    Difference,
+    Inverse,
+    Script,
+    Values,
+    apply_difference,
+    bad_history,
+    least_inverse,
+    scripted,
 )
 from aecp.archive._tables import grid_of, refuse, script_of
 from aecp.archive._whole import judge
 from aecp.archive._writer import Writer
-from aecp.calls import decode_bytes
+from aecp.calls import encode
 from aecp.faults import Fault
-
+from aecp.options import Options
 
 WRONG = "the new stream doesn't decode to its samples"
 
@@ -66,23 +71,6 @@ class Held(NamedTuple):
             raise Damaged("other samples", "it is damaged: `aecp check` names the damaged samples")
         return stream
 
-    def samples(self, stream: bytes) -> bytearray:
-        """Returns the stored samples of the stream. Raises Damaged if they have another sum."""
-        samples = decoded(stream, self.facts)
-        if Sum.of(samples) != self.facts.samples:
-            raise Damaged("other samples", "its samples aren't those that are recorded")
-        return samples
-
-
-def decoded(stream: bytes, facts: Facts, count: Optional[int] = None) -> bytearray:
-    """Returns the stored samples of a stream."""
-    try:
-        samples = decode_bytes(stream, facts.count if count is None else count, facts.options)
-    except Fault as fault:
-        raise Damaged("bad group", f"its stream can't be decoded: {fault}") from None
-    assert isinstance(samples, bytearray)
-    return samples
-
 
 @contextlib.contextmanager
 def held(path: str, limit: Optional[int]) -> Iterator[Held]:
@@ -104,30 +92,27 @@ def held(path: str, limit: Optional[int]) -> Iterator[Held]:
 def edit(how: Editing, found: Found) -> Outcome:
     """Edits a kept file."""
     with held(found.path, how.limit) as it:
-        script = script_for(how, it.facts)
-        if len(script) > _history.MOST_SCRIPT:
-            raise Refused(f"the script has more than {_history.MOST_SCRIPT} bytes: divide it")
-        checked = judged(script, it.facts.count, it.facts.options, how.allow_empty)
+        facts, script = it.facts, script_for(how, it.facts)
+        if len(script) > MOST_SCRIPT:
+            raise Refused(f"the script has more than {MOST_SCRIPT} bytes: divide it")
+        checked = judged(script, facts.count, facts.options, how.allow_empty)
         refuse("the script is refused, and nothing is changed", checked.complaints)
         stream = it.stream()
-        before = it.samples(stream)
         try:
-            later, count = streams.edit(stream, it.facts.count, script, it.facts.options)
+            later, count = streams.edit(stream, facts.count, script, facts.options)
         except Fault as fault:
             raise Refused(f"the script is refused, and nothing is changed: {fault}") from None
-        after = decoded(later, it.facts, count)
-        if after != edited(bytearray(before), checked.edits, it.facts.options):
-            raise Refused(f"{WRONG}: nothing is changed. Please report this")
-        width = it.facts.options.storage
-        change = change_of(after, before, width, parts_of(checked.edits, width))
-        lines = script_within(difference(after, before, change, it.facts.options), len(stream))
-        inverse = inverse_of(stream, later, count, lines, it.facts)
-        state = State(count, Sum.of(after), Sum.of(later))
-        entry = _history.edit_entry(it.facts.state, state, change.samples, script, inverse)
-        replace(it, later, state, [*it.kept.history(), entry])
-        text = f"{change.samples} samples changed, {count} samples now"
+        result = Result(facts.count, checked.edits)
+        state = State(count, result.sum(it.kept), Sum.of(later))
+        undoing = undoing_of(result, checked.edits, it.kept)
+        inverse = inverse_of(stream, later, count, undoing, facts.options)
+        stored = scripted(script, checked.edits, facts.options)
+        entry = _history.edit_entry(facts, state, undoing.changed, stored, inverse)
+        shape = shape_for(facts, count)
+        replace(it, later, state, [*it.kept.history(), entry], shape)
+        text = f"{undoing.changed} samples changed, {count} samples now"
         text += f", {len(stream)} bytes became {len(later)}"
-        if it.facts.shape is not None and shape_for(it.facts, count) is None:
+        if facts.shape is not None and shape is None:
             text += "; its shape is dropped, since the number of samples is no multiple of a row"
         return Outcome("edited", text)
 
@@ -140,17 +125,98 @@ def script_for(how: Editing, facts: Facts) -> bytes:
     return script_of(how.script.decode("utf-8-sig", "replace"), grid, how.frame).encode("ascii")
 
 
+class Undoing(NamedTuple):
+    """How many samples an edit changed, and what undoes it: lines, None if they are too long; or
+    the samples that its overwrites replaced, with their places."""
+
+    changed: int
+    lines: Optional[bytes]
+    values: Optional[Values] = None
+
+
+def undoing_of(result: Result, edits: Sequence[Edit], kept: ArchiveFile) -> Undoing:
+    """Returns what undoes edits of a kept file."""
+    options = kept.facts.options
+    store, reader = Store(options), Forward(kept)
+    if all(edit.name == "overwrite" for edit in edits):
+        old, new = bytearray(), bytearray()
+        for exchange in result.exchanges():
+            old += b"".join(reader.read(exchange.first, exchange.end - exchange.first))
+            new += exchange.stored(store)
+        changed = sum(last - first for first, last in differing_runs(old, new, store.width))
+        values = Values(encode(old, options))
+        return Undoing(changed, b"".join(values.lines(places_in(result), options)), values)
+    lines, changed = Lines(kept.facts.stream.bytes), 0
+    for exchange in result.exchanges():
+        changed += add_inverse(lines, exchange, reader, store)
+    return Undoing(changed, lines.script)
+
+
+def places_in(result: Result) -> list[tuple[int, int]]:
+    """Returns the places that a script of overwrites names: ranges, in order."""
+    return [(exchange.first, exchange.end) for exchange in result.exchanges()]
+
+
+class Lines:
+    """Lines of a script of at most so many bytes. What would be longer is dropped."""
+
+    def __init__(self, most: int) -> None:
+        self.most, self.size = most, 0
+        self._lines: list[bytes] = []
+
+    def add(self, lines: Iterable[bytes]) -> None:
+        for line in lines if not self.is_too_long else ():
+            self.size += len(line)
+            if self.is_too_long:
+                self._lines.clear()
+                return
+            self._lines.append(line)
+
+    @property
+    def is_too_long(self) -> bool:
+        return self.size > self.most
+
+    @property
+    def script(self) -> Optional[bytes]:
+        """The lines; None if they are too long."""
+        return None if self.is_too_long else b"".join(self._lines)
+
+
+def add_inverse(lines: Lines, exchange: Exchange, reader: Forward, store: Store) -> int:
+    """Adds the lines that undo an exchange, when all before it is undone. Returns how many samples
+    it changed."""
+    new, width = exchange.stored(store), store.width
+    number, length = len(new) // width, exchange.end - exchange.first
+    changed, both = abs(number - length), min(number, length)
+    at = exchange.first
+    for piece in reader.read(at, both):
+        old, other = bytes(piece), new[(at - exchange.first) * width :][: len(piece)]
+        for first, last in differing_runs(other, old, width):
+            part = old[first * width : last * width]
+            lines.add(lines_of("overwrite", at + first, part, store))
+            changed += last - first
+        at += len(old) // width
+    if number > length:
+        lines.add([b"remove %d %d\n" % (at, number - length)])
+    elif not lines.is_too_long:
+        for piece in reader.read(at, length - number):
+            lines.add(lines_of("insert", at, bytes(piece), store))
+            at += len(piece) // width
+            if lines.is_too_long:
+                break
+    return changed
+
+
 def inverse_of(
-    earlier: bytes, later: bytes, count: int, lines: Optional[bytes], facts: Facts
-) -> _history.Inverse:
-    """Returns what undoes an edit. A script was tried: it makes the earlier stream bit for bit."""
-    if lines is not None:
-        try:
-            is_exact = streams.edit(later, count, lines, facts.options)[0] == earlier
-        except Fault:
-            is_exact = False
-        lines = lines if is_exact else None
-    return _history.least_inverse(earlier, later, lines)
+    earlier: bytes, later: bytes, count: int, undoing: Undoing, options: Options
+) -> Inverse:
+    """Returns what undoes an edit. Lines were tried: they make the earlier stream bit for bit."""
+    tried: Union[Script, Values, None] = None
+    if undoing.lines is not None:
+        with contextlib.suppress(Fault):
+            if streams.edit(later, count, undoing.lines, options)[0] == earlier:
+                tried = undoing.values or Script.of(undoing.lines)
+    return least_inverse(earlier, later, tried)
 
 
 def shape_for(facts: Facts, count: int) -> Optional[tuple[int, ...]]:
@@ -162,7 +228,13 @@ def shape_for(facts: Facts, count: int) -> Optional[tuple[int, ...]]:
     return None if rest == 0 or count % rest else (count // rest, *facts.shape[1:])
 
 
-def replace(it: Held, stream: bytes, state: State, history: Sequence[_history.Entry]) -> None:
+def replace(
+    it: Held,
+    stream: bytes,
+    state: State,
+    history: Sequence[_history.Entry],
+    shape: Optional[tuple[int, ...]],
+) -> None:
     """Replaces a kept file by a stream that must have this state. The new file is decoded before it
     replaces the old one."""
     facts = it.facts
@@ -171,7 +243,6 @@ def replace(it: Held, stream: bytes, state: State, history: Sequence[_history.En
         writer.write_stream(stream, state.count)
         if writer.end() != state:
             raise Refused(f"{WRONG}: nothing is changed. Please report this")
-        shape = shape_for(facts, state.count)
         writer.finish(history, facts.source, shape, facts.dtype, state.samples)
 
 
@@ -183,27 +254,43 @@ def undo(limit: Optional[int], found: Found) -> Outcome:
         if place is None:
             raise Refused("there is no edit to undo")
         entry = history[place]
-        wanted, inverse, stream = entry.before, entry.inverse, it.stream()
-        if wanted is None or inverse is None:
+        wanted, stream = entry.before, it.stream()
+        if wanted is None:
             raise Refused("the history has nothing that undoes the last edit")
-        earlier = earlier_stream(it, stream, inverse, wanted)
+        earlier = earlier_stream(it.facts, stream, entry)
         if Sum.of(earlier) != wanted.stream:
             raise Refused("the earlier stream can't be restored bit for bit: nothing is changed")
-        replace(it, earlier, wanted, _history.with_undo(history, place, it.facts.state))
+        entries = _history.with_undo(history, place, it.facts.state)
+        replace(it, earlier, wanted, entries, entry.shape)
         text = f"the edit of {entry.when} is undone, bit for bit: {wanted.count} samples"
         return Outcome("undone", text)
 
 
-def earlier_stream(
-    it: Held, stream: bytes, inverse: _history.Inverse, wanted: State
-) -> bytes:
+def earlier_stream(facts: Facts, stream: bytes, entry: _history.Entry) -> bytes:
     """Returns the stream before an edit, as its inverse makes it."""
-    if isinstance(inverse, _history.Difference):
-        return _history.apply_difference(inverse, stream, wanted.stream.bytes)
+    inverse, wanted = entry.inverse, entry.before
+    assert inverse is not None and wanted is not None
+    if isinstance(inverse, Difference):
+        return apply_difference(inverse, stream, wanted.stream.bytes)
+    options = facts.options
+    if isinstance(inverse, Values):
+        script = b"".join(inverse.lines(overwritten(entry, wanted.count, options), options))
+    else:
+        script = inverse.text(options)
     try:
-        return streams.edit(stream, it.facts.count, inverse.text(), it.facts.options)[0]
+        return streams.edit(stream, facts.count, script, options)[0]
     except Fault as fault:
         raise Refused(f"what undoes the edit doesn't fit: {fault}") from None
+
+
+def overwritten(entry: _history.Entry, count: int, options: Options) -> list[tuple[int, int]]:
+    """Returns the places that the script of an entry overwrites. Raises Damaged if it does anything
+    else."""
+    assert entry.script is not None
+    checked = judged(entry.script.text(options), count, options, allow_empty=True)
+    if checked.complaints or any(edit.name != "overwrite" for edit in checked.edits):
+        raise bad_history("a script that values undo isn't one of overwrites")
+    return places_in(Result(count, checked.edits))
 
 
 def forget(keep: int, limit: Optional[int], found: Found) -> Outcome:
@@ -215,6 +302,6 @@ def forget(keep: int, limit: Optional[int], found: Found) -> Outcome:
             return Outcome("unchanged", f"it has only {len(history)} entries: nothing is dropped")
         stream = it.stream()
         size = it.kept.size
-        replace(it, stream, it.facts.state, left)
+        replace(it, stream, it.facts.state, left, it.facts.shape)
         now = os.stat(found.path).st_size
         return Outcome("forgotten", f"{keep} entries stay, {size} bytes became {now}")

@@ -2,12 +2,11 @@
 
 from __future__ import annotations
 
-import base64
 import dataclasses
 import zlib
 from collections.abc import Sequence
 from dataclasses import dataclass
-from typing import Any, Optional, Union
+from typing import Any, Optional
 
 from aecp import __version__
 from aecp.archive._form import (
@@ -15,69 +14,41 @@ from aecp.archive._form import (
     MOST_COUNT,
     STATE_FIELDS,
     Damaged,
+    Facts,
     Refused,
     State,
     dumped,
     now,
+    shape_in,
     state_in,
     state_json,
 )
-from aecp.archive._strict import (
-    Wrong,
-    base64_of,
-    members,
-    number,
-    text,
-    time_of,
-    unpack,
-    unpack_json,
+from aecp.archive._stored import (
+    Difference,
+    Inverse,
+    Pixels,
+    Script,
+    Scripted,
+    Values,
+    inverse_in,
+    inverse_json,
+    script_in,
+    script_json,
 )
+from aecp.archive._strict import Wrong, members, number, text, time_of, unpack_json
 
 WRITER = f"aecp {__version__}"
 MOST_HISTORY = 64 << 20  # bytes of a history that is unpacked
-MOST_SCRIPT = 64 << 20  # bytes of a script that is unpacked
 MOST_ENTRIES = 1 << 14
-PACKED_TO_TRY = 1 << 20  # bytes; of more, the start shows how well they can be packed
-CONTAINERS = 8  # lists and objects in an entry, and more than it has
+CONTAINERS = 16  # lists and objects in an entry, and more than it has
 WHAT = {
     "keep": ("after",),
-    "edit": ("before", "after", "samples_changed", "script", "inverse"),
+    "edit": ("before", "after", "samples_changed", "script", "inverse", "shape"),
     "undo": ("before", "after", "edit"),
     "forget": ("entries",),
 }
 ENTRY_FIELDS = frozenset(["what", "when", "by"])
-DIFFERENCE = frozenset(["difference"])
-DIFFERENCE_FIELDS = frozenset(["front", "end", "middle"])
 SAME = frozenset(["same"])
-
-
-@dataclass(frozen=True)
-class Difference:
-    """How an earlier stream is made from a later one: the later one's first `front` bytes, then
-    `middle`, then the later one's last `end` bytes. With front = end = 0 it is `middle` alone."""
-
-    front: int
-    end: int
-    packed: bytes  # zlib of the middle
-
-
-@dataclass(frozen=True)
-class Script:
-    """A script of edits, compressed."""
-
-    packed: bytes  # zlib of the script
-
-    @classmethod
-    def of(cls, script: bytes) -> Script:
-        """Returns a script as the history has it."""
-        return cls(zlib.compress(script, 9))
-
-    def text(self) -> bytes:
-        """Returns the script. Raises Damaged("bad history") if it doesn't unpack."""
-        return unpacked(self.packed, MOST_SCRIPT, "a script")
-
-
-Inverse = Union[Script, Difference]
 
 
 @dataclass(frozen=True)
@@ -87,8 +58,9 @@ class Entry:
     what             "keep", "edit", "undo" or "forget"
     when, by         the time in UTC, and the program
     before, after    the file's state before (edit, undo) and after (keep, edit, undo)
-    samples_changed  how many samples an edit changed
+    samples_changed  how many samples an edit changed, inserted or removed
     script, inverse  what an edit applied, and what undoes it; the inverse is None once it was used
+    shape            the file's shape before an edit, or None
     edit             the place of the entry that an undo took back, counted from 0; None if that
                      entry was forgotten
     entries          how many entries a forget has dropped
@@ -100,8 +72,9 @@ class Entry:
     before: Optional[State] = None
     after: Optional[State] = None
     samples_changed: Optional[int] = None
-    script: Optional[Script] = None
+    script: Optional[Scripted] = None
     inverse: Optional[Inverse] = None
+    shape: Optional[tuple[int, ...]] = None
     edit: Optional[int] = None
     entries: Optional[int] = None
 
@@ -115,18 +88,19 @@ def keep_entry(after: State) -> Entry:
 
 
 def edit_entry(
-    before: State, after: State, samples_changed: int, script: bytes, inverse: Inverse
+    facts: Facts, after: State, samples_changed: int, script: Scripted, inverse: Inverse
 ) -> Entry:
-    """Returns an entry: now the file was edited."""
+    """Returns an entry: now the file with these facts was edited."""
     return Entry(
         "edit",
         now(),
         WRITER,
-        before=before,
+        before=facts.state,
         after=after,
         samples_changed=samples_changed,
-        script=Script.of(script),
+        script=script,
         inverse=inverse,
+        shape=facts.shape,
     )
 
 
@@ -167,57 +141,6 @@ def last_edit(history: Sequence[Entry]) -> Optional[int]:
     return next((i for i in places if history[i].inverse is not None), None)
 
 
-def least_inverse(earlier: bytes, later: bytes, script: Optional[bytes] = None) -> Inverse:
-    """Returns what makes the earlier stream from the later one: the difference of both, which can
-    be the whole earlier stream; or a script that the caller has tried, if that is less when
-    compressed."""
-    tried = Script.of(script) if script is not None and len(script) <= MOST_SCRIPT else None
-    front = common(earlier, later)
-    end = common(earlier[front:][::-1], later[front:][::-1])
-    middle = earlier[front : len(earlier) - end]
-    if tried is not None and len(tried.packed) < least_packed(middle):
-        return tried
-    difference = Difference(front, end, zlib.compress(middle, 9))
-    return tried if tried and len(tried.packed) < len(difference.packed) else difference
-
-
-def least_packed(data: bytes) -> int:
-    """Returns fewer bytes than `data` would take if it was packed; 0 where packing is quick."""
-    if len(data) <= PACKED_TO_TRY:
-        return 0
-    return len(zlib.compress(data[:PACKED_TO_TRY], 9)) * (len(data) // PACKED_TO_TRY) // 2
-
-
-def common(a: bytes, b: bytes) -> int:
-    """Returns how many bytes at the start of both are the same."""
-    least, most = 0, min(len(a), len(b))
-    while least < most:
-        middle = (least + most + 1) // 2
-        if a[least:middle] == b[least:middle]:
-            least = middle
-        else:
-            most = middle - 1
-    return least
-
-
-def apply_difference(difference: Difference, later: bytes, most: int) -> bytes:
-    """Returns the earlier stream. Raises Damaged("bad history") if the difference doesn't fit the
-    later stream, doesn't unpack, or gives more than `most` bytes. The caller compares sums."""
-    rest = most - difference.front - difference.end
-    if rest < 0 or difference.front + difference.end > len(later):
-        raise Damaged("bad history", "the history is damaged: a difference doesn't fit the stream")
-    middle = unpacked(difference.packed, rest, "a difference")
-    return later[: difference.front] + middle + later[len(later) - difference.end :]
-
-
-def unpacked(packed: bytes, most: int, what: str) -> bytes:
-    """Returns the bytes that were packed. Raises Damaged("bad history")."""
-    try:
-        return unpack(packed, most)
-    except Wrong as wrong:
-        raise Damaged("bad history", f"the history is damaged: {what}: {wrong}") from None
-
-
 # Writing.
 
 
@@ -227,7 +150,8 @@ def packed_history(history: Sequence[Entry]) -> bytes:
     entries = [entry_json(place, entry, places) for place, entry in enumerate(history)]
     listed = dumped(entries)
     if len(history) > MOST_ENTRIES or len(listed) > MOST_HISTORY:
-        raise Refused("its history has become too long: `aecp forget` makes it shorter")
+        text = "its history would become too long"
+        raise Refused(f"{text}: `aecp forget` makes it shorter, or divide the script")
     return zlib.compress(listed, 9)
 
 
@@ -239,19 +163,12 @@ def entry_json(place: int, entry: Entry, places: dict[tuple[str, Any], int]) -> 
         value = getattr(entry, name)
         if isinstance(value, State):
             value = state_json(value)
-        elif isinstance(value, (Script, Difference)):
+        elif isinstance(value, (Script, Pixels, Values, Difference)):
             first = places.setdefault((name, value), place)
-            value = {"same": first} if first < place else packed_json(name, value)
+            is_first = first == place
+            value = WRITERS[name](value) if is_first else {"same": first}
         fields[name] = value
     return fields
-
-
-def packed_json(name: str, value: Inverse) -> Any:
-    """Returns what the history has for a script, or for an inverse."""
-    packed = base64.b64encode(value.packed).decode("ascii")
-    if isinstance(value, Difference):
-        return {"difference": {"front": value.front, "end": value.end, "middle": packed}}
-    return packed if name == "script" else {"script": packed}
 
 
 # Reading.
@@ -280,7 +197,9 @@ def entry_in(value: Any, earlier: Sequence[Entry]) -> Entry:
     if what == "forget" and earlier:
         raise Wrong("an entry of the kind forget isn't the first")
     fields = members(value, ENTRY_FIELDS.union(WHAT[what]), "an entry")
-    given = {name: READERS[name](fields[name], earlier) for name in WHAT[what]}
+    given = {name: READERS[name](fields[name], earlier) for name in WHAT[what] if name != "shape"}
+    if "shape" in fields:
+        given["shape"] = shape_in(fields["shape"], given["before"].count)
     return Entry(what, time_of(fields["when"], "when"), text(fields["by"], "by"), **given)
 
 
@@ -306,12 +225,11 @@ def edit_field(value: Any, earlier: Sequence[Entry]) -> Optional[int]:
     return place
 
 
-def script_field(value: Any, earlier: Sequence[Entry]) -> Script:
-    if type(value) is dict:
-        same = same_of(value, "script", earlier)
-        assert isinstance(same, Script)
+def script_field(value: Any, earlier: Sequence[Entry]) -> Scripted:
+    if type(value) is dict and "same" in value:
+        same: Scripted = same_of(value, "script", earlier)
         return same
-    return Script(base64_of(value, "script"))
+    return script_in(value)
 
 
 def inverse_field(value: Any, earlier: Sequence[Entry]) -> Optional[Inverse]:
@@ -319,26 +237,19 @@ def inverse_field(value: Any, earlier: Sequence[Entry]) -> Optional[Inverse]:
         return None
     if type(value) is not dict or len(value) != 1:
         raise Wrong("inverse has other fields than it must have")
-    if "same" in value:
-        return same_of(value, "inverse", earlier)
-    if "script" in value:
-        return Script(base64_of(value["script"], "inverse"))
-    fields = members(value, DIFFERENCE, "inverse")["difference"]
-    given = members(fields, DIFFERENCE_FIELDS, "a difference")
-    front = number(given["front"], 0, MOST_BYTES, "front")
-    end = number(given["end"], 0, MOST_BYTES, "end")
-    return Difference(front, end, base64_of(given["middle"], "middle"))
+    return same_of(value, "inverse", earlier) if "same" in value else inverse_in(value)
 
 
-def same_of(value: dict[str, Any], name: str, earlier: Sequence[Entry]) -> Inverse:
+def same_of(value: dict[str, Any], name: str, earlier: Sequence[Entry]) -> Any:
     """Returns the script or the inverse of the earlier entry that `same` names. Raises Wrong."""
     place = number(members(value, SAME, name)["same"], 0, len(earlier) - 1, "same")
-    found: Optional[Inverse] = getattr(earlier[place], name)
+    found = getattr(earlier[place], name)
     if found is None:
         raise Wrong(f"same names an entry without {name}")
     return found
 
 
+WRITERS: dict[str, Any] = {"script": script_json, "inverse": inverse_json}
 READERS: dict[str, Any] = {
     "before": state_field,
     "after": state_field,

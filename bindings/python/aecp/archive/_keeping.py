@@ -6,7 +6,7 @@ import contextlib
 import functools
 import math
 import os
-from collections.abc import Iterator
+from collections.abc import Iterable, Iterator
 from dataclasses import dataclass, replace
 from typing import BinaryIO, Optional
 
@@ -20,6 +20,7 @@ from aecp.archive._originals import Reading, original, read_all, same, sha256_of
 from aecp.archive._outcomes import Outcome, words_of
 from aecp.archive._pairs import converted, note_at
 from aecp.archive._paths import STREAM, Found, place_below
+from aecp.archive._stored import Scripted
 from aecp.archive._whole import judge, sides, sound_pieces
 from aecp.archive._writer import Writer
 from aecp.calls import encode
@@ -340,7 +341,7 @@ def rebuild(
         writer = Writer(out, facts.options)
         scripts = scripts_since(history)
         if scripts:
-            write_edited(writer, b"".join(reading.pieces()), facts, scripts)
+            write_edited(writer, reading.pieces(), facts.options, scripts)
         else:
             for piece in reading.pieces():
                 writer.write(piece)
@@ -352,20 +353,26 @@ def rebuild(
         writer.finish(entries, source, facts.shape, facts.dtype, facts.samples)
 
 
-def scripts_since(history: Optional[list[Entry]]) -> list[bytes]:
+def scripts_since(history: Optional[list[Entry]]) -> list[Scripted]:
     """Returns the scripts of all edits since a file was kept that weren't undone."""
     entries = history or []
     undone = {it.edit for it in entries if it.what == "undo"}
     edits = [it for i, it in enumerate(entries) if it.what == "edit" and i not in undone]
-    return [it.script.text() for it in edits if it.script is not None]
+    return [it.script for it in edits if it.script is not None]
 
 
-def write_edited(writer: Writer, samples: bytes, facts: Facts, scripts: list[bytes]) -> None:
+def write_edited(
+    writer: Writer, samples: Iterable[bytes], options: Options, scripts: list[Scripted]
+) -> None:
     """Writes the stream of an original to which the recorded edits are applied again."""
-    stream, count = encode(samples, facts.options), len(samples) // facts.options.storage
+    coder = streams.Encoder(options)
+    coded = bytearray()
+    for piece in samples:
+        coded += coder.feed(piece)
+    stream, count = bytes(coded + coder.finish()), coder.count
     for script in scripts:
         try:
-            stream, count = streams.edit(stream, count, script, facts.options)
+            stream, count = streams.edit(stream, count, script.text(options), options)
         except Fault as fault:
             raise Refused(f"the recorded edits can't be applied again: {fault}") from None
     writer.write_stream(stream, count)

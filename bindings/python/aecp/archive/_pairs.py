@@ -118,7 +118,7 @@ def new_entry(entry: Any) -> Any:
         inverse = {"difference": {"front": 0, "end": 0, "middle": middle}}
     elif type(inverse) is dict:
         inverse = {"script": packed(inverse["script"])}
-    return {**entry, "script": packed(entry["script"]), "inverse": inverse}
+    return {**entry, "script": packed(entry["script"]), "inverse": inverse, "shape": None}
 
 
 def packed(script: Any) -> str:

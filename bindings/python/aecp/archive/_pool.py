@@ -71,6 +71,7 @@ def begin(parent: int) -> None:
     another process starts those of the pool."""
     for number in STOPS:
         signal.signal(number, signal.SIG_IGN)
+    signal.pthread_sigmask(signal.SIG_UNBLOCK, STOPS)
     with contextlib.suppress(AttributeError, OSError):  # only Linux has prctl
         ctypes.CDLL(None).prctl(PR_SET_PDEATHSIG, signal.SIGKILL, 0, 0, 0)
     if parent and os.getppid() != parent:  # it died before the call of prctl
@@ -119,8 +120,19 @@ def kill(pool: ProcessPoolExecutor) -> None:
 
 def submitted(pool: ProcessPoolExecutor, work: Callable[[Any], Any], lot: Any) -> Future[Any]:
     """Returns the future of work on a lot. Raises Failed; BrokenProcessPool."""
-    with no_processes():
+    with no_processes(), blocked_stops():
         return pool.submit(work, lot)
+
+
+@contextlib.contextmanager
+def blocked_stops() -> Iterator[None]:
+    """Blocks signals to stop in the block, and in processes that begin in it, until `begin` ignores
+    them there. Else a process that is stopped before that prints a traceback."""
+    before = signal.pthread_sigmask(signal.SIG_BLOCK, STOPS)
+    try:
+        yield
+    finally:
+        signal.pthread_sigmask(signal.SIG_SETMASK, before)
 
 
 class Here:

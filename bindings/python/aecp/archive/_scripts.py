@@ -8,7 +8,8 @@ from __future__ import annotations
 
 import re
 import struct
-from collections.abc import Iterable, Iterator
+from array import array
+from collections.abc import Iterator, Sequence
 from typing import Callable, Literal, NamedTuple, Optional
 
 from aecp.options import Options
@@ -43,7 +44,7 @@ class Edit(NamedTuple):
     line: int
     name: str
     places: list[int]
-    values: list[int]
+    values: array[int]
 
     def exchanged(self, count: int) -> tuple[int, int]:
         """Returns which places, of `count` samples, the values replace: the first one, and the one
@@ -95,7 +96,7 @@ def edit_of(line: int, words: list[str], allow_empty: bool) -> Edit:
     if has_values and len(rest) == many and not allow_empty:
         raise BadLine(f"{name} has no value (--allow-empty takes such lines)")
     places = [number_in(word, 0, 2**64, "place") for word in rest[:many]]
-    values = [number_in(word, -(2**63), 2**63, "value") for word in rest[many:]]
+    values = array("q", (number_in(word, -(2**63), 2**63, "value") for word in rest[many:]))
     return Edit(line, name, places, values)
 
 
@@ -150,7 +151,7 @@ class Store:
         letter = {1: "b", 2: "h", 4: "i"}.get(self.width, "")
         self.letter = letter if self.signed else letter.upper()
 
-    def bytes_of(self, values: list[int]) -> bytes:
+    def bytes_of(self, values: Sequence[int]) -> bytes:
         """Returns numbers as stored samples."""
         if self.letter:
             return struct.pack(f"{self.order}{len(values)}{self.letter}", *values)
@@ -165,46 +166,12 @@ class Store:
         return [int.from_bytes(part, self.byte_order, signed=self.signed) for part in parts]
 
 
-def edited(samples: bytearray, edits: list[Edit], options: Options) -> bytearray:
-    """Applies checked edits to stored samples, and returns these samples: what an edited stream is
-    compared with."""
-    store = Store(options)
-    for edit in edits:
-        first, end = edit.exchanged(len(samples) // store.width)
-        samples[first * store.width : end * store.width] = store.bytes_of(edit.values)
-    return samples
-
-
-def parts_of(edits: list[Edit], width: int) -> Optional[list[tuple[int, int]]]:
-    """Returns the parts of the stored samples that overwrites may have changed: the first byte and
-    the length of each, in order. Returns None if there are other edits, which may have moved
-    samples."""
-    if any(edit.name != "overwrite" for edit in edits):
-        return None
-    parts: list[tuple[int, int]] = []
-    end = -1
-    for first, last in sorted(edit.exchanged(0) for edit in edits):
-        if first > end:
-            parts.append((first * width, 0))
-        end = max(end, last)
-        parts[-1] = parts[-1][0], end * width - parts[-1][0]
-    return parts
-
-
-def all_parts(size: int, width: int) -> Iterator[tuple[int, int]]:
-    """Yields parts that cover so many bytes."""
-    for first in range(0, size, SMALL_PART * width):
-        yield first, SMALL_PART * width
-
-
-def differing_runs(
-    before: bytes, after: bytes, width: int, parts: Optional[list[tuple[int, int]]] = None
-) -> Iterator[tuple[int, int]]:
+def differing_runs(before: bytes, after: bytes, width: int) -> Iterator[tuple[int, int]]:
     """Yields the runs of samples that differ in two lists of the same length: the first place of
-    each run, and the place after its last. With `parts`, only these are compared."""
+    each run, and the place after its last."""
     begun = end = -1
-    for first, length in all_parts(len(before), width) if parts is None else parts:
-        for at in differing_places(before, after, first, length, width):
+    for first in range(0, len(before), SMALL_PART * width):
+        for at in differing_places(before, after, first, SMALL_PART * width, width):
             if at != end:
                 if begun >= 0:
                     yield begun, end
@@ -275,13 +242,10 @@ class Change(NamedTuple):
     runs: Optional[list[tuple[int, int]]]
     front: int
     end: int
-    samples: int
 
 
-def change_of(
-    before: bytes, after: bytes, width: int, parts: Optional[list[tuple[int, int]]] = None
-) -> Change:
-    """Returns the change that names fewer samples. With `parts`, only these are compared."""
+def change_of(before: bytes, after: bytes, width: int) -> Change:
+    """Returns the change that names fewer samples."""
     both = min(len(before), len(after))
     number = abs(len(before) - len(after)) // width
     front, end, most = 0, 0, 2 * both
@@ -291,12 +255,12 @@ def change_of(
         most = max(len(before), len(after)) // width - front - end
         before, after = before[:both], after[:both]
     runs = []
-    for run in differing_runs(before, after, width, parts):
+    for run in differing_runs(before, after, width):
         number += run[1] - run[0]
         if number > most:
-            return Change(None, front, end, most)
+            return Change(None, front, end)
         runs.append(run)
-    return Change(runs, both // width, 0, number)
+    return Change(runs, both // width, 0)
 
 
 def difference(before: bytes, after: bytes, change: Change, options: Options) -> Iterator[bytes]:
@@ -323,14 +287,3 @@ def lines_of(name: str, first: int, data: bytes, store: Store) -> Iterator[bytes
     for part in range(0, len(data), size):
         values = " ".join(map(str, store.values_of(data[part : part + size])))
         yield f"{name} {first + part // store.width} {values}\n".encode("ascii")
-
-
-def script_within(lines: Iterable[bytes], most: int) -> Optional[bytes]:
-    """Returns a script of these lines, or None if it has more than `most` bytes."""
-    out, size = [], 0
-    for line in lines:
-        size += len(line)
-        if size > most:
-            return None
-        out.append(line)
-    return b"".join(out)

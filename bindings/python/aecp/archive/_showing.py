@@ -130,12 +130,12 @@ def log_json(history: Sequence[Entry]) -> list[dict[str, Any]]:
     ]
 
 
-def script_in(history: Sequence[Entry], place: int) -> bytes:
+def script_in(history: Sequence[Entry], place: int, options: Options) -> bytes:
     """Returns the script of an edit."""
     script = history[place].script if 0 <= place < len(history) else None
     if script is None:
         raise Refused(f"the history has no edit {place}: `aecp log` lists them")
-    return script.text()
+    return script.text(options)
 
 
 def all_samples(kept: ArchiveFile) -> bytes:

@@ -259,9 +259,9 @@ def do_forget(asked: argparse.Namespace, console: Console) -> int:
 def do_log(asked: argparse.Namespace, console: Console) -> int:
     def work() -> int:
         with opened(one_kept(asked.file), asked.limit) as kept:
-            history = kept.history()
+            history, options = kept.history(), kept.facts.options
         if asked.script is not None:
-            console.write(_showing.script_in(history, asked.script))
+            console.write(_showing.script_in(history, asked.script, options))
         elif asked.json:
             console.say_json(_showing.log_json(history))
         else:
