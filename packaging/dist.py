@@ -1,9 +1,9 @@
 #!/usr/bin/env python3
 """Packs what `make levels` has built into dist/: dist.py [--unproved]
 
-Writes a tarball, the Debian packages, the sdist and the wheel, each with the files for x86-64-v2 and for x86-64-v3. Two runs with the
-same bin/ write the same bytes, in any folder: each date is SOURCE_DATE_EPOCH or else the commit's, names are sorted, and no package
-contains a path of this machine.
+Writes a tarball, the Debian packages, the sdist and the wheel, each with the files for x86-64-v2 and for x86-64-v3, and SHA256SUMS. Two
+runs with the same bin/ write the same bytes, in any folder: each date is SOURCE_DATE_EPOCH or else the commit's, names are sorted, and
+no package contains a path of this machine.
 
 Fails unless each binary was proved and built at this commit; a checkout with changes counts as the commit 'NAME with changes'.
 With --unproved, the binaries are packed unchecked, for a try, and the file PROVED says so.
@@ -58,6 +58,14 @@ def debian_packages(work, head):
     return sorted(glob.glob(os.path.join(work, "debian", "*.deb")))
 
 
+def write_sums(made):
+    """Writes the sums of all packages, as `sha256sum -c` reads them. Returns the path."""
+    path = os.path.join(DIST, "SHA256SUMS")
+    lines = [f"{proved.sum_of(it)}  {os.path.basename(it)}\n" for it in made]
+    stage.write(path, "".join(sorted(lines, key=lambda it: it.split()[1])).encode())
+    return path
+
+
 def build(is_proved):
     """Writes all packages. Returns their paths."""
     os.umask(0o022)
@@ -71,6 +79,7 @@ def build(is_proved):
         made = [tarball.build(proved.TOP, work, DIST, proved.version(), when, text(tarball.PLACES))]
         made += [shutil.copy(path, DIST) for path in debian_packages(work, text({}))]
         made += python.build(DIST, when, text(python.PLACES))
+    made.append(write_sums(made))
     return made
 
 
@@ -89,7 +98,7 @@ def main():
         return 1
     for path in made:
         print(f"{os.path.relpath(path, proved.TOP)}: {os.path.getsize(path)} bytes")
-    print(f"{len(made)} packages in {time.monotonic() - begun:.0f} s" + ("" if is_proved else ", of binaries that aren't proved"))
+    print(f"{len(made)} files in {time.monotonic() - begun:.0f} s" + ("" if is_proved else ", of binaries that aren't proved"))
     return 0
 
 

@@ -39,6 +39,7 @@ import stage
 
 DIST = os.path.join(TOP, "dist")
 LIB = "usr/lib/x86_64-linux-gnu"
+SUMS_OF_ALL = "SHA256SUMS"
 BINARIES = ("aec", "libaecp.a", "libaecp.so", "x86-64-v3/aec", "x86-64-v3/libaecp.so")
 LEVELS = runpy.run_path(os.path.join(TOP, "bindings/python/aecp/levels.py"))
 PLAIN, V3 = LEVELS["PLAIN"], LEVELS["V3"]
@@ -114,6 +115,13 @@ def try_python_build(checkout, made, folder, tally):
     if os.path.exists(built):
         with zipfile.ZipFile(wheel) as one, zipfile.ZipFile(built) as other:
             tally.check("the files of python3 -m build", sorted({*one.namelist()} - {"aecp/PROVED"}), sorted(other.namelist()))
+
+
+def try_sums(made, tally):
+    """Checks that SHA256SUMS has the sums of all other files."""
+    done = subprocess.run(["sha256sum", "--strict", "-c", SUMS_OF_ALL], cwd=DIST, capture_output=True, text=True)
+    named = sorted(re.findall(r"(?m)^(\S+): OK$", done.stdout))
+    tally.check("the files of SHA256SUMS", (done.returncode, named), (0, sorted({*made} - {SUMS_OF_ALL})))
 
 
 def try_builds(made, folder, tally):
@@ -236,6 +244,7 @@ def try_tarball(made, root, folder, tally):
         status, said = root.run(script)
         tally.holds(status == 0, f"the tarball's {words}: {said}")
     tally.check("the tarball's program", root.run(f"{prefix}/bin/aec --version"), (0, f"aec {version()}\n"))
+    try_command(root.inside("/opt/aec/bin/aecp"), folder, tally)
     try_commands(root, "/opt/aec/share/doc/aec/README.md", "tarball", tally)
     try_c(root.inside("/opt/aec"), "lib", "tarball", root, folder, tally)
     status, said = root.run(f"sh {place}/install.sh uninstall {prefix}")
@@ -247,6 +256,17 @@ def try_tarball(made, root, folder, tally):
     tally.holds(status == 1 and os.path.exists(root.inside("/opt/aec/lib/libaecp.a")), f"uninstall of a name that isn't installed: {said}")
     root.run(f"PROGRAM=aec-proved sh {place}/install.sh uninstall {prefix}")
     tally.check("what the tarball leaves under another name", sorted(root.files() - before), [])
+
+
+def try_command(command, folder, tally):
+    """Uses the tarball's command aecp here, where Python is."""
+    path = os.path.join(folder, "kept.raw")
+    with open(path, "wb") as file:
+        file.write(bytes(range(200)) * 100)
+    for words in (["--version"], ["keep", path, "-n", "16"], ["check", path + ".aec"], ["back", path + ".aec", "-o", path + ".back"]):
+        status, said = package_modules.run([sys.executable, command, *words])
+        tally.holds(status == 0, f"aecp {words[0]} of the tarball: {said}")
+    tally.holds(data_of(path) == data_of(path + ".back"), "aecp of the tarball restores other bytes")
 
 
 def c_example():
@@ -331,7 +351,7 @@ def try_link(root, deb, last, tally):
 
 def try_versions(made, tally):
     """Checks that each package has the version of the file VERSION, in its name and inside."""
-    for name in made:
+    for name in sorted({*made} - {SUMS_OF_ALL}):
         tally.holds(version() in name, f"{name} has another version than {version()}")
     for name in filter(lambda it: it.endswith(".deb"), made):
         told = subprocess.run(["dpkg-deb", "-f", made[name], "Version"], capture_output=True, text=True).stdout
@@ -347,6 +367,7 @@ def main():
     print(f"make dist: {time.monotonic() - begun:.0f} s" + ("" if is_proved() else ", of binaries that nobody has proved"), flush=True)
     with tempfile.TemporaryDirectory() as folder:
         try_versions(made, tally)
+        try_sums(made, tally)
         try_notices(made, tally)
         try_builds(made, folder, tally)
         try_links_again(tally)
