@@ -33,7 +33,7 @@ MOST = {
     "docs/DECISIONS.md": 4650,
     "docs/FORMAT.md": 3800,
     "docs/LIBRARY.md": 1700,
-    "docs/PACKAGING.md": 700,
+    "docs/PACKAGING.md": 950,
     "docs/PROOFS.md": 6000,
     "docs/RECIPES.md": 2200,
     "docs/SPEED.md": 2300,
