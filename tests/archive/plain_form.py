@@ -16,8 +16,8 @@ from copy import deepcopy
 from dataclasses import dataclass
 from typing import Any, NamedTuple, Optional
 
-import plain_reader
-from settings import Settings
+from lib import plain_reader
+from lib.settings import Settings
 
 GAPS = Settings(bits=32, block_size=16, interval=128, preprocess=False)
 MAGIC = b"aecp\r\n\x1a\n"

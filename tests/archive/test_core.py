@@ -16,7 +16,7 @@ sys.path.insert(0, os.path.join(os.path.dirname(__file__), "..", "..", "bindings
 
 import aecp  # noqa: E402
 from aecp import Options, archive  # noqa: E402
-from aecp.archive import _file, _history, _index, _saving  # noqa: E402
+from aecp.archive import _file, _history, _index, _saving, _stored  # noqa: E402
 
 numpy = pytest.importorskip("numpy")
 
@@ -218,10 +218,10 @@ def test_unused_bits_are_refused() -> None:
 
 
 def test_history_comes_back_and_repeats_are_stored_once() -> None:
-    state = archive.State(4, archive.Sum(8, "a" * 64), archive.Sum(9, "b" * 64))
-    script = os.urandom(40_000)  # more than zlib itself can find again
+    facts = archive.Facts(Options(16), 4, archive.Sum(8, "a" * 64), archive.Sum(9, "b" * 64), shape=(2, 2))
+    script = archive.Script.of(os.urandom(40_000))  # more than zlib itself can find again
     inverse = archive.Difference(1, 2, zlib.compress(b"xyz"))
-    edit = _history.edit_entry(state, state, 3, script, inverse)
+    state, edit = facts.state, _history.edit_entry(facts, facts.state, 3, script, inverse)
     history = [_history.keep_entry(state), edit, edit, edit]
     assert _history.history_of(_history.packed_history(history)) == history
     once = len(_history.packed_history(history[:2]))
@@ -240,17 +240,17 @@ def test_history_comes_back_and_repeats_are_stored_once() -> None:
 @pytest.mark.parametrize("script", [None, b"overwrite 5 1\n"])
 @pytest.mark.parametrize("earlier, later", [(b"abcdef", b"abXdef"), (b"", b"ab"), (b"aa", b"aaaa")])
 def test_inverses(earlier: bytes, later: bytes, script: Any) -> None:
-    inverse = _history.least_inverse(earlier, later, script)
+    inverse = _stored.least_inverse(earlier, later, script and archive.Script.of(script))
     assert isinstance(inverse, archive.Difference)
-    assert _history.apply_difference(inverse, later, len(earlier)) == earlier
+    assert _stored.apply_difference(inverse, later, len(earlier)) == earlier
     if len(earlier) > 2:
         with pytest.raises(archive.Damaged):
-            _history.apply_difference(inverse, later[:2], len(earlier))
+            _stored.apply_difference(inverse, later[:2], len(earlier))
 
 
 def test_a_script_is_taken_if_it_is_less() -> None:
-    inverse = _history.least_inverse(os.urandom(3000), os.urandom(3000), b"overwrite 5 1\n")
-    assert inverse == archive.Script.of(b"overwrite 5 1\n")
+    for tried in (archive.Script.of(b"overwrite 5 1\n"), archive.Values(b"12345")):
+        assert _stored.least_inverse(os.urandom(3000), os.urandom(3000), tried) == tried
 
 
 def test_replacements(tmp_path: Any) -> None:

@@ -10,10 +10,10 @@ from typing import Any
 
 import aecp
 import pytest
+from lib.settings import Settings
 from making import FAST, keep, leftovers, made, noise, parts_at, read, samples_at, sound_parts, walk, write
 from plain_form import script_of
 from running import How, done, in_child, refused
-from settings import Settings
 
 ZEROS = Settings(bits=8, block_size=64, interval=4096)
 MOST = 64 << 20  # bytes of memory, beside what the process has in the beginning
