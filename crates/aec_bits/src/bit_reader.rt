@@ -159,6 +159,7 @@ impl<'a> BitReader<'a> {
     }
 
     /// Skips the next `count` bits. Fails with `Truncated` and the present place if fewer are left.
+    #[inline(always)]
     pub fn skip_bits(&mut self, count: u64) -> Result<(), Fault>
         ensures { MovesBy count self.old self.new result }
     {
@@ -173,6 +174,7 @@ impl<'a> BitReader<'a> {
 
     /// Moves past the next `count` 1 bits. Returns how many bits it moved past. Fails with
     /// `Truncated` and the present place if fewer 1 bits are left.
+    #[inline(always)]
     pub fn skip_ones(&mut self, count: u64) -> Result<u64, Fault>
         ensures place { MatchResult result
             (λ gone. behind_ones count (drop self.old.pos self.old.list) ≡ Some gone)

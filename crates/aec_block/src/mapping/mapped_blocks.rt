@@ -82,7 +82,7 @@ fn map_offsets(top: u32, previous: u32, values: &mut [u32])
 /// Returns how far the sample `previous` lies above the least one. No branch or choice depends on
 /// this sample.
 #[inline(always)]
-fn first_prediction(params: &Params, previous: i64) -> u32
+pub(crate) fn first_prediction(params: &Params, previous: i64) -> u32
     requires { IsHeld params.now previous }
     ensures value { result ≡ sample_offset params.now previous }
     ensures within { result ≤ top_offset params.now }
