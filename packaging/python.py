@@ -3,7 +3,7 @@
 
 Copies bindings/python, with the files that its links lead to, and runs `python3 -m build` there: all metadata are in its pyproject.toml.
 FOLDER gets both files, whose dates are SOURCE_DATE_EPOCH or else the commit's. This Python must have build, setuptools and wheel, or
-else Debian's, /usr/bin/python3: the wheel is for any Python.
+else Debian's, /usr/bin/python3: the wheel is for any Python. With --wheel no sdist is written.
 """
 
 import glob

@@ -6,8 +6,8 @@ small program with them: by CMake's `find_package`, and by the words of pkg-conf
 refuse a version that isn't there. A project that CMake configures twice, with two installations, must use the second one; an installation
 without the header is refused. Then `make uninstall-c` must leave no file.
 
-Needs cc, cmake and pkg-config; a part whose command is missing is skipped, with a line, and fails if MUST_RUN names the command. Prints the checks that fail and, last, how many
-passed. Ends with status 1 if one failed.
+Needs cc, cmake and pkg-config; a part whose command is missing is skipped, with a line, and fails if MUST_RUN names the command. Prints
+the checks that fail and, last, how many passed. Ends with status 1 if one failed.
 """
 
 import os
