@@ -6,8 +6,8 @@ small program with them: by CMake's `find_package`, and by the words of pkg-conf
 refuse a version that isn't there. A project that CMake configures twice, with two installations, must use the second one; an installation
 without the header is refused. Then `make uninstall-c` must leave no file.
 
-Needs cc, cmake and pkg-config; a part whose command is missing is skipped, with a line. Prints the checks that fail and, last, how many
-passed. Ends with status 1 if one failed.
+Needs cc, cmake and pkg-config; a part whose command is missing is skipped, with a line, and fails if MUST_RUN names the command. Prints
+the checks that fail and, last, how many passed. Ends with status 1 if one failed.
 """
 
 import os
@@ -63,10 +63,11 @@ def ran(*words, **more):
     return ended.returncode, ended.stdout + ended.stderr
 
 
-def has(command, what):
-    """Returns whether there is a command. If not, prints that what needs it is skipped."""
+def has(command, what, tally):
+    """Returns whether there is a command. If not, prints that what needs it is skipped, which fails if MUST_RUN names the command."""
     if not shutil.which(command):
         print(f"skipped, since there is no command {command}: {what}")
+        tally.holds(command not in os.environ.get("MUST_RUN", "").split(), f"{command} must be here")
     return bool(shutil.which(command))
 
 
@@ -154,11 +155,11 @@ def try_install(lib, version, tally):
         places = [f"PREFIX={prefix}", f"LIBDIR={prefix}/{lib}"]
         status, said = ran("make", "-s", "-C", TOP, "install-c", *places)
         tally.holds(status == 0, f"make install-c into {lib}: {said}")
-        if has("cmake", "find_package"):
+        if has("cmake", "find_package", tally):
             try_cmake(prefix, version, folder, tally)
             try_asking(prefix, version, folder, tally)
             try_cmake_twice(prefix, lib, version, folder, tally)
-        if has("pkg-config", "aecp.pc"):
+        if has("pkg-config", "aecp.pc", tally):
             try_pkg_config(os.path.join(prefix, lib), version, folder, tally)
         status, said = ran("make", "-s", "-C", TOP, "uninstall-c", *places)
         left = [os.path.join(at, name) for at, _, names in os.walk(prefix) for name in names]
@@ -169,7 +170,7 @@ def main():
     with open(os.path.join(TOP, "VERSION"), encoding="utf-8") as file:
         version = file.read().strip()
     tally = Tally()
-    if has("cc", "the installed library"):
+    if has("cc", "the installed library", tally):
         for lib in ("lib", "lib/x86_64-linux-gnu"):
             try_install(lib, version, tally)
     tally.print()

@@ -5,7 +5,7 @@ import subprocess
 from lib.package_modules import version
 
 # For apt, which fetches the packages that ours need.
-APT_SECONDS = 300
+APT_SECONDS = 900
 # Commands in a root where all packages are installed.
 USE = """set -e
 cd /tmp

@@ -176,6 +176,8 @@ def try_wheel(wheel, folder, tally):
     bare = venv(sys.executable, os.path.join(folder, "bare"))
     if bare:
         try_bare(bare, wheel, tally)
+    else:
+        tally.skip("python3-venv", "the wheel without numpy")
     python = interpreter()
     full = python and venv(python, os.path.join(folder, "full"), "--system-site-packages")
     if full:
@@ -198,6 +200,8 @@ def try_make(folder, tally):
         python = venv(sys.executable, os.path.join(folder, target.split()[0]))
         if python:
             try_make_python(python, target.split(), tally)
+        else:
+            tally.skip("python3-venv", "make install-python")
 
 
 def try_make_python(python, removal, tally):

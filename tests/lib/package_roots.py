@@ -9,7 +9,7 @@ import subprocess
 TOOLS = """sh bash env cat chmod chown cmp cp cut dirname diff echo find grep head id install ln ls mkdir mktemp mv printf readlink rm rmdir
 sed sort tar tail tee touch true uname wc xz gzip sha256sum dpkg dpkg-deb dpkg-split dpkg-query update-alternatives ldconfig
 start-stop-daemon""".split()
-SUITE, SECONDS = "bookworm", 300  # of Debian, and for debootstrap
+SUITE, SECONDS = "bookworm", 600  # of Debian, and for debootstrap
 DPKG = [f"var/lib/dpkg/{name}" for name in ("info", "updates", "triggers", "alternatives")]
 PATH = "/usr/sbin:/usr/bin:/sbin:/bin"
 # What every installation and removal of a package changes, and its records.
