@@ -186,7 +186,7 @@ def coders_of(kind, top, bottom):
     """Draws for one kind of pictures a line for each coder, from its speed of coding (dot) to that of decoding (ring), at the height of its
     size. The names are beside the field, joined to their lines."""
     rows = coder_rows(kind)
-    left, right, slowest, fastest = 60, 640, 0.5, 1000
+    left, right, slowest, fastest = 60, 640, 0.4, 1000
     smallest, largest = 5 * int(min(row[1] for row in rows) // 5), 5 * math.ceil(max(row[1] for row in rows) / 5)
     across = lambda mb: on_log(mb, slowest, fastest, left, right)
     down = lambda percent: top + (bottom - top) * (percent - smallest) / (largest - smallest)
