@@ -1,6 +1,6 @@
 # What a user, a packager and a developer run. Building needs the kit's command `rt` and python3; the library also cc, ld, objcopy and
 # ar. Installing needs python3; `make wheel` needs objdump and Python's build, setuptools and wheel, `make install-python` pip too. `make
-# dist` also needs dpkg-deb, and git or the variable SOURCE_DATE_EPOCH.
+# dist` also needs dpkg-dev, what debian/control lists, and git or the variable SOURCE_DATE_EPOCH.
 #
 # Variables: PREFIX; DESTDIR, a folder that replaces / as the root; PROGRAM, the program's installed name; CPU, the level of processor
 # to build and install for, x86-64-v2 or x86-64-v3, by default the one that this processor has; BUILT, the file to install as the
@@ -236,8 +236,8 @@ uninstall-c:
 release-check: ## says what is missing for a release (seconds)
 	@$(PYTHON) packaging/release.py
 
-# Packages of what `make levels` has built, in dist/: a tarball, Debian packages and a wheel. UNPROVED=1 packs
-# them, for a try, without checking that they were proved; then the file PROVED of each package says that nothing is proved.
+# Packages of what `make levels` has built, in dist/: a tarball, Debian packages, an sdist and a wheel, and their SHA256SUMS. UNPROVED=1
+# packs them, for a try, without checking that they were proved; then the file PROVED of each package says that nothing is proved.
 .PHONY: dist test-packages
 UNPROVED ?=
 dist: ## packs what levels has built, in dist/
