@@ -117,7 +117,7 @@ figures: ## prints how much there is to read and to prove (seconds)
 # Tries the deliberately wrong function bodies that the gate leaves out. The checker must refuse each. With CHANGED=COMMIT it tries
 # only those of the crates that differ from this commit. For each crate whose bodies were all refused it leaves a record in bin/.
 CHANGED ?=
-wrong-bodies: bin/aec ## tries the wrong bodies that the gate leaves out (about 135 seconds each)
+wrong-bodies: bin/aec ## tries the wrong bodies that the gate leaves out (12 to 135 seconds each)
 	python3 checks/wrong_bodies.py $(if $(CHANGED),--changed $(CHANGED))
 
 # Prints tables of time and memory beside libaec's client, and of what edits cost. Tests nothing.
@@ -219,10 +219,10 @@ install-python: wheel ## installs the Python module and the command aecp by pip,
 # alone, so not below a DESTDIR.
 uninstall-library: uninstall-c $(if $(DESTDIR),,uninstall-python) ## removes what install-library has installed
 
-uninstall-python:
+uninstall-python: ## removes what install-python has installed
 	$(PIP) uninstall -q -y aecp
 
-uninstall-c:
+uninstall-c: ## removes what install-c has installed
 	rm -f $(DESTDIR)$(PREFIX)/include/aecp.h $(DESTDIR)$(LIBDIR)/pkgconfig/aecp.pc $(share)/man/man3/aecp.3
 	rm -f $(DESTDIR)$(LIBDIR)/libaecp.a $(DESTDIR)$(LIBDIR)/libaecp.so.1 $(DESTDIR)$(LIBDIR)/libaecp.so
 	rm -f $(DESTDIR)$(LIBDIR)/$(hwcaps)/libaecp.so.1

@@ -1,4 +1,4 @@
-/* Measures how much stack a call of libaecp takes, for tests/library_memory.py: `library_stacks CALL KIB` makes a call with many settings,
+/* Measures how much stack a call of libaecp takes, for library_memory.py: `library_stacks CALL KIB` makes a call with many settings,
  * each time in a thread with a stack of KIB KiB that has no memory below it. Prints how many bytes of the stack were written at most.
  * With the call `none` that is what a thread itself takes. */
 #include <aecp.h>
