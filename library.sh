@@ -33,4 +33,4 @@ ld -r --gc-sections $roots -o "$work/all.o" --whole-archive "${ARCHIVE:-$archive
 objcopy --wildcard --keep-global-symbol='aecp_*' "$work/all.o" "$work/aecp.o"
 rm -f "$bin/libaecp.a"
 ar rcs "$bin/libaecp.a" "$work/aecp.o"
-${CC:-cc} -shared -o "$bin/libaecp.so" "$work/aecp.o" -Wl,-soname,libaecp.so.1 -Wl,-z,defs
+${CC:-cc} -shared -o "$bin/libaecp.so" "$work/aecp.o" -Wl,-soname,libaecp.so.1 -Wl,--version-script=bindings/c/aecp.map -Wl,-z,defs

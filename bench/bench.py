@@ -216,7 +216,7 @@ def geometric_mean(values):
 
 def summary(coding, decoding):
     """Prints the speeds of coding and decoding."""
-    print("## Times libaec's speed\n")
+    print("## How many times as fast as libaec\n")
     print("| Input | J | r | coding | decoding |")
     print("|---|---|---|---|---|")
     for name, block, interval in coding:

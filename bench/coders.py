@@ -116,7 +116,7 @@ def jpeg_xl(effort, slow):
     """Returns JPEG XL's coder without loss, in one thread."""
     words = "--num_threads=0 --quiet FROM TO"
     pictures = lambda kind: kind.pictures
-    return fixed(f"cjxl -d 0 -e {effort}", f"cjxl -d 0 -e {effort} {words}", f"djxl {words}", form=pgm, takes=pictures, slow=slow)
+    return fixed(f"cjxl -e {effort}", f"cjxl -d 0 -e {effort} {words}", f"djxl {words}", form=pgm, takes=pictures, slow=slow)
 
 
 def zstd(level, slow):
@@ -126,9 +126,9 @@ def zstd(level, slow):
 def programs(ours, theirs):
     """Returns the coders that are programs, given the paths of aec and of libaec's client."""
     return [
-        sample_coder("aec -j 16 -r 128", ours, 16),
-        sample_coder("aec -j 64 -r 128", ours, 64),
-        sample_coder("libaec -j 16 -r 128", theirs, 16),
+        sample_coder("aec -j 16", ours, 16),
+        sample_coder("aec -j 64", ours, 64),
+        sample_coder("libaec -j 16", theirs, 16),
         fixed("fpack -r", "fpack -r -Y -O TO FROM", "funpack -O TO FROM", form=fits),
         fixed("fpack -h", "fpack -h -s 0 -Y -O TO FROM", "funpack -O TO FROM", form=fits, takes=lambda kind: kind.pictures),
         flac(),
@@ -140,7 +140,7 @@ def programs(ours, theirs):
     ]
 
 
-FILTERS = ["HDF5 bitshuffle + LZ4", "HDF5 shuffle + deflate"]
+FILTERS = ["bitshuffle + LZ4", "shuffle + deflate"]
 
 
 def by_hdf5(name, kind, samples, folder):

@@ -1,16 +1,18 @@
 #!/usr/bin/env python3
 """Draws the pictures of docs/pictures/ as SVG: pictures.py [--check]
 
-- stream: 48 samples and their code, for README;
+- coders: size and speed of this and other coders on pictures with photon noise, from bench/tables.md, for README;
 - speed: our speed divided by libaec's for each input and J, coding and decoding, from bench/tables.md;
 - edits: what one edit costs by its place, from bench/tables.md;
 - instructions: how the instructions for a sample fell, from bench/steps.md;
-- coded_data_set and interval, for docs/FORMAT.md: a coded data set bit by bit, and the parts of an interval.
+- stream, coded_data_set and interval, for docs/FORMAT.md: 48 samples and their code, a coded data set bit by bit, and the parts of
+  an interval.
 
 Each picture has colours for a dark page too. With --check nothing is written, and the script fails if a picture differs from what
 it would draw.
 """
 
+import math
 import os
 import re
 import sys
@@ -64,8 +66,8 @@ def box(x, y, width, height, colour, edge="none"):
     return f'<rect class="{colour} {edge}-line" x="{x:g}" y="{y:g}" width="{width:g}" height="{height:g}"/>'
 
 
-def line(x1, y1, x2, y2, colour="edge"):
-    return f'<line class="{colour}-line" x1="{x1:g}" y1="{y1:g}" x2="{x2:g}" y2="{y2:g}"/>'
+def line(x1, y1, x2, y2, colour="edge", more=""):
+    return f'<line class="{colour}-line" x1="{x1:g}" y1="{y1:g}" x2="{x2:g}" y2="{y2:g}"{more}/>'
 
 
 def path(points, colour):
@@ -130,27 +132,90 @@ def stream():
 
 
 def speed():
-    """Draws bars: our speed divided by libaec's, for r 128."""
-    rows = [row for row in rows_below("bench/tables.md", "Times libaec's speed") if row[2] == "128"]
-    left, scale, y = 230, 165, 70
-    parts = [text(20, 30, "Times libaec's speed, r 128 (longer is faster)", size=18), *legend(30)]
+    """Draws bars: our speed divided by libaec's, for r 128. The numbers are beside the bars' field, so that no line crosses them."""
+    rows = [row for row in rows_below("bench/tables.md", "How many times as fast as libaec") if row[2] == "128"]
+    left, scale, y = 230, 140, 70
+    right = left + 4 * scale
+    parts = [text(20, 30, "How many times as fast as libaec, r 128", size=18), *legend(30)]
+    bars = []
     for number, row in enumerate(rows):
-        if number and rows[number - 1][0] != row[0]:
-            y += 10
         if not number or rows[number - 1][0] != row[0]:
-            parts.append(text(20, y + 17, row[0]))
-        parts.append(text(left - 8, y + 17, f"J {row[1]}", "end"))
+            y += 10 if number else 0
+            bars.append(text(20, y + 15, row[0]))
+        bars.append(text(left - 8, y + 15, f"J {row[1]}", "end"))
         for place, (colour, times) in enumerate(zip(SAID, row[3:])):
-            width = float(times) * scale
-            parts.append(box(left, y + 11 * place, width, 10, colour))
-            parts.append(text(left + width + 4, y + 9 + 11 * place, times, size=10, colour="dim"))
+            bars.append(box(left, y + 10 * place, float(times) * scale, 9, colour))
+            bars.append(text(right + 42 + 52 * place, y + 15, times, "end", 13, colour))
         y += 27
     for times in range(5):
         x = left + times * scale
         parts.append(line(x, 55, x, y, "ink" if times == 1 else "grid"))
         parts.append(text(x, y + 16, f"{times}", "middle", 12))
     parts.append(text(left + scale, 50, "libaec", "middle", 12))
-    return picture(y + 30, "times libaec's speed for each input and J, coding and decoding", parts)
+    return picture(y + 30, "how many times as fast as libaec, for each input and J, coding and decoding", parts + bars)
+
+
+def on_log(number, least, most, begin, end):
+    """Returns the place of a number on a scale whose equal steps are equal ratios."""
+    return begin + (end - begin) * math.log(number / least) / math.log(most / least)
+
+
+def coder_rows(kind):
+    """Returns for each coder its name, the size of its file in percent of the samples' bytes, and its speeds in MB/s."""
+    head, *sizes = rows_below("bench/tables.md", "Other coders: sizes")
+    column = head.index(kind)
+    samples = int(re.search(r"\d+", head[0])[0]) * (1 << 20)
+    speeds = {row[0]: (float(row[1]), float(row[4])) for row in rows_below("bench/tables.md", f"Other coders: speed, {kind}")[1:]}
+    percent = {row[0]: 100 * int(row[column].replace(",", "")) / samples for row in sizes if row[column] != "-"}
+    return [(name, percent[name], *speeds[name]) for name in percent]
+
+
+def apart(places, least):
+    """Returns places on a scale, moved as little as needed for neighbours to have a least distance."""
+    order = sorted(range(len(places)), key=places.__getitem__)
+    moved = list(places)
+    for _ in range(200):
+        for low, high in zip(order, order[1:]):
+            lack = least - (moved[high] - moved[low])
+            if lack > 0:
+                moved[low], moved[high] = moved[low] - lack / 2, moved[high] + lack / 2
+    return moved
+
+
+def coders_of(kind, top, bottom):
+    """Draws for one kind of pictures a line for each coder, from its speed of coding (dot) to that of decoding (ring), at the height of its
+    size. The names are beside the field, joined to their lines."""
+    rows = coder_rows(kind)
+    left, right, slowest, fastest = 60, 640, 0.4, 1000
+    smallest, largest = 5 * int(min(row[1] for row in rows) // 5), 5 * math.ceil(max(row[1] for row in rows) / 5)
+    across = lambda mb: on_log(mb, slowest, fastest, left, right)
+    down = lambda percent: top + (bottom - top) * (percent - smallest) / (largest - smallest)
+    parts = [text(20, top - 16, f"{kind.capitalize()}: % of the samples' bytes", size=14)]
+    for percent in range(smallest, largest + 1, 5):
+        parts += [line(left, down(percent), right, down(percent), "grid"), text(left - 8, down(percent) + 4, f"{percent} %", "end", 12)]
+    for mb in (1, 10, 100, 1000):
+        parts += [line(across(mb), top, across(mb), bottom, "grid"), text(across(mb), bottom + 16, f"{mb} MB/s", "middle", 12)]
+    for (name, percent, coding, decoding), beside in zip(rows, apart([down(row[1]) for row in rows], 17)):
+        colour, y, ends = "coding" if name.startswith("aec") else "edge", down(percent), (across(coding), across(decoding))
+        parts.append(line(max(ends) + 5, y, right + 14, beside, "dim", ' stroke-dasharray="1 4"'))
+        parts.append(line(ends[0], y, ends[1], y, colour))
+        parts.append(f'<circle class="{colour} {colour}-line" cx="{ends[0]:.1f}" cy="{y:.1f}" r="4"/>')
+        parts.append(f'<circle class="paper {colour}-line" cx="{ends[1]:.1f}" cy="{y:.1f}" r="4" stroke-width="1.5"/>')
+        ink = "coding" if name.startswith("aec") else "ink"
+        parts.append(text(right + 18, round(beside + 4, 1), f"{percent:.1f} %  {name}", size=13, colour=ink))
+    return parts
+
+
+def coders():
+    """Draws the size against the speed of coders, for each kind of pictures with photon noise."""
+    kinds = rows_below("bench/tables.md", "Other coders: sizes")[0][1:3]
+    parts = [text(20, 30, "Size and speed on pictures with photon noise: higher is smaller, further right is faster", size=18)]
+    parts += ['<circle class="edge edge-line" cx="26" cy="55" r="4"/>', text(36, 60, "coding", size=13)]
+    parts += ['<circle class="paper edge-line" cx="106" cy="55" r="4" stroke-width="1.5"/>', text(116, 60, "decoding", size=13)]
+    parts.append(text(200, 60, "speed: MB of samples in a second of one processor", size=13))
+    for number, kind in enumerate(kinds):
+        parts += coders_of(kind, 110 + 320 * number, 350 + 320 * number)
+    return picture(60 + 320 * len(kinds), "size against speed of coders on pictures with photon noise", parts)
 
 
 def axes(left, right, top, bottom, most, steps):
@@ -183,22 +248,26 @@ def edits():
 
 
 def instructions():
-    """Draws lines: instructions for each sample, for one state of the program after the other."""
+    """Draws lines on a scale of ratios: instructions for each sample, for one state of the program after the other."""
     rows = rows_below("bench/steps.md", "The steps")[1:]
     states, other = rows[:-1], rows[-1]
-    left, top, bottom, most = 60, 60, 340, 400
-    step = (WIDTH - left - 120) / (len(states) - 1)
-    parts = [text(20, 30, "Instructions for each sample, state after state", size=18), *legend(30)]
-    parts += axes(left, WIDTH - 120, top, bottom, most, 4)
+    left, right, top, bottom = 60, WIDTH - 40, 60, 340
+    step = (right - left) / (len(states) - 1)
+    down = lambda count: on_log(count, 25, 500, bottom, top)
+    parts = [text(20, 30, "Instructions for each sample, step after step", size=18), *legend(30)]
+    for count in (25, 50, 100, 200, 400):
+        parts += [line(left, down(count), right, down(count), "grid"), text(left - 8, down(count) + 5, str(count), "end", 12)]
     for column, colour in enumerate(SAID, 1):
         known = [(number, int(row[column])) for number, row in enumerate(states) if row[column]]
-        parts += path([(left + number * step, bottom - count * (bottom - top) / most) for number, count in known], colour)
+        parts += path([(left + number * step, down(count)) for number, count in known], colour)
     last = [row for row in states if row[1]][-1][1], [row for row in states if row[2]][-1][2]
-    says = f"now {last[0]} and {last[1]}; libaec {other[1]} and {other[2]}"
-    parts.append(text(WIDTH - 120, bottom - 105, says, "end", 13))
-    parts += [text(left + number * step, bottom + 18, str(number + 1), "middle", 12) for number in range(len(states))]
-    parts.append(text(left, bottom + 40, "states in the order of bench/steps.md", size=12))
-    return picture(bottom + 55, "how the instructions for each sample fell, coding and decoding", parts)
+    says = f"now {last[0]} in coding and {last[1]} in decoding; libaec {other[1]} and {other[2]}"
+    parts.append(text(right, down(400) + 20, says, "end", 14))
+    parts.append(text(left, bottom + 24, "earliest step", size=12))
+    parts.append(text(right, bottom + 24, "today", "end", 12))
+    said = "one dot for each step of bench/steps.md; equal heights are equal ratios"
+    parts.append(text((left + right) / 2, bottom + 24, said, "middle", 12))
+    return picture(bottom + 40, "how the instructions for each sample fell, coding and decoding", parts)
 
 
 def coded_data_set():
@@ -249,7 +318,7 @@ def interval():
 
 def main():
     stale = 0
-    drawings = (stream, speed, edits, instructions, coded_data_set, interval)
+    drawings = (coders, stream, speed, edits, instructions, coded_data_set, interval)
     for draw in drawings:
         path, drawn = os.path.join(OUT, draw.__name__ + ".svg"), draw()
         if sys.argv[1:] != ["--check"]:

@@ -1,14 +1,15 @@
 #!/usr/bin/env python3
 """Packs what `make levels` has built into dist/: dist.py [--unproved]
 
-Writes a tarball, the Debian packages, the sdist and the wheel, each with the files for x86-64-v2 and for x86-64-v3. Two runs with the
-same bin/ write the same bytes, in any folder: each date is SOURCE_DATE_EPOCH or else the commit's, names are sorted, and no package contains a
-path of this machine.
+Writes a tarball, the Debian packages, the sdist and the wheel, each with the files for x86-64-v2 and for x86-64-v3, and SHA256SUMS. Two
+runs with the same bin/ write the same bytes, in any folder: each date is SOURCE_DATE_EPOCH or else the commit's, names are sorted, and
+no package contains a path of this machine.
 
 Fails unless each binary was proved and built at this commit; a checkout with changes counts as the commit 'NAME with changes'.
 With --unproved, the binaries are packed unchecked, for a try, and the file PROVED says so.
 """
 
+import glob
 import os
 import shutil
 import subprocess
@@ -18,7 +19,6 @@ import time
 
 sys.dont_write_bytecode = True
 
-import deb
 import proved
 import python
 import stage
@@ -28,14 +28,13 @@ BINARIES = {name: f"bin/{name}" for name in ("aec", "libaecp.a", "libaecp.so", f
 DIST = os.path.join(proved.TOP, "dist")
 
 
-def version():
-    with open(os.path.join(proved.TOP, "VERSION"), encoding="utf-8") as file:
-        return file.read().strip()
+class Failed(Exception):
+    """A tool that builds packages has failed."""
 
 
 def texts(is_proved):
     """Returns a function that, given the paths of a package's binaries, returns the text of PROVED."""
-    start = proved.head(version(), list(BINARIES.values()), is_proved)
+    start = proved.head(proved.version(), list(BINARIES.values()), is_proved)
     sums = {name: proved.sum_of(os.path.join(proved.TOP, path)) for name, path in BINARIES.items()}
 
     def text(places):
@@ -43,6 +42,28 @@ def texts(is_proved):
         return f"{start}\n{''.join(lines)}"
 
     return text
+
+
+def debian_packages(work, head):
+    """Runs dpkg-buildpackage in a copy of the checkout without crates. Returns the paths of the packages. `head` begins PROVED."""
+    copy, place = os.path.join(work, "debian", "checkout"), os.path.join(work, "proved")
+    left_out = shutil.ignore_patterns(".git", "crates", "dist", "wheel", "__pycache__")
+    shutil.copytree(proved.TOP, copy, symlinks=True, ignore=left_out)
+    stage.write(place, head.encode())
+    given = {**os.environ, "AECP_PROVED_HEAD": place, "MAKEFLAGS": "", "MAKELEVEL": ""}
+    words = ["dpkg-buildpackage", "-us", "-uc", "-b", "--no-pre-clean"]
+    done = subprocess.run(words, cwd=copy, env=given, capture_output=True, text=True, check=False)
+    if done.returncode:
+        raise Failed(f"dpkg-buildpackage fails:\n{(done.stdout + done.stderr)[-3000:]}")
+    return sorted(glob.glob(os.path.join(work, "debian", "*.deb")))
+
+
+def write_sums(made):
+    """Writes the sums of all packages, as `sha256sum -c` reads them. Returns the path."""
+    path = os.path.join(DIST, "SHA256SUMS")
+    lines = [f"{proved.sum_of(it)}  {os.path.basename(it)}\n" for it in made]
+    stage.write(path, "".join(sorted(lines, key=lambda it: it.split()[1])).encode())
+    return path
 
 
 def build(is_proved):
@@ -55,9 +76,10 @@ def build(is_proved):
     os.makedirs(DIST)
     with tempfile.TemporaryDirectory() as work:
         os.chmod(work, 0o755)
-        made = [tarball.build(proved.TOP, work, DIST, version(), when, text(tarball.PLACES))]
-        made += deb.build(proved.TOP, work, DIST, version(), when, text)
+        made = [tarball.build(proved.TOP, work, DIST, proved.version(), when, text(tarball.PLACES))]
+        made += [shutil.copy(path, DIST) for path in debian_packages(work, text({}))]
         made += python.build(DIST, when, text(python.PLACES))
+    made.append(write_sums(made))
     return made
 
 
@@ -70,13 +92,13 @@ def main():
         return 1
     try:
         made = build(is_proved)
-    except (proved.NotProved, python.Unfit, subprocess.CalledProcessError) as fault:
+    except (proved.NotProved, python.Unfit, Failed, subprocess.CalledProcessError) as fault:
         shutil.rmtree(DIST, ignore_errors=True)
         print(fault, file=sys.stderr)
         return 1
     for path in made:
         print(f"{os.path.relpath(path, proved.TOP)}: {os.path.getsize(path)} bytes")
-    print(f"{len(made)} packages in {time.monotonic() - begun:.0f} s" + ("" if is_proved else ", of binaries that aren't proved"))
+    print(f"{len(made)} files in {time.monotonic() - begun:.0f} s" + ("" if is_proved else ", of binaries that aren't proved"))
     return 0
 
 

@@ -1,5 +1,6 @@
 #!/bin/sh
-# Installs the program, the library and their pages below PREFIX, or removes them again. It needs no compiler and no Python.
+# Installs the program, the library, the command aecp and their pages below PREFIX, or removes them again. It needs no compiler and no
+# Python; to run aecp needs Python 3.9 or newer.
 #
 #     sh install.sh PREFIX
 #     sh install.sh uninstall PREFIX
@@ -32,6 +33,11 @@ source_of() {
 # All files, as paths below this folder.
 files() {
     (cd "$from" && find bin lib include share \( -type f -o -type l \) | sort)
+}
+
+# Removes what Python has compiled of the files.
+remove_compiled() {
+    files | sed -n 's|/[^/]*[.]py$||p' | sort -u | while IFS= read -r folder; do rm -rf "$prefix/$folder/__pycache__"; done
 }
 
 # The path of a file below PREFIX.
@@ -113,10 +119,11 @@ esac
 
 if [ $action = install ]; then
     files | while IFS= read -r file; do install_file "$file"; done
-    echo "installed in $prefix: bin/$program for $level, lib/libaecp.a, lib/libaecp.so.1. If $prefix/lib is on the loader's path, run ldconfig."
+    echo "installed in $prefix: bin/$program for $level, lib/libaecp.a, lib/libaecp.so.1, bin/aecp. If $prefix/lib is on the loader's path, run ldconfig."
 else
     check_installed
     files | while IFS= read -r file; do rm -f "$prefix/$(place "$file")"; done
+    remove_compiled
     remove_folders
     echo "removed from $prefix"
 fi

@@ -1,8 +1,8 @@
 #!/usr/bin/env python3
-"""Installs the pages for users: pages.py FOLDER [--without FILE]..
+"""Installs the pages for users: pages.py FOLDER, or pages.py --page PAGE
 
 Copies the pages, pictures and examples into FOLDER. A link to any other file becomes plain words, so that each link of an
-installed page leads to an installed file or to a web site.
+installed page leads to an installed file or to a web site. With --page it prints one page, for a package without others.
 """
 
 import argparse
@@ -19,13 +19,13 @@ DEVELOPERS = {"docs/ARCHITECTURE.md", "docs/DECISIONS.md"}
 LINK = re.compile(r"!?\[([^\]]*)\]\(([^)\s]+)\)")
 
 
-def user_files(without=()):
+def user_files():
     """Returns the files for users, as paths from the top of the repository."""
     found = set()
     for pattern in FILES:
         paths = glob.glob(os.path.join(TOP, pattern))
         found |= {os.path.relpath(path, TOP) for path in paths if os.path.isfile(path)}
-    return sorted(found - DEVELOPERS - set(without))
+    return sorted(found - DEVELOPERS)
 
 
 def target_of(page, link):
@@ -52,9 +52,9 @@ def with_links(page, text, files):
     return "".join(part if part.startswith("```") else LINK.sub(link, part) for part in parts)
 
 
-def install(folder, without=()):
+def install(folder):
     """Copies all files for users into a folder. Replaces earlier copies."""
-    files = user_files(without)
+    files = user_files()
     for path in files:
         with open(os.path.join(TOP, path), "rb") as file:
             data = file.read()
@@ -69,11 +69,17 @@ def install(folder, without=()):
 
 def main():
     words = argparse.ArgumentParser(description="Installs the pages for users.")
-    words.add_argument("folder")
-    words.add_argument("--without", action="append", default=[])
+    words.add_argument("folder", nargs="?")
+    words.add_argument("--page")
     asked = words.parse_args()
     os.umask(0o022)
-    install(asked.folder, asked.without)
+    if asked.page:
+        with open(os.path.join(TOP, asked.page), encoding="utf-8") as file:
+            print(with_links(asked.page, file.read(), set()), end="")
+    elif asked.folder:
+        install(asked.folder)
+    else:
+        words.error("FOLDER or --page")
     return 0
 
 

@@ -1,5 +1,5 @@
 #!/usr/bin/env python3
-"""Records what was proved of the built files: proved.py state | record STATE FILE.. | gate STATE LOG
+"""Records what was proved of the built files: proved.py state | record STATE FILE.. | gate STATE LOG | debian
 
 state: prints the commit of the checkout and the sum of its crates, before a build begins.
 record: after `make` or `make library` has proved and built FILE, writes FILE.proved beside it: the file's SHA-256, the state and
@@ -7,6 +7,7 @@ the kit. `make dist` packs a file only if its sum and state still match and all 
 kit into the file PROVED of each package. A file of bin/ that was built for x86-64-v3 from other crates is removed: nothing may
 take it for the same program.
 gate: after `make test` has run the gate, writes the state and the last line of the gate's LOG to bin/gate.
+debian: writes the file PROVED of each Debian package below debian/, for debian/rules.
 """
 
 import hashlib
@@ -38,7 +39,20 @@ SHA-256 of each binary. A path with x86-64-v3 is of a binary for processors of t
 """
 
 
+STRIPPED = """
+Debian's dh_strip has moved the symbols of these files into the packages -dbgsym. What was proved and built had these sums before:
+
+{}"""
+
 BUILD = "run make levels"
+
+# For each Debian package its binaries, by the names in bin/.
+LIB = "usr/lib/x86_64-linux-gnu"
+DEBIAN = {
+    "aec-proved": {"aec": "usr/lib/aec-proved/x86-64-v2/aec-proved", f"{LEVEL}/aec": f"usr/lib/aec-proved/{LEVEL}/aec-proved"},
+    "libaecp1": {"libaecp.so": f"{LIB}/libaecp.so.1", f"{LEVEL}/libaecp.so": f"{LIB}/glibc-hwcaps/{LEVEL}/libaecp.so.1"},
+    "libaecp-dev": {"libaecp.a": f"{LIB}/libaecp.a"},
+}
 
 
 class Record(NamedTuple):
@@ -184,6 +198,35 @@ def head(version, paths, is_proved):
     return HEAD.format(version=version, kit=kit_of(paths), commit=commit(), gate=gate())
 
 
+def version():
+    with open(os.path.join(TOP, "VERSION"), encoding="utf-8") as file:
+        return file.read().strip()
+
+
+def debian_head():
+    """Returns the first lines of PROVED: those of the file that AECP_PROVED_HEAD names, else those of this checkout."""
+    named = os.environ.get("AECP_PROVED_HEAD")
+    if named:
+        with open(named, encoding="utf-8") as file:
+            return file.read()
+    paths = [f"bin/{name}" for files in DEBIAN.values() for name in files]
+    return head(version(), paths, is_proved=not os.environ.get("AECP_UNPROVED"))
+
+
+def write_debian():
+    """Writes PROVED of each Debian package that has binaries. Raises NotProved."""
+    start = debian_head()
+    for package, files in DEBIAN.items():
+        root = os.path.join(TOP, "debian", package)
+        packed = "".join(f"{sum_of(os.path.join(root, place))}  /{place}\n" for place in files.values())
+        before = "".join(f"    {sum_of(os.path.join(TOP, 'bin', name))}  bin/{name}\n" for name in files)
+        path = os.path.join(root, "usr/share/doc", package, "PROVED")
+        os.makedirs(os.path.dirname(path), exist_ok=True)
+        with open(path, "w", encoding="utf-8") as file:
+            file.write(f"{start}\n{packed}{STRIPPED.format(before)}")
+        os.chmod(path, 0o644)
+
+
 def main():
     action, words = (sys.argv[1:2] or [""])[0], sys.argv[2:]
     if action == "state" and not words:
@@ -191,6 +234,12 @@ def main():
     elif action in ("record", "gate") and len(words) > 1:
         for path in words[1:]:
             record(words[0], path) if action == "record" else record_gate(words[0], path)
+    elif action == "debian" and not words:
+        try:
+            write_debian()
+        except NotProved as fault:
+            print(fault, file=sys.stderr)
+            return 1
     else:
         print(__doc__.splitlines()[0], file=sys.stderr)
         return 1

@@ -1,9 +1,9 @@
 #!/usr/bin/env python3
-"""Builds the sdist and the wheel of the Python module, with the library inside: python.py FOLDER
+"""Builds the sdist and the wheel of the Python module, with the library inside: python.py FOLDER [--wheel]
 
 Copies bindings/python, with the files that its links lead to, and runs `python3 -m build` there: all metadata are in its pyproject.toml.
 FOLDER gets both files, whose dates are SOURCE_DATE_EPOCH or else the commit's. This Python must have build, setuptools and wheel, or
-else Debian's, /usr/bin/python3: the wheel is for any Python.
+else Debian's, /usr/bin/python3: the wheel is for any Python. With --wheel no sdist is written.
 """
 
 import glob
@@ -96,8 +96,8 @@ def repack(path, moment):
                 archive.addfile(info, io.BytesIO(data) if data is not None else None)
 
 
-def build(folder, moment, text=None):
-    """Writes the sdist and the wheel into a folder. Returns their paths. Raises Unfit."""
+def build(folder, moment, text=None, more=()):
+    """Writes the sdist and the wheel into a folder. Returns their paths. `more` are words for `build`. Raises Unfit."""
     for name in LIBRARIES:
         path = os.path.join(proved.TOP, "bin", name)
         if os.path.exists(path):
@@ -108,17 +108,17 @@ def build(folder, moment, text=None):
         copy_sources(source, text)
         date_all(source, moment)
         given = {**os.environ, "SOURCE_DATE_EPOCH": str(max(moment, 315532800)), "PYTHONDONTWRITEBYTECODE": "1"}
-        words = [python, "-m", "build", "--no-isolation", "--outdir", made, source]
+        words = [python, "-m", "build", "--no-isolation", "--outdir", made, *more, source]
         done = subprocess.run(words, env=given, capture_output=True, text=True, check=False)
         if done.returncode:
             raise Unfit(f"{' '.join(words)} fails:\n{(done.stdout + done.stderr)[-2000:]}")
-        (sdist,) = glob.glob(os.path.join(made, "*.tar.gz"))
-        repack(sdist, moment)
+        for sdist in glob.glob(os.path.join(made, "*.tar.gz")):
+            repack(sdist, moment)
         return [shutil.copy(path, folder) for path in sorted(glob.glob(os.path.join(made, "*")))]
 
 
 def main():
-    if len(sys.argv) != 2:
+    if not sys.argv[1:] or sys.argv[2:] not in ([], ["--wheel"]):
         print(__doc__.splitlines()[0], file=sys.stderr)
         return 1
     if not os.path.exists(os.path.join(proved.TOP, "bin", LIBRARIES[0])):
@@ -127,7 +127,7 @@ def main():
     os.umask(0o022)
     os.makedirs(sys.argv[1], exist_ok=True)
     try:
-        made = build(sys.argv[1], proved.moment())
+        made = build(sys.argv[1], proved.moment(), more=sys.argv[2:])
     except (Unfit, proved.NotProved) as fault:
         print(fault, file=sys.stderr)
         return 1

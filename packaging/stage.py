@@ -1,10 +1,9 @@
-"""Copies the contents of each package below a folder."""
+"""Copies the contents of each package below a folder. `stage.py level` prints the shell function of level.sh, for debian/rules."""
 
 import os
 import runpy
 import subprocess
-
-import pages
+import sys
 
 PLAIN, V3 = "x86-64-v2", "x86-64-v3"
 
@@ -56,17 +55,12 @@ def with_level_function(top, script):
     return script.replace(b"@LEVEL_OF@\n", level_function(top).encode())
 
 
-def user_pages(folder, without):
-    """Installs only the pages for users."""
-    pages.install(folder, without)
-
-
-def library_page(top):
-    """Returns the page of the library, for a package that has no other page: its links to files become plain words."""
-    page = "docs/LIBRARY.md"
-    return pages.with_links(page, read(os.path.join(top, page)).decode(), set()).encode()
-
-
 def notices(top):
     """Returns the notices of the kit's crates whose code is in the binaries. Their licence asks for them in each copy."""
     return read(os.path.join(top, "NOTICES"))
+
+
+if __name__ == "__main__":
+    if sys.argv[1:] != ["level"]:
+        sys.exit(__doc__)
+    print(level_function(os.path.join(os.path.dirname(os.path.abspath(__file__)), "..")), end="")

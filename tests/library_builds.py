@@ -6,11 +6,12 @@ small program with them: by CMake's `find_package`, and by the words of pkg-conf
 refuse a version that isn't there. A project that CMake configures twice, with two installations, must use the second one; an installation
 without the header is refused. Then `make uninstall-c` must leave no file.
 
-Needs cc, cmake and pkg-config; a part whose command is missing is skipped, with a line. Prints the checks that fail and, last, how many
-passed. Ends with status 1 if one failed.
+Needs cc, cmake and pkg-config; a part whose command is missing is skipped, with a line, and fails if MUST_RUN names the command. Prints
+the checks that fail and, last, how many passed. Ends with status 1 if one failed.
 """
 
 import os
+import re
 import shutil
 import subprocess
 import sys
@@ -36,7 +37,24 @@ cmake_minimum_required(VERSION 3.10)
 project(uses_aecp C)
 find_package(aecp {asked} CONFIG REQUIRED)
 add_executable(uses_aecp main.c)
-target_link_libraries(uses_aecp aecp::aecp)
+target_link_libraries(uses_aecp {target})
+"""
+TARGETS = ("aecp::aecp", "aecp::static")
+
+# Prints whether find_package finds what is asked for.
+ASKING = """
+cmake_minimum_required(VERSION 3.19)
+project(asks C)
+set(out ${CMAKE_CURRENT_BINARY_DIR})
+foreach(asked QUESTIONS)
+  string(REPLACE " " ";" words "${asked}")
+  find_package(aecp ${words} CONFIG QUIET)
+  message(STATUS "asked ${asked}: ${aecp_FOUND}")
+  unset(aecp_DIR CACHE)
+  unset(aecp_FOUND)
+  unset(aecp_shared_FOUND)
+  unset(aecp_static_FOUND)
+endforeach()
 """
 
 
@@ -45,10 +63,11 @@ def ran(*words, **more):
     return ended.returncode, ended.stdout + ended.stderr
 
 
-def has(command, what):
-    """Returns whether there is a command. If not, prints that what needs it is skipped."""
+def has(command, what, tally):
+    """Returns whether there is a command. If not, prints that what needs it is skipped, which fails if MUST_RUN names the command."""
     if not shutil.which(command):
         print(f"skipped, since there is no command {command}: {what}")
+        tally.holds(command not in os.environ.get("MUST_RUN", "").split(), f"{command} must be here")
     return bool(shutil.which(command))
 
 
@@ -59,12 +78,12 @@ def later(version):
 
 
 def try_cmake(prefix, version, folder, tally):
-    """Builds a project that asks `find_package` for the version, and one that asks for a later version."""
+    """Builds projects that ask `find_package` for the version, with each target, and one that asks for a later version."""
     source, built = os.path.join(folder, "source"), os.path.join(folder, "cmake")
     os.makedirs(source)
-    for asked, is_there in ((version, True), (later(version), False)):
+    for asked, target, is_there in (*((version, it, True) for it in TARGETS), (later(version), TARGETS[0], False)):
         with open(os.path.join(source, "CMakeLists.txt"), "w", encoding="utf-8") as file:
-            file.write(PROJECT.format(asked=asked))
+            file.write(PROJECT.format(asked=asked, target=target))
         with open(os.path.join(source, "main.c"), "w", encoding="utf-8") as file:
             file.write(PROGRAM)
         shutil.rmtree(built, ignore_errors=True)
@@ -73,14 +92,36 @@ def try_cmake(prefix, version, folder, tally):
         if is_there:
             status, said = ran("cmake", "--build", built)
             tally.holds(status == 0, f"cmake --build: {said[-800:]}")
-            tally.check("the program that CMake builds", ran(os.path.join(built, "uses_aecp")), (0, ""))
+            program = os.path.join(built, "uses_aecp")
+            tally.check(f"the program that CMake builds with {target}", ran(program), (0, ""))
+            is_shared = "libaecp.so" in ran("ldd", program)[1]
+            tally.check(f"whether the program with {target} needs libaecp.so.1", is_shared, target == TARGETS[0])
+
+
+def try_asking(prefix, version, folder, tally):
+    """Asks `find_package` for versions, ranges and components."""
+    major, minor, _ = map(int, version.split("."))
+    questions = {
+        **dict.fromkeys([f"{major}", f"{major}.{minor}", version, f"{version} EXACT", f"{major}...<{major + 1}"], True),
+        **dict.fromkeys([f"{major}.{minor + 1}", f"{major + 1}", f"{major - 1}"], False),
+        **dict.fromkeys([f"{major}...{major + 1}", f"{major + 1}...99"], False),
+        **dict.fromkeys(["COMPONENTS shared", "COMPONENTS static", "COMPONENTS shared static"], True),
+        **{"COMPONENTS other": False, "OPTIONAL_COMPONENTS other": True},
+    }
+    source, built = os.path.join(folder, "asking"), os.path.join(folder, "asked")
+    os.makedirs(source)
+    with open(os.path.join(source, "CMakeLists.txt"), "w", encoding="utf-8") as file:
+        file.write(ASKING.replace("QUESTIONS", " ".join(f'"{it}"' for it in questions)))
+    said = ran("cmake", "-S", source, "-B", built, f"-DCMAKE_PREFIX_PATH={prefix}")[1]
+    found = {asked: is_found in ("1", "TRUE") for asked, is_found in re.findall(r"asked (.*): (\w*)\n", said)}
+    tally.check("what find_package finds", found, questions)
 
 
 def try_cmake_twice(prefix, lib, version, folder, tally):
     """Configures a project with an installation, then with a copy of it, then with the copy without its header."""
     source, built, other = (os.path.join(folder, name) for name in ("source", "twice", "other"))
     with open(os.path.join(source, "CMakeLists.txt"), "w", encoding="utf-8") as file:
-        file.write(PROJECT.format(asked=version))
+        file.write(PROJECT.format(asked=version, target=TARGETS[0]))
     shutil.copytree(prefix, other, symlinks=True)
     for place in (prefix, other):
         words = [f"-Daecp_DIR={place}/{lib}/cmake/aecp", "-DCMAKE_EXPORT_COMPILE_COMMANDS=ON"]
@@ -114,10 +155,11 @@ def try_install(lib, version, tally):
         places = [f"PREFIX={prefix}", f"LIBDIR={prefix}/{lib}"]
         status, said = ran("make", "-s", "-C", TOP, "install-c", *places)
         tally.holds(status == 0, f"make install-c into {lib}: {said}")
-        if has("cmake", "find_package"):
+        if has("cmake", "find_package", tally):
             try_cmake(prefix, version, folder, tally)
+            try_asking(prefix, version, folder, tally)
             try_cmake_twice(prefix, lib, version, folder, tally)
-        if has("pkg-config", "aecp.pc"):
+        if has("pkg-config", "aecp.pc", tally):
             try_pkg_config(os.path.join(prefix, lib), version, folder, tally)
         status, said = ran("make", "-s", "-C", TOP, "uninstall-c", *places)
         left = [os.path.join(at, name) for at, _, names in os.walk(prefix) for name in names]
@@ -128,7 +170,7 @@ def main():
     with open(os.path.join(TOP, "VERSION"), encoding="utf-8") as file:
         version = file.read().strip()
     tally = Tally()
-    if has("cc", "the installed library"):
+    if has("cc", "the installed library", tally):
         for lib in ("lib", "lib/x86_64-linux-gnu"):
             try_install(lib, version, tally)
     tally.print()

@@ -30,6 +30,7 @@ from lib.program import TOP, Tally
 sys.path.insert(0, os.path.join(TOP, "packaging"))
 
 import elf
+from lib import package_debs
 from lib import package_modules
 from lib import package_roots
 import proved
@@ -38,6 +39,7 @@ import stage
 
 DIST = os.path.join(TOP, "dist")
 LIB = "usr/lib/x86_64-linux-gnu"
+SUMS_OF_ALL = "SHA256SUMS"
 BINARIES = ("aec", "libaecp.a", "libaecp.so", "x86-64-v3/aec", "x86-64-v3/libaecp.so")
 LEVELS = runpy.run_path(os.path.join(TOP, "bindings/python/aecp/levels.py"))
 PLAIN, V3 = LEVELS["PLAIN"], LEVELS["V3"]
@@ -102,6 +104,26 @@ def copied_checkout(folder):
     (shutil.copytree if os.path.isdir(git) else shutil.copy2)(git, os.path.join(folder, ".git"))
 
 
+def try_python_build(checkout, made, folder, tally):
+    """Checks that `python3 -m build` in a checkout makes the wheel that `make dist` makes, without the file PROVED."""
+    words = [python.builder(), "-m", "build", "--no-isolation", "--outdir", folder, os.path.join(checkout, "bindings/python")]
+    done = subprocess.run(words, capture_output=True, text=True)
+    tally.holds(done.returncode == 0, f"python3 -m build: {done.stdout[-1000:]}{done.stderr[-1000:]}")
+    wheel = next(path for name, path in made.items() if name.endswith(".whl"))
+    built = os.path.join(folder, os.path.basename(wheel))
+    tally.holds(os.path.exists(built), f"python3 -m build makes no {os.path.basename(wheel)}")
+    if os.path.exists(built):
+        with zipfile.ZipFile(wheel) as one, zipfile.ZipFile(built) as other:
+            tally.check("the files of python3 -m build", sorted({*one.namelist()} - {"aecp/PROVED"}), sorted(other.namelist()))
+
+
+def try_sums(made, tally):
+    """Checks that SHA256SUMS has the sums of all other files."""
+    done = subprocess.run(["sha256sum", "--strict", "-c", SUMS_OF_ALL], cwd=DIST, capture_output=True, text=True)
+    named = sorted(re.findall(r"(?m)^(\S+): OK$", done.stdout))
+    tally.check("the files of SHA256SUMS", (done.returncode, named), (0, sorted({*made} - {SUMS_OF_ALL})))
+
+
 def try_builds(made, folder, tally):
     """Checks that a build in another folder writes the same bytes, and that no binary contains a path of this machine."""
     other = os.path.join(folder, "elsewhere", "checkout")
@@ -110,6 +132,7 @@ def try_builds(made, folder, tally):
     tally.check("the names of a second build", sorted(again), sorted(made))
     for name in sorted(made):
         tally.holds(data_of(made[name]) == data_of(again.get(name, made[name])), f"a second build of {name} has other bytes")
+    try_python_build(other, made, os.path.join(folder, "elsewhere", "made"), tally)
     for name in BINARIES:
         found = re.findall(rb"/(?:tmp|home|root|work)/[\w./-]+|" + re.escape(TOP.encode()), data_of(os.path.join(TOP, "bin", name)))
         tally.check(f"paths of this machine in bin/{name}", found, [])
@@ -132,12 +155,16 @@ def try_notices(made, tally):
     text = stage.notices(TOP).decode()
     for name in ("byteorder", "clap", "smallvec", "strsim", "thiserror", "\nTHE SOFTWARE IS PROVIDED", "\n\nPermission is hereby granted"):
         tally.holds(name in text, f"the notices lack {name!r}")
-    tally.check("lines of the notices that begin with a blank", re.findall(r"(?m)^[ .].*", text), [])
+    with open(os.path.join(TOP, "debian/copyright"), encoding="utf-8") as file:
+        in_debian = re.sub(r"(?m)^ \.?", "", file.read())
+    for part in text.split("\n\n", 1):
+        tally.holds(part.strip() in in_debian, f"debian/copyright lacks a part of NOTICES: {part[:60]}")
     top = f"aec-{version()}-x86_64-linux"
     with tarfile.open(made[top + ".tar.gz"]) as archive:
         for place in ("NOTICES", "share/doc/aec/NOTICES"):
             tally.check(f"{place} of the tarball", archive.extractfile(f"{top}/{place}").read().decode(), text)
     with zipfile.ZipFile(next(path for name, path in made.items() if name.endswith(".whl"))) as archive:
+        tally.holds("aecp/PROVED" in archive.namelist(), "the wheel has no PROVED")
         tally.check("NOTICES of the wheel", archive.read(f"aecp-{version()}.dist-info/NOTICES").decode(), text)
 
 
@@ -217,6 +244,7 @@ def try_tarball(made, root, folder, tally):
         status, said = root.run(script)
         tally.holds(status == 0, f"the tarball's {words}: {said}")
     tally.check("the tarball's program", root.run(f"{prefix}/bin/aec --version"), (0, f"aec {version()}\n"))
+    try_command(root.inside("/opt/aec/bin/aecp"), folder, tally)
     try_commands(root, "/opt/aec/share/doc/aec/README.md", "tarball", tally)
     try_c(root.inside("/opt/aec"), "lib", "tarball", root, folder, tally)
     status, said = root.run(f"sh {place}/install.sh uninstall {prefix}")
@@ -228,6 +256,17 @@ def try_tarball(made, root, folder, tally):
     tally.holds(status == 1 and os.path.exists(root.inside("/opt/aec/lib/libaecp.a")), f"uninstall of a name that isn't installed: {said}")
     root.run(f"PROGRAM=aec-proved sh {place}/install.sh uninstall {prefix}")
     tally.check("what the tarball leaves under another name", sorted(root.files() - before), [])
+
+
+def try_command(command, folder, tally):
+    """Uses the tarball's command aecp here, where Python is."""
+    path = os.path.join(folder, "kept.raw")
+    with open(path, "wb") as file:
+        file.write(bytes(range(200)) * 100)
+    for words in (["--version"], ["keep", path, "-n", "16"], ["check", path + ".aec"], ["back", path + ".aec", "-o", path + ".back"]):
+        status, said = package_modules.run([sys.executable, command, *words])
+        tally.holds(status == 0, f"aecp {words[0]} of the tarball: {said}")
+    tally.holds(data_of(path) == data_of(path + ".back"), "aecp of the tarball restores other bytes")
 
 
 def c_example():
@@ -310,16 +349,9 @@ def try_link(root, deb, last, tally):
         tally.check(f"the command aec-proved on {level}", root.run("readlink -f /usr/bin/aec-proved"), (0, wanted))
 
 
-def try_lintian(made, tally):
-    if tally.has("lintian", "lintian on the Debian packages"):
-        debs = sorted(path for name, path in made.items() if name.endswith(".deb"))
-        done = subprocess.run(["lintian", "--fail-on", "error,warning", "--tag-display-limit", "0", *debs], capture_output=True, text=True)
-        tally.check("lintian", (done.returncode, done.stdout), (0, ""))
-
-
 def try_versions(made, tally):
     """Checks that each package has the version of the file VERSION, in its name and inside."""
-    for name in made:
+    for name in sorted({*made} - {SUMS_OF_ALL}):
         tally.holds(version() in name, f"{name} has another version than {version()}")
     for name in filter(lambda it: it.endswith(".deb"), made):
         told = subprocess.run(["dpkg-deb", "-f", made[name], "Version"], capture_output=True, text=True).stdout
@@ -335,16 +367,18 @@ def main():
     print(f"make dist: {time.monotonic() - begun:.0f} s" + ("" if is_proved() else ", of binaries that nobody has proved"), flush=True)
     with tempfile.TemporaryDirectory() as folder:
         try_versions(made, tally)
+        try_sums(made, tally)
         try_notices(made, tally)
         try_builds(made, folder, tally)
         try_links_again(tally)
         try_wheel_libraries(made, tally)
         try_symbols(made, tally)
-        try_lintian(made, tally)
+        package_debs.try_lintian(made, tally)
         root = package_roots.Root(folder)
         print(f"installed in {root.kind}, {time.monotonic() - begun:.0f} s after the start", flush=True)
         try_tarball(made, root, folder, tally)
         try_debs(made, root, folder, tally)
+        package_debs.try_apt(made, root, tally)
         package_modules.try_make(os.path.join(folder, "made"), tally)
         package_modules.try_wheel(next(path for name, path in made.items() if name.endswith(".whl")), folder, tally)
         package_modules.try_crate(os.path.join(folder, f"aec-{version()}-x86_64-linux"), folder, tally)

@@ -1,5 +1,7 @@
 #!/bin/sh
-# Runs every test, from the top of the repository, for `make test`: the parts below, in their order.
+# Runs every test, from the top of the repository, for `make test`: the parts below, in their order. With the words `check PROGRAM
+# [FOLDER]`, for `make check`, it runs only the parts that need no kit, on that program, and the tests of the library on FOLDER, which
+# has libaecp.a and libaecp.so.
 #
 # A part that fails doesn't stop the others. The last line counts what passed and failed: it is the
 # gate's line if all parts have passed, else that of the first part that failed, and the lines above
@@ -42,6 +44,26 @@ worked-pages on_program tests/worked_pages.py
 pictures python3 bench/pictures.py --check
 instructions on_program tests/instructions_bounded.py'
 
+# The parts that need the kit, or programs and records that the gate leaves.
+with_kit='gate|kept-program|refused-calls|instructions'
+of_library='library python3 tests/library.py PROGRAM FOLDER
+arrays python3 tests/library_arrays.py PROGRAM FOLDER
+python python3 tests/library_python.py FOLDER
+archive python3 tests/archive.py FOLDER
+preload python3 tests/preload.py FOLDER'
+checked=
+if [ "${1:-}" = check ]; then
+    checked=$2
+    if [ ! -x "$checked" ]; then
+        echo "there is no program $checked: make check PROGRAM=/usr/bin/aec-proved" >&2
+        exit 1
+    fi
+    parts=$(echo "$parts" | grep -vE "^($with_kit) ")
+    if [ -n "${3:-}" ]; then
+        parts=$(printf '%s\n%s' "$parts" "$of_library" | sed "s|PROGRAM FOLDER|$checked $3|; s| FOLDER\$| $3|")
+    fi
+fi
+
 # Prints the minutes since this script began.
 minutes() {
     echo $((($(date +%s) - begun) / 60))
@@ -63,9 +85,9 @@ has_passed() {
     [ "$(cat "$kept/$1.status")" = 0 ]
 }
 
-# Runs a test on a program that the gate has built: the second argument, or `aec`.
+# Runs a test on the program to be checked, else on one that the gate has built: the second argument, or `aec`.
 on_program() {
-    program=crates/${2:-aec}/out/${2:-aec}
+    program=${checked:-crates/${2:-aec}/out/${2:-aec}}
     if [ -x "$program" ]; then
         python3 "$1" "$program"
     else
@@ -116,12 +138,14 @@ keep_gate() {
     fi
 }
 
-state=$(python3 packaging/proved.py state)
-# As measured on 30 November 2026, beside other work (`make gate-times`).
-work=125
 processors=$(getconf _NPROCESSORS_ONLN)
-echo "make test has about $work minutes of work for one processor, so at least $((work / processors)) for the $processors of this machine."
-echo "On four it took 44. Some kits don't prove crates again whose files are as they were in an earlier run on this machine."
+if [ -z "$checked" ]; then
+    state=$(python3 packaging/proved.py state)
+    # As measured on 30 November 2026, beside other work (`make gate-times`).
+    work=125
+    echo "make test has about $work minutes of work for one processor, so at least $((work / processors)) for the $processors of this machine."
+    echo "On four it took 44. Some kits don't prove crates again whose files are as they were in an earlier run on this machine."
+fi
 echo "$parts" > "$kept/parts"
 last=
 while read -r name command; do
@@ -133,9 +157,14 @@ done < "$kept/parts"
 if [ -n "$last" ]; then
     explain "$last"
 fi
-last=${last:-gate}
 echo "== seconds of each part, on $processors processors"
 cat "$kept/times"
+if [ -n "$checked" ]; then
+    failed=$(grep -c ', FAILED$' "$kept/times" || true)
+    echo "make check, parts: $((number - failed)) passed, $failed failed"
+    exit "$((failed > 0))"
+fi
+last=${last:-gate}
 echo "== $last"
 tail -n 1 "$kept/$last.log" | grep -E '[0-9]+ passed, [0-9]+ failed' || echo "0 passed, 1 failed"
 has_passed "$last"

@@ -4,7 +4,7 @@
 Runs the program at PATH_OF_AEC, with one file as SOURCE and DEST, on a system that gives it too little: stacks of 64 to 256 KiB, and
 address spaces around the least that is enough. However the run ends, by a status or by a signal, the file must be unchanged or hold the
 whole result. A run with enough memory must stay within a bound: decoding takes the stream, the samples that it keeps, and a few MiB,
-however long the stream is.
+however long the stream is; editing takes what COMMAND says.
 
 Prints the checks that fail and, last, how many passed. Ends with status 1 if one failed.
 """
@@ -123,6 +123,35 @@ def try_resident(program, tally):
                 tally.holds(same_pieces(program, "back", piece, times), f"{what} comes back otherwise")
 
 
+def editing_bound(stream, script, interval, intervals):
+    """Returns the bytes that `--edit` takes at most, as COMMAND says: of the longer stream, the script, the samples of an interval, and the
+    number of intervals."""
+    values = max(len(line.split()) for line in script.splitlines() or [b""])
+    return 3 * stream + 2 * len(script) + 48 * interval + 16 * (intervals + values) + 5 * MIB // 2
+
+
+def try_editing(program, tally):
+    """Measures edits of 10 MiB of incompressible samples, in the shortest and in the longest intervals."""
+    piece, times, more = bytes((x * x // 7 + 101 * x) % 256 for x in range(MIB)), 10, 200_000
+    write_pieces(program, "samples", piece, times)
+    for block, blocks in ((8, 1), (16, 128), (64, 4096)):
+        options, interval = ["-N", "-j", str(block), "-r", str(blocks)], block * blocks
+        coded = program.run(*options, "samples", "stream")
+        tally.check(f"coding in intervals of {interval}", coded, (0, ""))
+        for what, script in (
+            ("no edit", b""),
+            ("overwrites", b"".join(b"overwrite %d 7\n" % place for place in range(0, times * MIB, times * MIB // 40))),
+            ("values in one line", b"append" + b" 9" * more),
+            ("an insertion in front", b"insert 0 7"),
+            ("a removal in front", b"remove 0 1"),
+        ):
+            program.write("script", script)
+            status, most = most_resident(program, "--edit", "script", "--count", str(times * MIB), *options, "stream", "edited")
+            longer = max(os.path.getsize(program.file(name)) for name in ("stream", "edited"))
+            bound = editing_bound(longer, script, interval, (times * MIB + more) // interval + 1)
+            tally.holds(status == 0 and most <= bound, f"{what} in intervals of {interval}: {status}, {most} bytes, the bound {bound}")
+
+
 def main():
     tally = Tally()
     with tempfile.TemporaryDirectory() as folder:
@@ -130,6 +159,7 @@ def main():
         try_stacks(program, tally)
         try_spaces(program, tally)
         try_resident(program, tally)
+        try_editing(program, tally)
     tally.print()
     return 1 if tally.failed else 0
 

@@ -2,8 +2,8 @@
 """Tests the commands, examples and code of README.md, docs/COMMAND.md and docs/LIBRARY.md: worked_pages.py PATH_OF_AEC
 
 Runs the commands of README's part 'Use it' and checks the size that it names. Runs each example of COMMAND's part 'Examples', which has
-options, perhaps a script, the bytes of SOURCE and those of DEST. The code of LIBRARY's part 'Rattle' must be in the file that is named
-before it. A page without commands, examples or code fails.
+options, perhaps a script, the bytes of SOURCE and those of DEST. Runs COMMAND's command that sorts a script. The code of LIBRARY's part
+'Rattle' must be in the file that is named before it. A page without commands, examples or code fails.
 
 Prints the checks that fail and, last, how many passed. Ends with status 1 if one failed.
 """
@@ -59,6 +59,20 @@ def try_commands(program, tally):
     tally.check("bytes that README names", len(program.read("d.aec") or b""), coded)
 
 
+def try_sorting(program, tally):
+    """Sorts a script of overwrites by the command of COMMAND. Its lines must be in the order of their places, and mean the same."""
+    command = re.search(r"`(sort [^`]*) SCRIPT`", part_of("docs/COMMAND.md", "Edits")).group(1)
+    places = [37 * number % 48 for number in range(48)]
+    lines = [b"overwrite %d %d\n" % (place, place // 2) for place in places]
+    ran = subprocess.run(command.split(), input=b"".join(lines), capture_output=True, check=True)
+    tally.check("sorted overwrites", ran.stdout, b"".join(line for _, line in sorted(zip(places, lines))))
+    results = []
+    for script in (b"".join(lines), ran.stdout):
+        program.write("SCRIPT", script)
+        results.append(program.answer(["--edit", "SCRIPT", "--count", "48"], bytes.fromhex("00 04 00 10 00 40")))
+    tally.holds(results[0] is not None and results[0] == results[1], "a sorted script means something else")
+
+
 def try_code(tally):
     """Checks that the code of the library's page is in a file that is proved."""
     part = part_of("docs/LIBRARY.md", "Rattle")
@@ -77,6 +91,7 @@ def main():
         program = Program(sys.argv[1], folder)
         try_examples(program, tally)
         try_commands(program, tally)
+        try_sorting(program, tally)
     tally.print()
     return 1 if tally.failed else 0
 

@@ -2,18 +2,21 @@
 """Writes man/aec.1 and man/aecp.1 from docs/COMMAND.md, docs/ARCHIVE.md and the file VERSION: man.py [--check]
 
 The title of a source becomes the section NAME, its first block of code SYNOPSIS, and the text from there to the first heading
-DESCRIPTION. Each other heading begins a section of its own. A row of a table becomes a tagged paragraph: the first cell
+DESCRIPTION. Each other heading begins a section of its own: OPTIONS comes first, and those of LAST come last, in this order. In aecp(1)
+OPTIONS lists what the command's parser has for each verb. A row of a table becomes a tagged paragraph: the first cell
 is the tag, the second the text, and each later cell follows the head of its column. A list item that begins with code and a colon
 becomes a paragraph with that code as its tag. Sections of LEFT_OUT stay on their page alone.
 
 With --check nothing is written, and the script fails if a page differs from what it would write.
 """
 
+import argparse
 import os
 import re
 import sys
 import textwrap
 
+import completions
 from version import version
 
 TOP = os.path.join(os.path.dirname(os.path.abspath(__file__)), "..")
@@ -21,6 +24,9 @@ SOURCES = {"man/aec.1": "docs/COMMAND.md", "man/aecp.1": "docs/ARCHIVE.md"}
 NOTE = '.\\" Written by `make man` from %s.\n'
 COLUMNS = 100
 LEFT_OUT = ("Speed", "The form of FILE.aec")
+# Sections with another name on their page.
+NAMES = {"Ten minutes": "Examples"}
+LAST = ("Exit status", "Diagnostics", "Environment", "Files", "Examples", "Ten minutes", "See also")
 ITEM = re.compile(r"(- |\d+\. )(.*)")
 TAGGED = re.compile(r"`([^`]*)`: (.*)", re.S)
 # Characters that roff would read as something else, and how they are written.
@@ -118,7 +124,7 @@ def heading(line):
     """Returns the heading of a section or a subsection."""
     level, name = line.split(" ", 1)
     if level == "##":
-        return f".SH {escaped(name.upper(), CODE_SIGNS)}\n"
+        return f".SH {escaped(NAMES.get(name, name).upper(), CODE_SIGNS)}\n"
     return f".SS {escaped(name, CODE_SIGNS)}\n"
 
 
@@ -142,19 +148,61 @@ def blocks(text):
         yield part.split("\n")
 
 
+def argument(action):
+    """Returns an option or an argument of a verb in roff."""
+    value = action.metavar or " | ".join(map(str, action.choices or ())) or action.dest.upper()
+    if action.option_strings:
+        names = ", ".join(action.option_strings) + ("" if action.nargs == 0 else f" {value}")
+    else:
+        names = value + (" .." if action.nargs in ("*", "+") else "")
+    text = (action.help or "").replace("%%", "%")
+    return tag(names) + filled(f"{text[:1].upper()}{text[1:]}." if text else "See above.")
+
+
+def verbs():
+    """Returns the subsection of each verb of aecp in roff, from the command's parser."""
+    out = []
+    for name, verb in completions.parsers().items():
+        listed = [it for it in verb._actions if it.help != argparse.SUPPRESS and it.dest != "help"]
+        about = " ".join((verb.description or "").split())
+        out.append(heading(f"### aecp {name}") + (filled(about) if about else "") + "".join(map(argument, listed)))
+    return "".join(out)
+
+
+def rank(part):
+    """Returns where a section of a page belongs."""
+    name = part.partition("\n")[0].removeprefix("## ")
+    return 0 if name == "Options" else 2 + LAST.index(name) if name in LAST else 1
+
+
+def ordered(text):
+    """Returns a page with its sections in the order of manual pages, without those of LEFT_OUT."""
+    first, *parts = re.split(r"(?m)^(?=## )", text)
+    kept = [it for it in parts if it.partition("\n")[0].removeprefix("## ") not in LEFT_OUT]
+    return first + "".join(sorted(kept, key=rank))
+
+
+def sections(text, name):
+    """Returns the sections of a page after its synopsis in roff."""
+    out = [block(it) for it in blocks(text)]
+    if name == "aecp":
+        at = next(at for at, it in enumerate(out) if it.startswith(".SH ") and at > out.index(".SH OPTIONS\n"))
+        out.insert(at, verbs())
+    return "".join(out)
+
+
 def page(source):
     """Returns the manual page that a source becomes."""
     with open(os.path.join(TOP, source), encoding="utf-8") as file:
-        text = file.read()
-    for name in LEFT_OUT:
-        text = re.sub(rf"(?ms)^## {re.escape(name)}$.*?(?=^## |\Z)", "", text)
-    title, synopsis, *rest = blocks(text)
+        text = ordered(file.read())
+    title, synopsis, *_ = blocks(text)
+    rest = text.partition("\n".join(synopsis))[2]
     name, what = title[0].removeprefix("# ").split(": ", 1)
     out = [NOTE % source, f'.TH {name.upper()} 1 "" "{name} {version()}" "User Commands"\n']
     out.append(f".SH NAME\n{name} \\- {escaped(what, CODE_SIGNS)}\n")
     command, words = synopsis[0].split(maxsplit=1)
     out.append(f".SH SYNOPSIS\n.B {command}\n{font('I', words)}\n.SH DESCRIPTION\n")
-    return "".join(out + [block(it) for it in rest])
+    return "".join(out) + sections(rest, name)
 
 
 def is_current(path, wanted):

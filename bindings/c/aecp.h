@@ -32,6 +32,7 @@ extern "C" {
  * the library, which may differ; it allocates nothing. The structs and calls below change only with the first number, and then the soname
  * changes too (now libaecp.so.1). A greater second number means that calls were added. */
 #define AECP_VERSION 10000
+#define AECP_VERSION_STRING "1.0.0"
 uint32_t aecp_version(void);
 
 /* How samples are stored and coded. A stored sample of 1 to 8 bits takes one byte, of 9 to 16 two, else four (but see three_byte). */

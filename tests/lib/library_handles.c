@@ -93,6 +93,24 @@ static void try_empty(aecp_handle *handle) {
     aecp_close(handle);
 }
 
+/* Calls on a handle that was opened as another kind: they do nothing, and what it holds stays. */
+static void try_other_kind(const aecp_options *options) {
+    aecp_coder coder = AECP_CODER;
+    aecp_handle *handle = (aecp_handle *)&coder;
+    int64_t out[1] = {7};
+    aecp_reply reply;
+    check(aecp_coder_open(options, &coder, &reply) == AECP_OK, "open a coder");
+    check(aecp_append(handle, out, 1, &reply) == AECP_NOT_OPEN, "append to a coder");
+    check(aecp_read(handle, 0, 0, out, 1, &reply) == AECP_NOT_OPEN && out[0] == 7, "read of a coder");
+    check(aecp_size(handle) == 0 && aecp_calls(handle) == 0, "size of a coder");
+    check(aecp_reader_go_to((aecp_reader *)&coder, 0, &reply) == AECP_NOT_OPEN, "a coder is no reader");
+    check(aecp_coder_finish(&coder, &reply) == AECP_OK, "the coder stays");
+    check(aecp_open(options, handle, &reply) == AECP_OK, "open a workspace in its place");
+    check(aecp_coder_feed(&coder, 0, 0, &reply) == AECP_NOT_OPEN && aecp_size(handle) == 0, "feed of a workspace");
+    aecp_coder_close(&coder);
+    check(aecp_append(handle, out, 1, &reply) == AECP_NOT_OPEN, "append to a closed one");
+}
+
 /* Passes NULL for no values and for buffers of no bytes. */
 static void try_nulls(const aecp_options *options) {
     const int64_t wanted[] = {3, 4, 5};
@@ -130,6 +148,7 @@ static void try_calls(void) {
     check(aecp_open(&none, &handle, &reply) == AECP_BITS_PER_SAMPLE && aecp_size(&handle) == 5, "refused open");
     try_stream(&options, &handle);
     try_nulls(&options);
+    try_other_kind(&options);
     check(aecp_open(&options, &handle, &reply) == AECP_OK && aecp_size(&handle) == 0, "opened again");
     aecp_close(&handle);
     try_empty(&handle);

@@ -176,6 +176,8 @@ def try_wheel(wheel, folder, tally):
     bare = venv(sys.executable, os.path.join(folder, "bare"))
     if bare:
         try_bare(bare, wheel, tally)
+    else:
+        tally.skip("python3-venv", "the wheel without numpy")
     python = interpreter()
     full = python and venv(python, os.path.join(folder, "full"), "--system-site-packages")
     if full:
@@ -198,6 +200,8 @@ def try_make(folder, tally):
         python = venv(sys.executable, os.path.join(folder, target.split()[0]))
         if python:
             try_make_python(python, target.split(), tally)
+        else:
+            tally.skip("python3-venv", "make install-python")
 
 
 def try_make_python(python, removal, tally):
@@ -216,7 +220,8 @@ def try_make_python(python, removal, tally):
 
 def try_unsafe(tally):
     """Checks that unsafe code is in one file, with a reason at each block."""
-    for path in sorted(glob.glob(os.path.join(TOP, "bindings/rust/aecp/**/*.rs"), recursive=True)):
+    paths = glob.glob(os.path.join(TOP, "bindings/rust/aecp*/**/*.rs"), recursive=True)
+    for path in sorted(paths):
         with open(path, encoding="utf-8") as file:
             text = re.sub(r"(?m)//(?! SAFETY:).*$", "", file.read())
         blocks = len(re.findall(r"\bunsafe\b", text))
@@ -273,8 +278,14 @@ def try_crate(unpacked, folder, tally):
     try_unsafe(tally)
     if not tally.has("cargo", "the tests of the Rust crate"):
         return
-    crate, lib = os.path.join(folder, "crate"), os.path.join(unpacked, "lib")
-    shutil.copytree(os.path.join(TOP, "bindings/rust/aecp"), crate, ignore=shutil.ignore_patterns("target", "Cargo.lock"))
+    crates, lib = os.path.join(folder, "crates"), os.path.join(unpacked, "lib")
+    crate = os.path.join(crates, "aecp")
+    shutil.copytree(os.path.join(TOP, "bindings/rust"), crates, ignore=shutil.ignore_patterns("target", "Cargo.lock"))
+    status, said = cargo(crates, folder, "doc", "--no-deps", "--workspace", DOCS_RS="1", RUSTDOCFLAGS="-D warnings")
+    tally.holds(status == 0, f"cargo doc without the library: {said}")
+    for name, file in (("aecp-sys", "LICENSE"), ("aecp-sys", "build.rs"), ("aecp", "LICENSE"), ("aecp", "src/raw.rs")):
+        status, said = cargo(os.path.join(crates, name), folder, "package", "--list", "--allow-dirty")
+        tally.holds(status == 0 and file in said.split(), f"cargo package of {name} lacks {file}: {said}")
     status, said = cargo(crate, folder, "test", AECP_LIB_DIR=lib)
     tally.holds(status == 0, f"cargo test: {said}")
     print(f"cargo test: {', '.join(re.findall(r'test result: ok. ([0-9]+ passed)', said))}")

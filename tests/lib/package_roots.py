@@ -9,7 +9,7 @@ import subprocess
 TOOLS = """sh bash env cat chmod chown cmp cp cut dirname diff echo find grep head id install ln ls mkdir mktemp mv printf readlink rm rmdir
 sed sort tar tail tee touch true uname wc xz gzip sha256sum dpkg dpkg-deb dpkg-split dpkg-query update-alternatives ldconfig
 start-stop-daemon""".split()
-SUITE, SECONDS = "bookworm", 90  # of Debian, and for debootstrap
+SUITE, SECONDS = "bookworm", 600  # of Debian, and for debootstrap
 DPKG = [f"var/lib/dpkg/{name}" for name in ("info", "updates", "triggers", "alternatives")]
 PATH = "/usr/sbin:/usr/bin:/sbin:/bin"
 # What every installation and removal of a package changes, and its records.
@@ -74,12 +74,13 @@ class Root:
     """A folder with a system, and commands that run in it."""
 
     def __init__(self, folder):
-        self.path, self.words = os.path.join(folder, "root"), chroot_words()
+        self.path, self.words, self.is_debian = os.path.join(folder, "root"), chroot_words(), False
         if self.words is None:
             os.makedirs(self.path)
             self.kind = "an empty folder and a clean environment, since no other root can be entered here"
         elif debian_root(self.path):
-            self.kind = "Debian's least system"
+            self.kind, self.is_debian = "Debian's least system", True
+            self.copy("/etc/resolv.conf", "/etc/resolv.conf")
         else:
             shutil.rmtree(self.path, ignore_errors=True)
             os.makedirs(self.path)
@@ -90,14 +91,14 @@ class Root:
     def inside(self, path):
         return os.path.join(self.path, path.lstrip("/"))
 
-    def run(self, script):
-        """Runs a shell script in the root. Returns its status and what it prints."""
+    def run(self, script, seconds=60):
+        """Runs a shell script in the root, for so many seconds at most. Returns its status and what it prints."""
         if self.words is None:
             command, path = ["sh", "-c", script], f"{self.inside('usr/bin')}:{PATH}"
         else:
             command, path = [*self.words, self.path, "/bin/sh", "-c", script], PATH
         given = {"PATH": path, "HOME": "/tmp", "LC_ALL": "C", "DEBIAN_FRONTEND": "noninteractive"}
-        done = subprocess.run(command, capture_output=True, text=True, env=given, cwd="/", timeout=60)
+        done = subprocess.run(command, capture_output=True, text=True, env=given, cwd="/", timeout=seconds)
         return done.returncode, done.stdout + done.stderr
 
     def copy(self, path, place):

@@ -24,3 +24,4 @@ pub mod OnesLemmas
 pub mod TableLaws
 pub mod EndsLemmas
 pub mod EightLemmas
+pub mod FromWordLemmas

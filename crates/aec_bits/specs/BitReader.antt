@@ -1,5 +1,5 @@
 -- A reader of bits as its callers see it.
-use Rattle.std.specs.Prelude.{ℕ, zero, suc, ◌+◌, ◌^◌, ◌<◌, ◌≤◌, ◌≡◌, Bool, true, false, Option, Some, None, MatchOption, is_some, Result, MatchResult, OnOk, OnErr, List, [], ◌∷◌, ◌++◌, length, take, drop}
+use Rattle.std.specs.Prelude.{ℕ, zero, suc, ◌+◌, ◌-◌, ◌^◌, ◌<◌, ◌≤◌, ◌≡◌, Bool, true, false, Option, Some, None, MatchOption, is_some, Result, MatchResult, OnOk, OnErr, List, [], ◌∷◌, ◌++◌, length, take, drop, replicate}
 use Rattle.std.specs.List.{list_any, flat_map, AllByRecursion}
 use Rattle.aec_params.specs.declared.fault.Fault.{Fault}
 use Rattle.aec_params.specs.declared.fault.Fault.TheVariants.{Truncated}
@@ -66,3 +66,9 @@ pub record StopsBefore (count : ℕ) (bits : List Bool) : Type 0 where
   pub few : length numbers < count
   pub stands : bits ≡ flat_map fs numbers ++ rest
   pub none : has_one (take 64 rest) ≡ false
+
+-- the first `gone` bits of a word are those before a cursor, and its others are the next bits;
+-- zeros follow the last bit of the list
+pub record IsBehindWord (c : Cursor) (gone word : ℕ) : Type 0 where
+  pub there : gone ≤ c.pos
+  pub bits : binary 64 word ≡ take 64 (drop (c.pos - gone) c.list ++ replicate 64 false)

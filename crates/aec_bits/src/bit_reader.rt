@@ -3,11 +3,14 @@
 mod counted_ones;
 mod ends_in_bytes;
 mod ends_in_words;
+mod seen_words;
 mod windows;
 
 use crate::bit_buf::{BitBuf, missing_bits};
 use crate::bit_reader::counted_ones::bits_to_one;
+use crate::bit_reader::seen_words::seen_sequences;
 use crate::bit_reader::windows::{numbers_from, sequences_from};
+use crate::words::part_of;
 use aec_params::Fault;
 use std::marker::Model;
 
@@ -36,7 +39,7 @@ impl<'a> BitReader<'a> {
     ghost use Rattle.aec_params.specs.Codewords.{fs, binary};
     ghost use Rattle.aec_params.specs.Cutting.{up_to_multiple};
     ghost use Rattle.std.specs.List.{flat_map};
-    ghost use Rattle.aec_bits.specs.BitReader.{StaysWithin, MovesBy, has_one, behind_ones, AreBelow, StopsBefore};
+    ghost use Rattle.aec_bits.specs.BitReader.{StaysWithin, MovesBy, has_one, behind_ones, AreBelow, StopsBefore, IsBehindWord};
 
     // bare: it only fills in the fields of a new value
     /// Returns a reader at the first bit.
@@ -134,6 +137,62 @@ impl<'a> BitReader<'a> {
         }
     }
 
+    /// Returns the word of the next 64 bits, for `read_from` and `read_sequences_from`; after the
+    /// last bit it has zeros. The reader doesn't move.
+    #[inline(always)]
+    pub fn next_word(&self) -> u64
+        ensures { IsBehindWord self.now 0 result }
+    {
+        self.buf.word_from(self.pos)
+    }
+
+    /// `read`, of a number that a word contains after its first `gone` bits. They were read, and
+    /// the word was returned by `next_word` before.
+    #[inline(always)]
+    pub fn read_from(&mut self, word: u64, gone: u32, width: u32) -> Result<u64, Fault>
+        requires word { IsBehindWord self.old gone word }
+        requires some { 0 < width }
+        requires within { gone + width ≤ 64 }
+        ensures fits { IfOk result (λ v. v < 2 ^ width) }
+        ensures bits { IfOk result (λ v.
+            drop self.old.pos self.old.list
+            ≡ binary width v ++ drop (self.old.pos + width) self.old.list) }
+        ensures takes { MovesBy width self.old self.new result }
+    {
+        let start = self.pos;
+        if u64::from(width) > self.buf.len() - start {
+            return Err(Fault::Truncated { bit: start });
+        }
+        let value = part_of(word, gone, width);
+        self.pos = start + u64::from(width);
+        Ok(value)
+    }
+
+    /// `read_sequences` of sequences that a word contains after its first `gone` bits, as in
+    /// `read_from`. Returns false if the word doesn't contain all of them.
+    #[inline(always)]
+    pub fn read_sequences_from(&mut self, word: u64, gone: u32, numbers: &mut [u32]) -> bool
+        requires word { IsBehindWord self.old gone word }
+        requires some { 0 < gone }
+        requires inside { gone < 64 }
+        ensures bits { result ≡ true →
+            drop self.old.pos self.old.list
+            ≡ flat_map fs numbers.new ++ drop self.new.pos self.old.list }
+        ensures below { result ≡ true → AreBelow 64 numbers.new }
+        ensures len { length numbers.new ≡ length numbers.old }
+        ensures within { self.new.pos ≤ length self.new.list }
+        ensures list { self.new.list ≡ self.old.list }
+        ensures stays { result ≡ false → self.new ≡ self.old }
+    {
+        match seen_sequences(self.buf, self.pos, word, gone, numbers) {
+            None => false,
+            Some(behind) => {
+                self.pos = behind;
+                true
+            }
+        }
+    }
+
     /// Fills `numbers` with the next numbers of `width` bits each, the most significant bit first.
     /// Fails with `Truncated` and the present place if fewer bits are left than all numbers need.
     #[inline(always)]
@@ -159,6 +218,7 @@ impl<'a> BitReader<'a> {
     }
 
     /// Skips the next `count` bits. Fails with `Truncated` and the present place if fewer are left.
+    #[inline(always)]
     pub fn skip_bits(&mut self, count: u64) -> Result<(), Fault>
         ensures { MovesBy count self.old self.new result }
     {
@@ -173,6 +233,7 @@ impl<'a> BitReader<'a> {
 
     /// Moves past the next `count` 1 bits. Returns how many bits it moved past. Fails with
     /// `Truncated` and the present place if fewer 1 bits are left.
+    #[inline(always)]
     pub fn skip_ones(&mut self, count: u64) -> Result<u64, Fault>
         ensures place { MatchResult result
             (λ gone. behind_ones count (drop self.old.pos self.old.list) ≡ Some gone)

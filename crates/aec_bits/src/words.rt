@@ -16,7 +16,7 @@ ghost use Rattle.aec_bits.specs.Windows.{bits_from};
 
 /// Returns the number that `width` bits of a word spell from place `at` on.
 #[inline(always)]
-fn part_of(word: u64, at: u32, width: u32) -> u64
+pub(crate) fn part_of(word: u64, at: u32, width: u32) -> u64
     requires { IsPartOfWord at width }
     ensures { BeginsWithNumber width result (drop at (word_bits word))
         (drop (at + width) (word_bits word)) }

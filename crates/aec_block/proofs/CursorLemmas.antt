@@ -1,5 +1,5 @@
 -- What a reader of bits returns, stated as what is taken from the bits that are left.
-use Rattle.std.proofs.Common.{◌≡◌, ℕ, zero, suc, ◌+◌, ◌*◌, ◌^◌, ◌<◌, ◌≤◌, Bool, true, false, Result, Ok, Err, List, [], ◌∷◌, ◌++◌, length, drop, refl, ap, ◌∙◌, inl, inr, arith}
+use Rattle.std.proofs.Common.{◌≡◌, ℕ, zero, suc, ◌+◌, ◌-◌, ◌*◌, ◌^◌, ◌<◌, ◌≤◌, Bool, true, false, Result, Ok, Err, List, [], ◌∷◌, ◌++◌, length, take, drop, replicate, refl, sym, ap, ◌∙◌, inl, inr, arith}
 use Rattle.std.specs.Prelude.{IfOk, IfErr, OnOk, MatchResult}
 use Rattle.std.specs.List.{flat_map}
 use Rattle.std.proofs.lemmas.Bool.{cases_lt, le-leb, lt-leb}
@@ -7,9 +7,9 @@ use Rattle.std.proofs.lemmas.List.{length-append, length-drop}
 use Rattle.aec_params.specs.declared.fault.Fault.{Fault}
 use Rattle.aec_params.specs.declared.fault.Fault.TheVariants.{Truncated}
 use Rattle.aec_params.specs.Codewords.{fs, binary}
-use Rattle.aec_bits.specs.BitReader.{Cursor, has_one, AreBelow}
-use Rattle.aec_block.specs.ReadAt.{nothing, taken, fs_at, binary_at, values_at}
-use Rattle.aec_block.specs.Gathering.{bits_at, as_taken, as_taken_by}
+use Rattle.aec_bits.specs.BitReader.{Cursor, has_one, AreBelow, IsBehindWord}
+use Rattle.aec_block.specs.ReadAt.{nothing, taken, map_taken, fs_at, binary_at, values_at}
+use Rattle.aec_block.specs.Gathering.{bits_at, as_taken, as_taken_by, small_values, IsSeen, PutsHighs}
 use Rattle.aec_block.proofs.CodewordLemmas.{fs_at-fs, binary_at-binary, binary_reader, fs_reader, values_at-reads, all_numbers}
 
 pub binary_at-missing : (w : ℕ) (bits : List Bool) → length bits < w → binary_at w bits ≡ nothing
@@ -74,3 +74,31 @@ pub gone_over : (old new : ℕ) (list front : List Bool) → old ≤ length list
     → new ≡ old + length front
 gone_over old new list front from to stands =
     omega (arith, ap (length {A = Bool}) stands, length-drop old list, length-append front (drop new list), length-drop new list)
+
+-- ---- from a word that was seen
+
+-- the bits of a word that were read, and those that are read next
+pub seen_further : (old new : Cursor) (gone width total word : ℕ) → IsBehindWord old gone word → new.list ≡ old.list → new.pos ≡ old.pos + width
+    → total ≡ gone + width → 0 < total → total < 64 → IsSeen new total word
+seen_further old new gone width total word behind same moved sum some inside =
+    let from : old.pos - gone ≡ new.pos - total = omega (arith, behind.there, moved, sum) in
+    record {
+      some = some;
+      inside = inside;
+      word = record {
+        there = omega (arith, behind.there, moved, sum);
+        bits = behind.bits ∙ (ap (λ n. take 64 (drop n old.list ++ replicate 64 false)) from
+            ∙ ap (λ l. take 64 (drop (new.pos - total) l ++ replicate 64 false)) (sym same));
+      };
+    }
+
+-- a reader that hasn't moved reads the same high parts
+pub highs_of_same : {E : Type 0} (limit : ℕ) (old mid new : Cursor) (before between highs : List ℕ) (result : Result Bool E) → mid ≡ old
+    → length between ≡ length before → PutsHighs limit mid between result new highs → PutsHighs limit old before result new highs
+highs_of_same limit old mid new before between highs result is count puts = record {
+  taken = ap (λ n. map_taken (small_values limit) (values_at fs_at n (bits_at old))) (sym count)
+      ∙ (ap (λ c. map_taken (small_values limit) (values_at fs_at (length between) (bits_at c))) (sym is) ∙ puts.taken);
+  len = puts.len ∙ count;
+  list = puts.list ∙ ap (λ (c : Cursor). c.list) is;
+  within = puts.within;
+}

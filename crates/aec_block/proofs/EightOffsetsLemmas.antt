@@ -1,11 +1,14 @@
 -- Eight offsets mapped in lanes.
-use Rattle.std.proofs.Common.{◌≡◌, ℕ, zero, suc, ◌+◌, ◌-◌, ◌*◌, ◌%◌, ◌^◌, ◌<◌, ◌≤◌, refl, ap, ap₂, ◌∙◌, sym, subst, arith, min, max, List, [], ◌∷◌, length, map, take, get_or, Bool, false, nat_lt, inl, inr}
+use Rattle.std.proofs.Common.{◌≡◌, ℕ, zero, suc, ◌+◌, ◌-◌, ◌*◌, ◌%◌, ◌^◌, ◌<◌, ◌≤◌, refl, ap, ap₂, ◌∙◌, sym, subst, arith, append_assoc, length-drop, min, max, List, [], ◌∷◌, ◌++◌, length, map, take, drop, get_or, Bool, false, nat_lt, inl, inr}
 use Rattle.std.specs.Simd.Lanes.{zip2, sel_l}
 use Rattle.std.specs.Simd.Lanes.{top as lane_top}
 use Rattle.std.specs.Prelude.{replicate, ◌⊎◌}
 use Rattle.std.specs.List.{AllByRecursion}
 use Rattle.std.proofs.lemmas.Bool.{cases_lt}
-use Rattle.std.proofs.lemmas.List.{ext_get_or, get_or-take, get_or-replicate}
+use Rattle.std.proofs.lemmas.Slice.{take-put_mid, drop-put_mid}
+use borrow.Rule.Slice.PartMut.{put_mid, same_len_mid}
+use Rattle.aec_block.proofs.ListMappingLemmas.{IsMappedSoFar}
+use Rattle.std.proofs.lemmas.List.{take-append-drop, drop-drop, length-take-le, ext_get_or, get_or-take, get_or-replicate}
 use Rattle.std.proofs.lemmas.Bool.Decides.{nat_tests}
 use Rattle.std.proofs.lemmas.Simd.{length-zip2, get_or-zip2, get_or-sel_l, tops_compared}
 use Rattle.aec_block.specs.Offsets.{offset_room, mapped_offset, mapped_offsets}
@@ -217,6 +220,65 @@ eight_mapped top p xs before above least distances far below rooms more reached 
         ∙ ap₂ (λ a b. (a + (2 ^ 32 - b)) % 2 ^ 32) (is_twice i within ∙ ap₂ (λ a b. (a + b) % 2 ^ 32) distance reach) one
         ∙ lane-value top q x small q_within (all-at top i xs all (omega (arith, long)))
         ∙ sym (get_or-mapped_offsets top p i xs (omega (arith, long)))
+
+-- ---- a list mapped by eights
+
+mapped_offsets-append : (top p : ℕ) (xs ys : List ℕ)
+    → mapped_offsets top p (xs ++ ys) ≡ mapped_offsets top p xs ++ mapped_offsets top (get_or (p ∷ xs) (length xs) 0) ys
+mapped_offsets-append top p [] ys = refl
+mapped_offsets-append top p (x ∷ xs) ys = ap (λ vs. mapped_offset top p x ∷ vs) (mapped_offsets-append top x xs ys)
+
+all-take : (top n : ℕ) (xs : List ℕ) → AllByRecursion (λ x. x ≤ top) xs → AllByRecursion (λ x. x ≤ top) (take n xs)
+all-take top zero xs all = tt
+all-take top (suc n) [] all = tt
+all-take top (suc n) (x ∷ xs) all = (all.0, all-take top n xs all.1)
+
+all-drop : (top n : ℕ) (xs : List ℕ) → AllByRecursion (λ x. x ≤ top) xs → AllByRecursion (λ x. x ≤ top) (drop n xs)
+all-drop top zero xs all = all
+all-drop top (suc n) [] all = tt
+all-drop top (suc n) (x ∷ xs) all = all-drop top n xs all.1
+
+-- eight more offsets are mapped
+pub mapped-eight_more : (top previous p at taken next q : ℕ) (old mid part : List ℕ) → IsMappedSoFar top previous p at old mid → taken ≡ 8 → next ≡ at + 8
+    → next ≤ length old → part ≡ mapped_offsets top p (take taken (drop at mid)) → q ≡ get_or (take taken (drop at mid)) 7 0
+    → IsMappedSoFar top previous q next old (put_mid at taken mid part)
+mapped-eight_more top previous p at taken next q old mid part so_far is_eight after within mapped last = record {
+  behind = drop-put_mid at taken mid part next (omega (arith, is_eight, after)) inside part_len ∙ rest_of mid ∙ ap (drop 8) so_far.behind ∙ sym (rest_of old);
+  whole =
+      ap (λ xs. xs ++ mapped_offsets top q (drop next old)) (take-put_mid at taken mid part next (omega (arith, part_len, is_eight, after)) inside)
+      ∙ append_assoc (take at mid) part (mapped_offsets top q (drop next old)) ∙ ap (λ xs. take at mid ++ xs) joined ∙ so_far.whole;
+  within = subst (λ n. n ≤ top) (sym (last ∙ ap (λ xs. get_or xs 7 0) group))
+      (all-at top 7 eight (all-take top 8 (drop at old) so_far.rest) (omega (arith, len)));
+  rest = subst (AllByRecursion (λ x. x ≤ top)) (sym (rest_of old)) (all-drop top 8 (drop at old) so_far.rest);
+  len = same_len_mid at taken mid part (part_len ∙ sym (ap length group ∙ len ∙ sym is_eight)) ∙ so_far.len;
+}
+  where
+    eight : List ℕ
+    eight = take 8 (drop at old)
+
+    group : take taken (drop at mid) ≡ eight
+    group = ap (λ k. take k (drop at mid)) is_eight ∙ ap (take 8) so_far.behind
+
+    len : length eight ≡ 8
+    len = length-take-le 8 (drop at old) (omega (arith, length-drop at old, after, within))
+
+    part_len : length part ≡ taken
+    part_len = ap length (mapped ∙ ap (mapped_offsets top p) group) ∙ length-mapped_offsets top p eight ∙ len ∙ sym is_eight
+
+    inside : at ≤ length mid
+    inside = omega (arith, so_far.len, after, within)
+
+    rest_of : (xs : List ℕ) → drop next xs ≡ drop 8 (drop at xs)
+    rest_of xs = ap (λ n. drop n xs) after ∙ sym (drop-drop 8 at xs)
+
+    predicted : q ≡ get_or (p ∷ eight) (length eight) 0
+    predicted = last ∙ ap (λ xs. get_or xs 7 0) group ∙ ap (λ n. get_or (p ∷ eight) n 0) (sym len)
+
+    joined : part ++ mapped_offsets top q (drop next old) ≡ mapped_offsets top p (drop at old)
+    joined =
+        ap₂ (λ xs r. xs ++ mapped_offsets top r (drop next old)) (mapped ∙ ap (mapped_offsets top p) group) predicted
+        ∙ sym (mapped_offsets-append top p eight (drop next old)) ∙ ap (λ xs. mapped_offsets top p (eight ++ xs)) (rest_of old)
+        ∙ ap (mapped_offsets top p) (take-append-drop 8 (drop at old))
 
 pub ruleset shifted = (shifted_list)
 

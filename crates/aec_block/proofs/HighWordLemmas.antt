@@ -176,12 +176,11 @@ is_high_word k w front values word next is few begun later =
 
 -- ---- groups of values that are gathered
 
--- the codewords from value 8 * i on: those of eight values, and those of the rest
-pub high_parts-group : (k i : ℕ) (values : List ℕ) → i < length values / 8
-    → high_parts k (drop (8 * i) values) ≡ high_parts k (take (8 * i + 8 - 8 * i) (drop (8 * i) values)) ++ high_parts k (drop (8 * (i + 1)) values)
-high_parts-group k i values before =
-    let eight : 8 * i + 8 - 8 * i ≡ 8 = omega arith in
-    let here = drop (8 * i) values in
-    let behind : drop 8 here ≡ drop (8 * (i + 1)) values = drop-drop 8 (8 * i) values ∙ ap (λ m. drop m values) (omega arith) in
-    rw eight (ap (high_parts k) (sym (take-append-drop 8 here)) ∙ high_parts-append k (take 8 here) (drop 8 here)
-    ∙ ap (λ (rest : List ℕ). high_parts k (take 8 here) ++ high_parts k rest) behind)
+-- the codewords from a value on: those of a group of values, and those of the rest
+pub high_parts-group : (k count taken at next : ℕ) (values : List ℕ) → taken ≡ count → next ≡ at + count
+    → high_parts k (drop at values) ≡ high_parts k (take taken (drop at values)) ++ high_parts k (drop next values)
+high_parts-group k count taken at next values same after =
+    let here = drop at values in
+    let behind : drop count here ≡ drop next values = drop-drop count at values ∙ ap (λ m. drop m values) (omega arith) in
+    rw same (ap (high_parts k) (sym (take-append-drop count here)) ∙ high_parts-append k (take count here) (drop count here)
+    ∙ ap (λ (rest : List ℕ). high_parts k (take count here) ++ high_parts k rest) behind)

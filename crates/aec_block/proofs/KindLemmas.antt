@@ -1,5 +1,5 @@
 -- Identifiers: what was spelled is read back, and what is read was spelled.
-use Rattle.std.proofs.Common.{◌≡◌, ℕ, zero, suc, ◌+◌, ◌-◌, ◌*◌, ◌/◌, ◌%◌, ◌^◌, ◌<◌, ◌≤◌, ◌==◌, Bool, true, false, List, ◌∷◌, ◌++◌, refl, sym, ap, ◌∙◌, append_assoc, inl, inr, arith}
+use Rattle.std.proofs.Common.{◌≡◌, ℕ, zero, suc, ◌+◌, ◌-◌, ◌*◌, ◌/◌, ◌%◌, ◌^◌, ◌<◌, ◌≤◌, ◌==◌, Bool, true, false, List, [], ◌∷◌, ◌++◌, refl, sym, ap, ◌∙◌, append_assoc, inl, inr, arith}
 use Rattle.std.proofs.lemmas.Nat.{pow_pos, div-mul-add}
 use Rattle.std.proofs.Math.Nat.{pow-suc, div-eq_of_lt}
 use Rattle.std.proofs.lemmas.Bool.{cases_eq, cases_lt, eq-eqb, ne_eqb}
@@ -125,3 +125,18 @@ one_in_number (suc w) v rest some fits =
     by_bit : (b : Bool) → has_one (binary w v ++ rest) ≡ true → has_one (b ∷ (binary w v ++ rest)) ≡ true
     by_bit true later = refl
     by_bit false later = later
+
+has_one-after : (xs ys : List Bool) → has_one ys ≡ true → has_one (xs ++ ys) ≡ true
+has_one-after [] ys one = one
+has_one-after (true ∷ xs) ys one = refl
+has_one-after (false ∷ xs) ys one = has_one-after xs ys one
+
+-- bits that begin with a number above 0
+pub one_in_first : (w v : ℕ) (bits rest : List Bool) → binary_at w bits ≡ taken v rest → 0 < v → has_one bits ≡ true
+one_in_first w v bits rest read some =
+    let spelled = binary_at-spelled w bits v rest read in ap has_one spelled.1 ∙ one_in_number w v rest some spelled.0
+
+-- bits that have a 1 after a number
+pub one_after_first : (w v : ℕ) (bits rest : List Bool) → binary_at w bits ≡ taken v rest → has_one rest ≡ true → has_one bits ≡ true
+one_after_first w v bits rest read one =
+    let spelled = binary_at-spelled w bits v rest read in ap has_one spelled.1 ∙ has_one-after (binary w v) rest one

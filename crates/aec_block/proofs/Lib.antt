@@ -28,6 +28,7 @@ pub mod GatheringLemmas
 pub mod FillingLemmas
 pub mod ReadCdsLemmas
 pub mod SingleLemmas
+pub mod SeenLemmas
 pub mod NoSingleLemmas
 pub mod ReadRunLemmas
 pub mod StandingLemmas

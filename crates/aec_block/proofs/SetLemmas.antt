@@ -1,6 +1,6 @@
 -- Coded data sets: what was spelled is read back, and what is read was spelled; so none is a prefix
 -- of another.
-use Rattle.std.proofs.Common.{◌≡◌, ℕ, ◌/◌, ◌^◌, ◌<◌, Bool, true, false, Option, Some, None, List, ◌++◌, refl, sym, ap, ◌∙◌, append_assoc, inl, inr, if◌then◌else◌, nat_le, lit<}
+use Rattle.std.proofs.Common.{◌≡◌, ℕ, ◌/◌, ◌^◌, ◌<◌, ◌≤◌, Bool, true, false, Option, Some, None, List, ◌++◌, refl, sym, ap, ◌∙◌, append_assoc, inl, inr, if◌then◌else◌, nat_le, lit<, lit≤}
 use Rattle.aec_params.specs.declared.settings.Settings.{Settings}
 use Rattle.aec_params.specs.Params.{IsAllowed, id_len}
 use Rattle.aec_params.specs.Codewords.{binary}
@@ -26,6 +26,16 @@ id_len-positive s =
     positive_choice s.restricted (if nat_le s.bits 2 then 1 else 2) (if nat_le s.bits 8 then 3 else (if nat_le s.bits 16 then 4 else 5))
     (positive_choice (nat_le s.bits 2) 1 2 (lit< tt) (lit< tt))
     (positive_choice (nat_le s.bits 8) 3 (if nat_le s.bits 16 then 4 else 5) (lit< tt) (positive_choice (nat_le s.bits 16) 4 5 (lit< tt) (lit< tt)))
+
+few_choice : (b : Bool) (m n most : ℕ) → m ≤ most → n ≤ most → (if b then m else n) ≤ most
+few_choice true m n most p q = p
+few_choice false m n most p q = q
+
+pub id_len-most : (s : Settings) → id_len s ≤ 5
+id_len-most s =
+    few_choice s.restricted (if nat_le s.bits 2 then 1 else 2) (if nat_le s.bits 8 then 3 else (if nat_le s.bits 16 then 4 else 5)) 5
+    (few_choice (nat_le s.bits 2) 1 2 5 (lit≤ tt) (lit≤ tt))
+    (few_choice (nat_le s.bits 8) 3 (if nat_le s.bits 16 then 4 else 5) 5 (lit≤ tt) (few_choice (nat_le s.bits 16) 4 5 5 (lit≤ tt) (lit≤ tt)))
 
 -- ---- the kind of a body
 

@@ -11,7 +11,7 @@ use Rattle.aec_params.specs.declared.fault.Fault.{Fault}
 use Rattle.aec_params.specs.Params.{IsAllowed, id_len}
 use Rattle.aec_params.specs.Blocks.{Block}
 use Rattle.aec_params.specs.Places.{block_of_values, block_of_members}
-use Rattle.aec_params.specs.CodedDataSets.{Body, uncompressed_values, value_pairs, split_values, zero_blocks, written_count, judged_in, has_small_values}
+use Rattle.aec_params.specs.CodedDataSets.{CodedDataSet, Body, uncompressed_values, value_pairs, split_values, zero_blocks, written_count, judged_in, has_small_values}
 use Rattle.aec_bits.specs.BitReader.{Cursor}
 use Rattle.aec_block.specs.declared.cds.Cds.{Cds}
 use Rattle.aec_block.specs.declared.cds.Cds.TheVariants.{Single, Zeros}
@@ -30,16 +30,23 @@ map_taken-map_taken : {X Y Z : Type 0} (g : X → Y) (f : Y → Z) (t : Taken X)
 map_taken-map_taken g f nothing = refl
 map_taken-map_taken g f (taken x rest) = refl
 
--- what the body after the identifier and the reference sample decodes to, the coded data set does
+-- what the body after the identifier and the reference sample is told to be, the coded data set is
+pub set_told : {Y : Type 0} (told : CodedDataSet → Y) (s : Settings) (kind : Kind) (reference : Option ℕ) (start behind after : List Bool)
+    (answer : Taken Y) → kind_at (id_len s) start ≡ taken kind behind → reference_at s (is_some reference) behind ≡ taken reference after
+    → map_taken (λ body. told (set_of reference body)) (body_at s (is_some reference) kind after) ≡ answer
+    → map_taken told (cds_at s (is_some reference) start) ≡ answer
+set_told told s kind reference start behind after answer kind_read reference_read body_read =
+    let due : Bool = is_some reference in
+    ap (λ t. map_taken told (then_at t (set_after_kind s due))) kind_read
+    ∙ (ap (λ t. map_taken told (then_at t (set_after_reference s due kind))) reference_read
+    ∙ (map_taken-map_taken (set_of reference) told (body_at s due kind after) ∙ body_read))
+
+-- what that body decodes to, the coded data set does
 pub set_read : (s : Settings) (kind : Kind) (reference : Option ℕ) (start behind after : List Bool) (answer : Taken (Option Cds))
     → kind_at (id_len s) start ≡ taken kind behind → reference_at s (is_some reference) behind ≡ taken reference after
     → map_taken (checked_body s reference) (body_at s (is_some reference) kind after) ≡ answer
     → map_taken (checked s) (cds_at s (is_some reference) start) ≡ answer
-set_read s kind reference start behind after answer kind_read reference_read body_read =
-    let due : Bool = is_some reference in
-    ap (λ t. map_taken (checked s) (then_at t (set_after_kind s due))) kind_read
-    ∙ (ap (λ t. map_taken (checked s) (then_at t (set_after_reference s due kind))) reference_read
-    ∙ (map_taken-map_taken (set_of reference) (checked s) (body_at s due kind after) ∙ body_read))
+set_read s kind reference start behind after answer = set_told (checked s) s kind reference start behind after answer
 
 -- ---- each body
 

@@ -1,8 +1,8 @@
 -- Skipped values: only their length counts if no value can be too large, and only the high parts of
 -- split values are checked.
-use Rattle.std.proofs.Common.{◌≡◌, ℕ, zero, suc, ◌+◌, ◌-◌, ◌*◌, ◌/◌, ◌^◌, ◌<◌, ◌≤◌, Bool, true, false, Option, Some, None, Result, Ok, Err, List, [], ◌∷◌, length, take, drop, refl, sym, ap, ◌∙◌, inl, inr, arith}
+use Rattle.std.proofs.Common.{◌≡◌, ℕ, zero, suc, ◌+◌, ◌-◌, ◌*◌, ◌/◌, ◌^◌, ◌<◌, ◌≤◌, Bool, true, false, Option, Some, None, Result, Ok, Err, List, [], ◌∷◌, length, take, drop, refl, sym, ap, ◌∙◌, subst, inl, inr, arith}
 use Rattle.std.specs.Option.{is_some}
-use Rattle.std.specs.Prelude.{OnOk, MatchResult}
+use Rattle.std.specs.Prelude.{OnOk, IfOk, MatchResult}
 use Rattle.std.proofs.lemmas.Bool.{cases_Bool, le-leb, lt-ltb}
 use Rattle.std.proofs.lemmas.List.{length-append, length-drop, drop-drop}
 use Rattle.std.specs.List.{flat_map}
@@ -10,6 +10,7 @@ use Rattle.std.proofs.lemmas.Nat.{pow_pos}
 use Rattle.aec_params.specs.declared.settings.Settings.{Settings}
 use Rattle.aec_params.specs.declared.fault.Fault.{Fault}
 use Rattle.aec_params.specs.declared.fault.Fault.TheVariants.{Truncated}
+use Rattle.aec_params.specs.Params.{id_len}
 use Rattle.aec_params.specs.Codewords.{fs, binary, bits_number}
 use Rattle.aec_params.specs.CodedDataSets.{written_count}
 use Rattle.aec_bits.specs.BitReader.{Cursor, AreBelow, behind_ones}
@@ -19,12 +20,13 @@ use Rattle.aec_block.specs.declared.cds.RunLen.{RunLen}
 use Rattle.aec_block.specs.declared.cds.RunLen.TheVariants.{Blocks}
 use Rattle.aec_block.specs.declared.reading.Kind.{Kind}
 use Rattle.aec_block.specs.declared.reading.Kind.TheVariants.{NoCompression, Split}
-use Rattle.aec_block.specs.ReadAt.{Taken, nothing, taken, map_taken, fs_at, binary_at, values_at, joined_values, split_at, body_at}
+use Rattle.aec_block.specs.ReadAt.{Taken, nothing, taken, map_taken, fs_at, binary_at, values_at, joined_values, split_at, kind_at, reference_at, body_at, cds_at}
 use Rattle.aec_block.specs.Gathering.{bits_at, as_taken, no_values, when, all_below}
-use Rattle.aec_block.specs.SkipCds.{judged_body_len}
+use Rattle.aec_block.specs.SkipCds.{judged_len, judged_body_len}
 use Rattle.aec_block.proofs.CodewordLemmas.{cases_taken, then_at-passed, map_taken-mapped, binary_reader, fs_reader, values_at-spelled}
 use Rattle.aec_block.proofs.CursorLemmas.{values_at-missing}
 use Rattle.aec_block.proofs.StandingLemmas.{unmapped}
+use Rattle.aec_block.proofs.SingleLemmas.{set_told}
 use Rattle.aec_block.proofs.JoiningLemmas.{below-from_test, test-from_below, highs_below, joined_below, high_fails}
 
 -- ---- numbers that aren't checked
@@ -174,3 +176,25 @@ pub split_body : (s : Settings) (reference : Option ℕ) (is_reference : Bool) (
 split_body s reference is_reference kind k start rest fit answer due is_kind is_answer read =
     let m = map_taken-mapped (all_below (2 ^ s.bits)) (split_at k (written_count s is_reference) start) fit rest read in
     rw (← due, is_kind, is_answer, m.before) (ap (λ b. taken (when b (Blocks 1)) rest) m.after)
+
+-- a coded data set is told to be one block if its body is
+pub set_skipped : (s : Settings) (kind : Kind) (reference : Option ℕ) (is_reference : Bool) (start behind after rest : List Bool)
+    → is_some reference ≡ is_reference → kind_at (id_len s) start ≡ taken kind behind → reference_at s is_reference behind ≡ taken reference after
+    → map_taken (judged_body_len s reference) (body_at s (is_some reference) kind after) ≡ taken (Some (Blocks 1)) rest
+    → map_taken (judged_len s) (cds_at s is_reference start) ≡ taken (Some (Blocks 1)) rest
+set_skipped s kind reference is_reference start behind after rest due kind_read reference_read body_read =
+    subst (λ b. map_taken (judged_len s) (cds_at s b start) ≡ taken (Some (Blocks 1)) rest) due
+    (set_told (judged_len s) s kind reference start behind after (taken (Some (Blocks 1)) rest) kind_read
+    (subst (λ b. reference_at s b behind ≡ taken reference after) (sym due) reference_read) body_read)
+
+-- the values of a splitting option, if all of them are small
+pub small_split : (s : Settings) (kind : Kind) (reference : Option ℕ) (is_reference : Bool) (k : ℕ) (start behind after rest : List Bool)
+    (result : Result Bool Fault) → is_some reference ≡ is_reference → kind ≡ Split k → kind_at (id_len s) start ≡ taken kind behind
+    → reference_at s is_reference behind ≡ taken reference after
+    → map_taken (all_below (2 ^ s.bits)) (split_at k (written_count s is_reference) after) ≡ as_taken result rest
+    → IfOk result (λ fit. fit ≡ true → map_taken (judged_len s) (cds_at s is_reference start) ≡ taken (Some (Blocks 1)) rest)
+small_split s kind reference is_reference k start behind after rest (Ok fit) due is_kind kind_read reference_read read = λ fits.
+    set_skipped s kind reference is_reference start behind after rest due kind_read reference_read
+    (split_body s reference is_reference kind k after rest fit (Some (Blocks 1)) (sym due) is_kind
+    (sym (ap (λ b. when b (Blocks 1)) fits)) read)
+small_split s kind reference is_reference k start behind after rest (Err e) due is_kind kind_read reference_read read = tt

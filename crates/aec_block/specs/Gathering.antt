@@ -1,9 +1,9 @@
 -- What the private functions of reading return: what was taken, instead of a result, and values if
 -- they are small enough. Of the public functions only `is_single_next`, `read_run`, `read_single`
 -- and `read_single_first` cite this file, of which they need only `bits_at`.
-use Rattle.std.specs.Prelude.{◌≡◌, ◌≤◌, ◌^◌, ℕ, Bool, nat_lt, true, false, if◌then◌else◌, Option, Some, None, Result, Ok, Err, List, [], ◌∷◌, length, drop}
+use Rattle.std.specs.Prelude.{◌≡◌, ◌≤◌, ◌<◌, ◌^◌, ℕ, Bool, nat_lt, true, false, if◌then◌else◌, Option, Some, None, Result, Ok, Err, List, [], ◌∷◌, length, drop}
 use Rattle.std.specs.List.{list_all}
-use Rattle.aec_bits.specs.BitReader.{Cursor}
+use Rattle.aec_bits.specs.BitReader.{Cursor, IsBehindWord}
 use Rattle.aec_params.specs.declared.settings.Settings.{Settings}
 use Rattle.aec_params.specs.Blocks.{Block}
 use Rattle.aec_params.specs.Places.{block_of_values, block_of_members}
@@ -105,3 +105,9 @@ pub record PutsSplit {E : Type 0} (s : Settings) (k : ℕ) (old : Cursor) (befor
   pub len : length values ≡ length before
   pub list : new.list ≡ old.list
   pub within : new.pos ≤ length new.list
+
+-- the first n bits of the word w, not none and not all, are those before a cursor
+pub record IsSeen (c : Cursor) (n w : ℕ) : Type 0 where
+  pub some : 0 < n
+  pub inside : n < 64
+  pub word : IsBehindWord c n w

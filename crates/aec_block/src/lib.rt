@@ -23,5 +23,5 @@ pub use reading::runs::read_run;
 pub use reading::single_sets::{is_single_next, read_single, read_single_first};
 pub use reading::{read_cds, read_into};
 pub use shortest::write_shortest_of;
-pub use skipping::skip_cds;
+pub use skipping::{skip_cds, skip_single};
 pub use writing::{write_block, write_run};

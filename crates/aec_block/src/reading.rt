@@ -7,12 +7,13 @@ pub(crate) mod runs;
 pub(crate) mod single_sets;
 pub(crate) mod values;
 
-ghost use Rattle.std.specs.Prelude.{◌≡◌, ◌+◌, ◌≤◌, ◌<◌, ◌^◌, true, length, IfOk, IfErr, OnErr};
+ghost use Rattle.std.specs.Prelude.{◌≡◌, ◌+◌, ◌≤◌, ◌<◌, ◌^◌, ℕ, true, length, IfOk, IfErr, OnOk, OnErr};
 ghost use Rattle.std.specs.Option.{is_some};
 ghost use Rattle.aec_params.specs.Params.{IsAllowed, id_len};
 ghost use Rattle.aec_params.specs.CodedDataSets.{CodedDataSet};
-ghost use Rattle.aec_bits.specs.BitReader.{has_one};
+ghost use Rattle.aec_bits.specs.BitReader.{has_one, IsBehindWord};
 ghost use Rattle.aec_block.specs.declared.cds.Found.TheVariants.{Single};
+ghost use Rattle.aec_block.specs.declared.reading.Kind.TheVariants.{Split};
 ghost use Rattle.aec_block.specs.ReadAt.{map_taken, binary_at, kind_at, reference_at, body_at, cds_at};
 ghost use Rattle.aec_block.specs.Gathering.{bits_at, as_taken, as_taken_by, when, Takes};
 ghost use Rattle.aec_block.specs.ReadCds.{run_len_of, checked, checked_body, as_cds, as_read, HasShortSplit, is_single, IsReadAs};
@@ -21,7 +22,7 @@ ghost use Rattle.aec_params.specs.Faults.{IsNotRead};
 use crate::block::Block;
 use crate::cds::{Cds, Found, RunLen};
 use crate::reading::blocks::{fill_pairs, fill_split, fill_uncompressed};
-use crate::reading::codewords::{read_number, read_sequence};
+use crate::reading::codewords::{read_number, read_number_from, read_sequence};
 use aec_bits::BitReader;
 use aec_params::{Fault, Params};
 use std::alloc::Global;
@@ -39,18 +40,35 @@ pub(crate) enum Kind {
     NoCompression,
 }
 
-/// Reads the kind that the next bits identify.
+/// A word that was looked at, and how many of its bits were read since: none if `gone` is 0.
+#[derive(Clone, Copy)]
+pub(crate) struct Seen {
+    pub(crate) word: u64,
+    pub(crate) gone: u32,
+}
+
+/// No word.
+pub(crate) const UNSEEN: Seen = Seen { word: 0, gone: 0 };
+
+/// Reads the kind that the next bits identify; they begin the word `word`.
 #[inline(always)]
-pub(crate) fn read_kind(params: &Params, reader: &mut BitReader) -> Result<Kind, Fault>
+pub(crate) fn read_kind_from(
+    params: &Params,
+    reader: &mut BitReader,
+    word: u64,
+) -> Result<Kind, Fault>
     requires within { reader.old.pos ≤ length reader.old.list }
+    requires word { IsBehindWord reader.old 0 word }
     ensures taken { Takes (kind_at (id_len params.now)) reader.old (as_taken result) reader.new }
     ensures short { IfOk result HasShortSplit }
     ensures one { IfOk result
         (λ kind. is_single kind ≡ true → has_one (bits_at reader.old) ≡ true) }
+    ensures place { IfOk result (λ kind. (k : ℕ) → kind ≡ Split k
+        → reader.new.pos ≡ reader.old.pos + id_len params.now) }
     ensures allowed { IsAllowed params.now }
 {
     let len = params.id_len();
-    let number = read_number(reader, len)?;
+    let number = read_number_from(reader, word, 0, len)?;
     if number > 0 {
         return Ok(if number == (1 << len) - 1 {
             Kind::NoCompression
@@ -66,12 +84,27 @@ pub(crate) fn read_kind(params: &Params, reader: &mut BitReader) -> Result<Kind,
     })
 }
 
+/// Reads the kind that the next bits identify.
+#[inline(always)]
+pub(crate) fn read_kind(params: &Params, reader: &mut BitReader) -> Result<Kind, Fault>
+    requires within { reader.old.pos ≤ length reader.old.list }
+    ensures taken { Takes (kind_at (id_len params.now)) reader.old (as_taken result) reader.new }
+    ensures short { IfOk result HasShortSplit }
+    ensures one { IfOk result
+        (λ kind. is_single kind ≡ true → has_one (bits_at reader.old) ≡ true) }
+    ensures allowed { IsAllowed params.now }
+{
+    let word = reader.next_word();
+    read_kind_from(params, reader, word)
+}
+
 /// Reads the reference sample's pattern.
 #[inline(always)]
 pub(crate) fn read_pattern(params: &Params, reader: &mut BitReader) -> Result<u32, Fault>
     requires within { reader.old.pos ≤ length reader.old.list }
     ensures taken { Takes (binary_at params.now.bits) reader.old (as_taken result) reader.new }
     ensures below { IfOk result (λ pattern. pattern < 2 ^ params.now.bits) }
+    ensures place { OnOk result (reader.new.pos ≡ reader.old.pos + params.now.bits) }
 {
     let pattern = read_number(reader, params.bits())?;
     Ok(pattern as u32)

@@ -2,15 +2,16 @@
 
 mod skipped_values;
 
-ghost use Rattle.std.specs.Prelude.{◌≡◌, ◌≤◌, length, option_map, IfOk, IfErr, OnErr};
+ghost use Rattle.std.specs.Prelude.{◌≡◌, ◌≤◌, true, false, Some, length, option_map, IfOk, IfErr, OnErr};
 ghost use Rattle.std.specs.Option.{is_some};
 ghost use Rattle.aec_params.specs.Params.{IsAllowed};
 ghost use Rattle.aec_params.specs.Blocks.{Block as Values};
 ghost use Rattle.aec_params.specs.CodedDataSets.{CodedDataSet};
 ghost use Rattle.aec_params.specs.Faults.{IsNotRead};
+ghost use Rattle.aec_bits.specs.BitReader.{has_one};
 ghost use Rattle.aec_block.specs.declared.cds.RunLen.TheVariants.{Blocks};
-ghost use Rattle.aec_block.specs.ReadAt.{map_taken, body_at, cds_at};
-ghost use Rattle.aec_block.specs.Gathering.{as_taken, when, Takes};
+ghost use Rattle.aec_block.specs.ReadAt.{taken, map_taken, body_at, cds_at};
+ghost use Rattle.aec_block.specs.Gathering.{bits_at, as_taken, when, Takes};
 ghost use Rattle.aec_block.specs.ReadCds.{as_cds, as_read, HasShortSplit};
 ghost use Rattle.aec_block.specs.SkipCds.{read_len, judged_len, judged_body_len, IsSkippedAs};
 
@@ -106,4 +107,53 @@ pub fn skip_cds(
     };
     reader.seek(start);
     Err(fault)
+}
+
+/// Moves past one coded data set by sample splitting, at a bit up to the width, or without
+/// compression. Returns false or a fault if no such set comes next, or if a value of it is above
+/// the greatest that the width has.
+#[inline(always)]
+fn skip_plain(params: &Params, reader: &mut BitReader, is_ref: bool) -> Result<bool, Fault>
+    requires within { reader.old.pos ≤ length reader.old.list }
+    ensures taken { IfOk result (λ plain. plain ≡ true
+        → map_taken (judged_len params.now) (cds_at params.now is_ref (bits_at reader.old))
+        ≡ taken (Some (Blocks 1)) (bits_at reader.new)) }
+    ensures one { IfOk result (λ plain. plain ≡ true → has_one (bits_at reader.old) ≡ true) }
+    ensures allowed { IsAllowed params.now }
+    ensures list { reader.new.list ≡ reader.old.list }
+    ensures within { reader.new.pos ≤ length reader.new.list }
+{
+    params.known_allowed();
+    let kind = read_kind(params, reader)?;
+    let reference = read_reference(params, reader, is_ref)?;
+    match kind {
+        Kind::NoCompression => {
+            skip_uncompressed(params, reader, is_ref)?;
+            Ok(true)
+        }
+        Kind::Split(k) if k <= params.bits() => skip_split(params, reader, is_ref, k),
+        _ => Ok(false),
+    }
+}
+
+/// Moves past one coded data set by sample splitting or without compression, of a block with a
+/// reference sample or of another. Returns false if no such set begins at the reader's place, or if
+/// a value of it is above the greatest that the width has; the reader then hasn't moved. May
+/// return false at a split above the width. Allocates nothing.
+#[inline(always)]
+pub fn skip_single(params: &Params, reader: &mut BitReader, is_ref: bool) -> bool
+    ensures skipped { result ≡ true → (c : CodedDataSet)
+        × IsSkippedAs params.now is_ref reader.old reader.new c (Blocks 1) }
+    ensures one { result ≡ true → has_one (bits_at reader.old) ≡ true }
+    ensures stays { result ≡ false → reader.new ≡ reader.old }
+    ensures list { reader.new.list ≡ reader.old.list }
+{
+    let start = reader.pos();
+    match skip_plain(params, reader, is_ref) {
+        Ok(true) => true,
+        _ => {
+            reader.seek(start);
+            false
+        }
+    }
 }

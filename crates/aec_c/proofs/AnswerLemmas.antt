@@ -1,9 +1,7 @@
--- The answers of coding, decoding and ranges, from the contracts of the engine's calls, whose
--- settings and limits are equal to the given ones.
-use Rattle.std.proofs.Common.{◌≡◌, ℕ, false, Option, Result, Ok, Err, List, inl, inr, refl, sym, subst}
+-- The answers of coding, decoding and ranges, from the contracts of the engine's calls.
+use Rattle.std.proofs.Common.{ℕ, false, Option, Result, Ok, Err, List, inl, inr, refl, sym, subst}
 use Rattle.aec_params.specs.declared.settings.Settings.{Settings}
 use Rattle.aec_params.specs.declared.fault.Fault.{Fault}
-use Rattle.aec_params.specs.Limits.{Caps}
 use Rattle.aec_params.specs.Params.{IsAllowed}
 use Rattle.aec_engine.specs.Transfers.{input_of}
 use Rattle.aec_engine.specs.Output.{IsEncoded, IsDecoded, IsRanged}
@@ -11,10 +9,6 @@ use Rattle.aec_engine.specs.Buffers.{FillsOne, OrMemory}
 use Rattle.aec_engine.proofs.InMemoryLemmas.{code_of, code_refusal, reading_of, refusal_of}
 use Rattle.aec_engine.proofs.BufferLemmas.{fills_map}
 use Rattle.aec_c.specs.Calls.{most, IsCoding, coded, not_coded, lacks_memory, IsDecoding, decoded, not_decoded, no_memory, IsRanging, ranged, no_room}
-
--- a statement about settings and limits that are equal to s and the greatest limits
-pub at_most : (P : Settings → Caps → Type 0) (s t : Settings) (caps : Caps) → t ≡ s → caps ≡ most → P t caps → P s most
-at_most P s t caps same greatest holds = subst (λ t. P t most) same (subst (λ caps. P t caps) greatest holds)
 
 -- ---- coding
 
@@ -24,12 +18,10 @@ coding s samples answer allowed (inl lacks) = subst (IsCoding s samples) (sym la
 coding s samples (Ok bytes) allowed (inr answered) = coded bytes allowed (code_of s most samples bytes (Ok bytes) refl answered)
 coding s samples (Err fault) allowed (inr answered) = not_coded fault allowed (code_refusal s most samples (Err fault) fault refl answered)
 
-pub coding_into : (s t : Settings) (caps : Caps) (samples before after : List ℕ) (r : Result ℕ Fault) → t ≡ s → caps ≡ most → IsAllowed t
-    → FillsOne (OrMemory (IsEncoded t caps (input_of samples false))) before after r → FillsOne (IsCoding s samples) before after r
-coding_into s t caps samples before after r same greatest allowed one =
-    fills_map (OrMemory (IsEncoded t caps (input_of samples false))) (IsCoding s samples) before after r
-    (λ answer answered. coding s samples answer (subst IsAllowed same allowed)
-    (at_most (λ s caps. OrMemory (IsEncoded s caps (input_of samples false)) answer) s t caps same greatest answered)) one
+pub coding_into : (s : Settings) (samples before after : List ℕ) (r : Result ℕ Fault) → IsAllowed s
+    → FillsOne (OrMemory (IsEncoded s most (input_of samples false))) before after r → FillsOne (IsCoding s samples) before after r
+coding_into s samples before after r allowed =
+    fills_map (OrMemory (IsEncoded s most (input_of samples false))) (IsCoding s samples) before after r (λ answer. coding s samples answer allowed)
 
 -- ---- decoding
 
@@ -39,14 +31,11 @@ decoding s count bytes answer allowed (inl lacks) = subst (IsDecoding s count by
 decoding s count bytes (Ok samples) allowed (inr answered) = decoded samples allowed (reading_of s most count bytes samples (Ok samples) refl answered)
 decoding s count bytes (Err fault) allowed (inr answered) = not_decoded fault allowed (refusal_of s most count bytes (Err fault) fault refl answered)
 
-pub decoding_into : (s t : Settings) (caps : Caps) (count n : Option ℕ) (bytes before after : List ℕ) (r : Result ℕ Fault)
-    → t ≡ s → caps ≡ most → n ≡ count → IsAllowed t
-    → FillsOne (OrMemory (IsDecoded t caps n (input_of bytes false))) before after r → FillsOne (IsDecoding s count bytes) before after r
-decoding_into s t caps count n bytes before after r same greatest counts allowed one =
-    fills_map (OrMemory (IsDecoded t caps n (input_of bytes false))) (IsDecoding s count bytes) before after r
-    (λ answer answered. decoding s count bytes answer (subst IsAllowed same allowed)
-    (subst (λ n. OrMemory (IsDecoded s most n (input_of bytes false)) answer) counts
-    (at_most (λ s caps. OrMemory (IsDecoded s caps n (input_of bytes false)) answer) s t caps same greatest answered))) one
+pub decoding_into : (s : Settings) (count : Option ℕ) (bytes before after : List ℕ) (r : Result ℕ Fault) → IsAllowed s
+    → FillsOne (OrMemory (IsDecoded s most count (input_of bytes false))) before after r → FillsOne (IsDecoding s count bytes) before after r
+decoding_into s count bytes before after r allowed =
+    fills_map (OrMemory (IsDecoded s most count (input_of bytes false))) (IsDecoding s count bytes) before after r
+    (λ answer. decoding s count bytes answer allowed)
 
 -- ---- ranges
 
@@ -55,12 +44,9 @@ ranging : (s : Settings) (count : Option ℕ) (first len : ℕ) (bytes : List �
 ranging s count first len bytes answer allowed (inl lacks) = subst (IsRanging s count first len bytes) (sym lacks) (no_room allowed)
 ranging s count first len bytes answer allowed (inr answered) = ranged answer allowed answered
 
-pub ranging_into : (s t : Settings) (caps : Caps) (count n : Option ℕ) (first len : ℕ) (bytes before after : List ℕ) (r : Result ℕ Fault)
-    → t ≡ s → caps ≡ most → n ≡ count → IsAllowed t
-    → FillsOne (OrMemory (IsRanged t caps n first len (input_of bytes false))) before after r
+pub ranging_into : (s : Settings) (count : Option ℕ) (first len : ℕ) (bytes before after : List ℕ) (r : Result ℕ Fault) → IsAllowed s
+    → FillsOne (OrMemory (IsRanged s most count first len (input_of bytes false))) before after r
     → FillsOne (IsRanging s count first len bytes) before after r
-ranging_into s t caps count n first len bytes before after r same greatest counts allowed one =
-    fills_map (OrMemory (IsRanged t caps n first len (input_of bytes false))) (IsRanging s count first len bytes) before after r
-    (λ answer answered. ranging s count first len bytes answer (subst IsAllowed same allowed)
-    (subst (λ n. OrMemory (IsRanged s most n first len (input_of bytes false)) answer) counts
-    (at_most (λ s caps. OrMemory (IsRanged s caps n first len (input_of bytes false)) answer) s t caps same greatest answered))) one
+ranging_into s count first len bytes before after r allowed =
+    fills_map (OrMemory (IsRanged s most count first len (input_of bytes false))) (IsRanging s count first len bytes) before after r
+    (λ answer. ranging s count first len bytes answer allowed)

@@ -1,5 +1,5 @@
 -- The numbers from which a bound is computed fit 64 bits.
-use Rattle.std.proofs.Common.{◌≡◌, ℕ, ◌+◌, ◌*◌, ◌^◌, ◌<◌, ◌≤◌, leb, ap, sym, ◌∙◌, subst, Fits, w64, arith}
+use Rattle.std.proofs.Common.{◌≡◌, ℕ, ◌+◌, ◌*◌, ◌^◌, ◌<◌, ◌≤◌, leb, Fits, w64, arith}
 use Rattle.std.proofs.Math.Facts.{Fits-of_lt}
 use Rattle.std.specs.Int.{div_ceil}
 use Rattle.std.proofs.Math.Nat.{le-mul_of_pos_right}
@@ -35,19 +35,13 @@ few_bits s samples allowed few =
     let each : 5 + s.block_size * s.bits ≤ 2053 = omega arith in
     mul-le (div_ceil samples s.block_size) (5 + s.block_size * s.bits) 4294967360 2053 (few_blocks s samples allowed few) each
 
-bits_of_blocks : (s : Settings) (samples size width blocks : ℕ) → size ≡ s.block_size → width ≡ s.bits → blocks ≡ div_ceil samples size
-    → blocks * (5 + size * width) ≡ div_ceil samples s.block_size * (5 + s.block_size * s.bits)
-bits_of_blocks s samples size width blocks sizes widths counts =
-    ap (λ n. n * (5 + size * width)) counts ∙ (ap (λ j. div_ceil samples j * (5 + j * width)) sizes
-    ∙ ap (λ n. div_ceil samples s.block_size * (5 + s.block_size * n)) widths)
-
 -- the number of bits of all blocks fits 64 bits
 pub bits_fit : (s : Settings) (samples size width blocks : ℕ) → IsAllowed s → samples ≤ 2 ^ 32 → size ≡ s.block_size → width ≡ s.bits
     → blocks ≡ div_ceil samples size → Fits w64 (blocks * (5 + size * width))
 bits_fit s samples size width blocks allowed few sizes widths counts =
     let most = few_bits s samples allowed few in
-    let same = bits_of_blocks s samples size width blocks sizes widths counts in
-    let below : blocks * (5 + size * width) < 18446744073709551616 = omega arith in Fits-of_lt below
+    let below : div_ceil samples s.block_size * (5 + s.block_size * s.bits) < 18446744073709551616 = omega arith in
+    rw (counts, sizes, widths) (Fits-of_lt below)
 
 -- the number of bytes of all blocks, plus one for each interval, fits 64 bits
 pub bytes_fit : (s : Settings) (samples size width blocks interval bytes intervals : ℕ) → IsAllowed s → samples ≤ 2 ^ 32 → size ≡ s.block_size
@@ -55,10 +49,11 @@ pub bytes_fit : (s : Settings) (samples size width blocks interval bytes interva
     → intervals ≡ div_ceil blocks interval → Fits w64 (bytes + intervals)
 bytes_fit s samples size width blocks interval bytes intervals allowed few sizes widths counts all long parts =
     let most = few_bits s samples allowed few in
-    let same = bits_of_blocks s samples size width blocks sizes widths counts in
-    let least : blocks ≤ 4294967360 = subst (λ n. n ≤ 4294967360) (sym (counts ∙ ap (div_ceil samples) sizes)) (few_blocks s samples allowed few) in
-    let in_bytes : div_ceil (blocks * (5 + size * width)) 8 < blocks * (5 + size * width) + 8 = ceil-below (blocks * (5 + size * width)) 8 (omega arith) in
-    let in_intervals : div_ceil blocks s.interval < blocks + s.interval = ceil-below blocks s.interval (interval-positive s allowed) in
+    let least = few_blocks s samples allowed few in
+    let count : ℕ = div_ceil samples s.block_size in
+    let bits : ℕ = count * (5 + s.block_size * s.bits) in
+    let in_bytes : div_ceil bits 8 < bits + 8 = ceil-below bits 8 (omega arith) in
+    let in_intervals : div_ceil count s.interval < count + s.interval = ceil-below count s.interval (interval-positive s allowed) in
     let longest : s.interval ≤ 4096 = interval-most s allowed in
-    let cut : intervals ≡ div_ceil blocks s.interval = parts ∙ ap (div_ceil blocks) long in
-    let below : bytes + intervals < 18446744073709551616 = omega arith in Fits-of_lt below
+    let below : div_ceil bits 8 + div_ceil count s.interval < 18446744073709551616 = omega arith in
+    rw (all, parts, long, counts, sizes, widths) (Fits-of_lt below)

@@ -9,7 +9,7 @@ use Rattle.aec_params.specs.Codewords.{bytes_of}
 use Rattle.aec_bits.proofs.CodewordLemmas.{length-bytes_of}
 use Rattle.aec_interval.specs.Feeding.{Coder, StopsFeeding}
 use Rattle.aec_engine.specs.Buffers.{left_of}
-use Rattle.aec_c.specs.declared.coder_handle.OpenCoder.{OpenCoder}
+use Rattle.aec_c.specs.declared.kinds.OpenCoder.{OpenCoder}
 use Rattle.aec_c.specs.declared.reply.Reply.{Reply}
 use Rattle.aec_c.specs.Replies.{reply_to}
 use Rattle.aec_c.specs.Coders.{ready_bytes, TakesBytes, taken, no_room}

@@ -82,7 +82,7 @@ module _ (s : Settings) (caps : Caps) (n : ℕ) (front rest : List ℕ) (short :
   read_on samples r = record {
     taken = none_refused caps.bytes (front ++ rest) short;
     within = r.within;
-    reading = subst (λ bits. IsReading s (Some n) caps.samples bits samples) (sym (bits_of_bytes-append front rest))
+    reading = rw (bits_of_bytes-append front rest)
         (reads_on s (bits_of_bytes front) (bits_of_bytes rest) (omega (arith, length-bits_of_bytes front)) n caps.samples samples r.reading);
   }
 
@@ -91,8 +91,7 @@ module _ (s : Settings) (caps : Caps) (n : ℕ) (front rest : List ℕ) (short :
   decoded_on answer bytes is (not_taken fault why) = absurd (cc)
   decoded_on answer bytes is (not_counted fault taken above) = absurd (cc)
   decoded_on answer bytes is (decoded samples read) =
-      let same : _ ≡ bytes = cc in
-      subst (λ bytes. IsDecoded s caps (Some n) (input_of (front ++ rest) false) (Ok bytes)) same (decoded samples (read_on samples read))
+      rw (sym is) (decoded samples (read_on samples read))
   decoded_on answer bytes is (faulty fault taken within wrong) = absurd (cc)
 
   ranged_on : (first len : ℕ) (answer : Result (List ℕ) Fault) (bytes : List ℕ) → answer ≡ Ok bytes
@@ -100,8 +99,7 @@ module _ (s : Settings) (caps : Caps) (n : ℕ) (front rest : List ℕ) (short :
   ranged_on first len answer bytes is (not_decoded fault refused) = absurd (cc)
   ranged_on first len answer bytes is (outside samples read past) = absurd (cc)
   ranged_on first len answer bytes is (cut_out samples read within) =
-      let same : _ ≡ bytes = cc in
-      subst (λ bytes. IsRanged s caps (Some n) first len (input_of (front ++ rest) false) (Ok bytes)) same (cut_out samples (read_on samples read) within)
+      rw (sym is) (cut_out samples (read_on samples read) within)
 
 -- if A implies B for each answer with bytes, a buffer filled as A states is filled as B states
 module _ (A B : Result (List ℕ) Fault → Type 0) (on : (answer : Result (List ℕ) Fault) (bytes : List ℕ) → answer ≡ Ok bytes → A answer → B (Ok bytes)) where
@@ -121,25 +119,21 @@ module _ (A B : Result (List ℕ) Fault → Type 0) (on : (answer : Result (List
           by_one (inl lacks) = absurd (cc)
           by_one (inr answered) = inr (subst B (sym is) (on one.answer bytes is answered))
 
-module _ (s : Settings) (caps : Caps) (n front : ℕ) (bytes before after : List ℕ) (len : ℕ) (greatest : caps ≡ most) (short : length bytes ≤ 2 ^ 40) where
+module _ (s : Settings) (n front : ℕ) (bytes before after : List ℕ) (len : ℕ) (short : length bytes ≤ 2 ^ 40) where
   whole : take front bytes ++ drop front bytes ≡ bytes
   whole = take-append-drop front bytes
 
   in_most : length (take front bytes ++ drop front bytes) ≤ most.bytes
-  in_most = subst (λ b. length b ≤ 2 ^ 40) (sym whole) short
+  in_most = rw whole short
 
   -- what decoding the first `front` bytes writes to a buffer, decoding all bytes writes there too
-  pub fills_whole : FillsOne (OrMemory (IsDecoded s caps (Some n) (input_of (take front bytes) false))) before after (Ok len)
+  pub fills_whole : FillsOne (OrMemory (IsDecoded s most (Some n) (input_of (take front bytes) false))) before after (Ok len)
       → FillsOne (OrMemory (IsDecoded s most (Some n) (input_of bytes false))) before after (Ok len)
   fills_whole one =
-      subst (λ b. FillsOne (OrMemory (IsDecoded s most (Some n) (input_of b false))) before after (Ok len)) whole
-      (fills_on _ _ (decoded_on s most n (take front bytes) (drop front bytes) in_most) before after len
-      (subst (λ caps. FillsOne (OrMemory (IsDecoded s caps (Some n) (input_of (take front bytes) false))) before after (Ok len)) greatest one))
+      rw (← whole) (fills_on _ _ (decoded_on s most n (take front bytes) (drop front bytes) in_most) before after len one)
 
   -- the same for a range
-  pub ranges_whole : (first length : ℕ) → FillsOne (OrMemory (IsRanged s caps (Some n) first length (input_of (take front bytes) false))) before after (Ok len)
+  pub ranges_whole : (first length : ℕ) → FillsOne (OrMemory (IsRanged s most (Some n) first length (input_of (take front bytes) false))) before after (Ok len)
       → FillsOne (OrMemory (IsRanged s most (Some n) first length (input_of bytes false))) before after (Ok len)
   ranges_whole first length one =
-      subst (λ b. FillsOne (OrMemory (IsRanged s most (Some n) first length (input_of b false))) before after (Ok len)) whole
-      (fills_on _ _ (ranged_on s most n (take front bytes) (drop front bytes) in_most first length) before after len
-      (subst (λ caps. FillsOne (OrMemory (IsRanged s caps (Some n) first length (input_of (take front bytes) false))) before after (Ok len)) greatest one))
+      rw (← whole) (fills_on _ _ (ranged_on s most n (take front bytes) (drop front bytes) in_most first length) before after len one)

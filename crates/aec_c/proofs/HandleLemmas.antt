@@ -1,6 +1,7 @@
--- What a handle holds, from the contracts of taking its value out and putting it back.
+-- What a handle holds, from the contracts of taking it out and putting it back.
 use Rattle.std.proofs.Common.{◌≡◌, ℕ, Option, None, Some, Result, Ok, Err, List, length, take, drop, ap, sym, ◌∙◌}
-use Rattle.std.specs.Prelude.{ℤ, IfOk, IfErr, OnOk}
+use Rattle.std.specs.Prelude.{ℤ, Box, IfOk, IfErr, OnOk}
+use Rattle.std.specs.Global.{Global}
 use Rattle.aec_params.specs.declared.fault.Fault.{Fault}
 use Rattle.aec_params.specs.declared.fault.Fault.TheVariants.{Memory}
 use Rattle.aec_params.specs.Codewords.{bytes_of}
@@ -9,12 +10,14 @@ use Rattle.aec_edit.specs.Calls.{range_refusal, IsDue}
 use Rattle.aec_engine.specs.Transfers.{answer_by}
 use Rattle.aec_c.specs.HandleCalls.{format_of}
 use Rattle.aec_c.specs.HandleReads.{IsCodeOf, IsRangeOf}
-use Rattle.aec_c.specs.declared.handle.OpenWorkspace.{OpenWorkspace}
+use Rattle.aec_c.specs.declared.kinds.OpenWorkspace.{OpenWorkspace}
+use Rattle.aec_c.specs.declared.kinds.Open.{Open}
+use Rattle.aec_c.specs.Kinds.{value_in}
 
--- the value that is taken out of a handle is the value that it held
-pub was_in : {H X : Type 0} (value : H → Option X) (handle held : H) (inside before : X) → held ≡ handle → value held ≡ Some inside → before ≡ inside
-    → value handle ≡ Some before
-was_in value handle held inside before same is seen = ap value (sym same) ∙ (is ∙ ap Some (sym seen))
+-- a handle held what the box that was taken out of it contains
+pub kind_was : {X : Type 0} (kind_in : Option Open → Option X) (inside : Option (Box Open Global)) (held : Box Open Global) (now is : Open)
+    → inside ≡ Some held → now ≡ held.value → now ≡ is → kind_in (value_in inside) ≡ kind_in (Some is)
+kind_was kind_in inside held now is there same kind = ap (λ i. kind_in (value_in i)) there ∙ ap (λ o. kind_in (Some o)) (sym same ∙ kind)
 
 -- the answer of coding: the bytes of the code, or `Memory`
 pub code_answer : {X : Type 0} (w : OpenWorkspace) (view : X → List ℕ) (r : Result X Fault)

@@ -16,7 +16,7 @@ use Rattle.aec_interval.specs.Skipping.{IsFaultAt}
 use Rattle.aec_engine.specs.Output.{all_stored}
 use Rattle.aec_engine.specs.Buffers.{left_of}
 use Rattle.aec_engine.proofs.FillLemmas.{length-all_stored}
-use Rattle.aec_c.specs.declared.open_reader.OpenReader.{OpenReader}
+use Rattle.aec_c.specs.declared.kinds.OpenReader.{OpenReader}
 use Rattle.aec_c.specs.declared.reply.Reply.{Reply}
 use Rattle.aec_c.specs.Replies.{done, wants_room, reply_to}
 use Rattle.aec_c.specs.Readers.{ReadsNext, next, no_room}

@@ -60,7 +60,7 @@ later k left m p i b one_less way wanted within to_end = record {
 pub way_on : (k left m : ℕ) (p q : Place) (ys : List ℤ) → left ≡ m + 1 → IsOnWay k left p → ReadsInterval p ys q → IsOnWay k m q
 way_on k left m p q ys one_less way step =
     subst (IsOnWay k m) (sym step.piece.same) (later k left m p q.block q.bit one_less way step.wanted step.within
-    (λ more. step.to_end (subst (λ q. is_wanted_at q ≡ true) (sym step.piece.same) more)))
+    (λ more. step.to_end (ap is_wanted_at step.piece.same ∙ more)))
 
 -- a fault in the next interval is on the way to a later interval
 fault_on_way : (k left total : ℕ) (start p : Place) (fault : Fault) → 0 < left → IsOnWay k left p → CountsSoFar start p total → IsFaultAt p fault
@@ -85,9 +85,8 @@ fault_on_way k left total start p fault some way so_far at =
 pub wrong_on_way : {X : Type 0} (r : Result X Fault) (fault other : Fault) (start p : Place) (intervals left total : ℕ) → r ≡ Err fault → fault ≡ other
     → 0 < left → ((k : ℕ) → IsOnWay k intervals start → IsOnWay k left p) → CountsSoFar start p total → IsFaultAt p other
     → IfErr r (λ fault. (k : ℕ) → IsOnWay k intervals start → IsFaultOnWay k start fault)
-wrong_on_way {X} r fault other start p intervals left total is same some way so_far at =
-    let P : Result X Fault → Type 0 = λ r. IfErr r (λ fault. (k : ℕ) → IsOnWay k intervals start → IsFaultOnWay k start fault) in
-    subst P (sym (is ∙ ap Err same)) (λ k from. fault_on_way k left total start p other some (way k from) so_far at)
+wrong_on_way r fault other start p intervals left total is same some way so_far at =
+    rw (is, same) (λ k from. fault_on_way k left total start p other some (way k from) so_far at)
 
 -- a reading that begins again at the first bit has read nothing
 pub standing_first : (p : Place) → IsPlace p → IsStanding (record { place = place_in p 0 0; before = 0 })
@@ -151,31 +150,26 @@ module _ (s : Settings) (count : Option ℕ) (bits : List Bool) (block bit befor
 
   pub fits_on : (i b len : ℕ) → IsAllowed s → ReadsOn now i b len → IsPlace (place_in now.place i b) → before + len ≤ 2 ^ 40
   fits_on i b len a reads is =
-      let r = subst (λ now. ReadsOn now i b len) (sym same) reads in
-      let few = subst (λ (now : Standing). IsPlace (place_in now.place i b)) (sym same) is in
+      let r = rw (← same) at reads in let few = rw (← same) at is in
       omega (arith, before_few here (place_in here i b) before r.0 a st.has r.1 few.few, r.2)
 
   pub stands_on : (i b len : ℕ) → IsAllowed s → ReadsOn now i b len → IsPlace (place_in now.place i b)
       → IsStanding (standing_at s count bits i b (before + len))
   stands_on i b len a reads is =
-      let r = subst (λ now. ReadsOn now i b len) (sym same) reads in
+      let r = rw (← same) at reads in
       record {
-        reached = subst (λ (now : Standing). IsPlace (place_in now.place i b)) (sym same) is;
-        has = subst (λ n. HasCounted (place_in here i b) (before + n)) r.2 (counted_on here (place_in here i b) before r.0 a st.has r.1);
+        reached = rw (← same) at is;
+        has = rw (← r.2) (counted_on here (place_in here i b) before r.0 a st.has r.1);
       }
 
   pub way_here : (k n : ℕ) → IsAllowed s → n ≡ div_ceil block s.interval → n ≤ k → IsOnWay k (k - n) (place_in now.place block bit)
-  way_here k n a up within =
-      subst (λ (now : Standing). IsOnWay k (k - n) (place_in now.place block bit)) same
-      (way_from_here k n here (interval-positive s a) st.reached up within)
+  way_here k n a up within = rw (← same) (way_from_here k n here (interval-positive s a) st.reached up within)
 
   pub first_here : IsStanding (record { place = place_in now.place 0 0; before = 0 })
-  first_here = subst (λ (now : Standing). IsStanding (record { place = place_in now.place 0 0; before = 0 })) same (standing_first here st.reached)
+  first_here = rw (← same) (standing_first here st.reached)
 
 -- a new reader, which has read nothing
 pub stands_new : (s : Settings) (count : Option ℕ) (bits : List Bool) (reader : Place) (block bit : ℕ) → reader ≡ place_at s count (2 ^ 32) bits 0 0
     → IsPlace reader → block ≡ reader.block → bit ≡ reader.bit → IsStanding (standing_at s count bits block bit 0)
 stands_new s count bits reader block bit is reached same_block same_bit =
-    subst (λ b. IsStanding (standing_at s count bits block b 0)) (sym (same_bit ∙ ap (λ (p : Place). p.bit) is))
-    (subst (λ i. IsStanding (standing_at s count bits i 0 0)) (sym (same_block ∙ ap (λ (p : Place). p.block) is))
-    (record { reached = subst IsPlace is reached; has = counted_none s count (2 ^ 32) bits }))
+    rw (same_block, same_bit, is) (record { reached = rw is at reached; has = counted_none s count (2 ^ 32) bits })

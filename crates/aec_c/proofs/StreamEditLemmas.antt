@@ -7,7 +7,6 @@ use Rattle.std.proofs.lemmas.List.{append-nil}
 use Rattle.aec_params.specs.declared.settings.Settings.{Settings}
 use Rattle.aec_params.specs.declared.fault.Fault.{Fault}
 use Rattle.aec_params.specs.declared.fault.Fault.TheVariants.{Script, Memory, Write, StreamTooLong, Read}
-use Rattle.aec_params.specs.Limits.{Caps}
 use Rattle.aec_params.specs.Params.{IsAllowed}
 use Rattle.aec_params.specs.Codewords.{bytes_of}
 use Rattle.aec_bits.specs.Codec.{Format, AreHeld, code_of}
@@ -101,9 +100,7 @@ module _ (s : Settings) (count : Option ℕ) (from source : Taking) (script code
   pub edited_ok : (sink : Putting) (held : List ℕ) (calls : ℕ) (r : Result ℕ EditFault) → sink.before ≡ Some [] → sink.after ≡ Some held
       → LeavesRecoded s most count from source sink r → r ≡ Ok calls → IsEditing s count script coded (Ok held)
   edited_ok sink held calls r empty holds (written made gives appends begun sounds) is =
-      let grown : Appends (Some []) (Some held) made.bytes =
-      subst (λ b. Appends b (Some held) made.bytes) empty (subst (λ a. Appends sink.before a made.bytes) holds appends) in
-      subst (λ bytes. IsEditing s count script coded (Ok bytes)) (sym grown) (given_answer (Ok made) gives)
+      let grown : Appends (Some []) (Some held) made.bytes = rw (empty, holds) at appends in rw grown (given_answer (Ok made) gives)
   edited_ok sink held calls r empty holds (refused fault gives nothing) is = absurd (cc)
   edited_ok sink held calls r empty holds (not_written made gives front begun fails) is = absurd (cc)
 
@@ -113,54 +110,23 @@ module _ (s : Settings) (count : Option ℕ) (from source : Taking) (script code
   edited_err sink r fault e memory other leaves is = by_leaves r leaves is other
     where
       lacks : e ≡ Plain Memory → IsEditing s count script coded (Err e)
-      lacks same = subst (λ e. IsEditing s count script coded (Err e)) (sym same) (lacks_memory allowed)
+      lacks same = rw same (lacks_memory allowed)
 
       by_leaves : (r : Result ℕ EditFault) → LeavesRecoded s most count from source sink r → r ≡ Err fault → (e ≡ fault) ⊎ (fault ≡ Plain Write)
           → IsEditing s count script coded (Err e)
       by_leaves r (written made gives appends begun sounds) is other = absurd (cc)
       by_leaves r (refused f gives nothing) is (inl same) =
-          let was : f ≡ fault = cc in
-          subst (λ e. IsEditing s count script coded (Err e)) (was ∙ sym same) (given_answer (Err f) gives)
+          let was : e ≡ f = cc in rw was (given_answer (Err f) gives)
       by_leaves r (refused f gives nothing) is (inr fails) = lacks (memory fails)
       by_leaves r (not_written made gives front begun fails) is other = let was : fault ≡ Plain Write = cc in lacks (memory was)
-
--- limits equal to the greatest limits may be replaced by these
-pub leaves_most : (s : Settings) (caps : Caps) (count : Option ℕ) (from source : Taking) (sink : Putting) (r : Result ℕ EditFault) → caps ≡ most
-    → LeavesRecoded s caps count from source sink r → LeavesRecoded s most count from source sink r
-leaves_most s caps count from source sink r greatest leaves = subst (λ caps. LeavesRecoded s caps count from source sink r) greatest leaves
 
 -- what was written into an empty sink is the code of `many` samples
 pub codes_many : (s : Settings) (f : Format) (samples : List ℤ) (before after : Option (List ℕ)) (held : List ℕ) (many : ℕ) → f ≡ interval_format s
     → many ≡ length samples → AreHeld f samples → before ≡ Some [] → after ≡ Some held → Appends before after (bytes_of (code_of f samples))
     → CodesSoMany s held many
 codes_many s f samples before after held many same counted all empty holds appends =
-    let grown : Appends (Some []) (Some held) (bytes_of (code_of f samples)) =
-    subst (λ b. Appends b (Some held) (bytes_of (code_of f samples))) empty
-    (subst (λ a. Appends before a (bytes_of (code_of f samples))) holds appends) in
-    record {
-      samples = samples;
-      held = subst (λ f. AreHeld f samples) same all;
-      code = grown ∙ ap (λ f. bytes_of (code_of f samples)) same;
-      counted = counted;
-    }
-
--- settings and a count that are equal to the given ones have the same answer
-pub editing_as : {X : Type 0} (s t : Settings) (count n : Option ℕ) (script coded : List ℕ) (view : X → List ℕ) (r : Result X EditFault) → t ≡ s → n ≡ count
-    → IfOk r (λ x. IsEditing t n script coded (Ok (view x))) → IfOk r (λ x. IsEditing s count script coded (Ok (view x)))
-editing_as s t count n script coded view (Ok x) same counts is =
-    subst (λ s. IsEditing s count script coded (Ok (view x))) same (subst (λ n. IsEditing t n script coded (Ok (view x))) counts is)
-editing_as s t count n script coded view (Err fault) same counts is = is
-
-pub refused_as : {X : Type 0} (s t : Settings) (count n : Option ℕ) (script coded : List ℕ) (r : Result X EditFault) → t ≡ s → n ≡ count
-    → IfErr r (λ e. IsEditing t n script coded (Err e)) → IfErr r (λ e. IsEditing s count script coded (Err e))
-refused_as s t count n script coded (Ok x) same counts is = is
-refused_as s t count n script coded (Err e) same counts is =
-    subst (λ s. IsEditing s count script coded (Err e)) same (subst (λ n. IsEditing t n script coded (Err e)) counts is)
-
-pub counted_as : {X : Type 0} (s t : Settings) (view : X → List ℕ) (many : X → ℕ) (r : Result X EditFault) → t ≡ s
-    → IfOk r (λ x. CodesSoMany t (view x) (many x)) → IfOk r (λ x. CodesSoMany s (view x) (many x))
-counted_as s t view many (Ok x) same is = subst (λ s. CodesSoMany s (view x) (many x)) same is
-counted_as s t view many (Err e) same is = is
+    let grown : Appends (Some []) (Some held) (bytes_of (code_of f samples)) = rw (empty, holds) at appends in
+    record { samples = samples; held = rw same at all; code = grown ∙ ap (λ f. bytes_of (code_of f samples)) same; counted = counted }
 
 -- ---- the reply
 

@@ -8,7 +8,9 @@ use Rattle.aec_params.specs.Codewords.{bytes_of, padded_to_byte}
 use Rattle.aec_params.specs.Streams.{stream_of}
 use Rattle.aec_interval.specs.Feeding.{Coder, fresh_coder, Feeds, StopsFeeding}
 use Rattle.aec_engine.specs.Buffers.{left_of}
-use Rattle.aec_c.specs.declared.coder_handle.OpenCoder.{OpenCoder}
+use Rattle.aec_c.specs.declared.kinds.OpenCoder.{OpenCoder}
+use Rattle.aec_c.specs.declared.kinds.Open.{Open}
+use Rattle.aec_c.specs.Kinds.{coder_in}
 use Rattle.aec_c.specs.declared.reply.Reply.{Reply}
 use Rattle.aec_c.specs.Replies.{done, refused_for, reply_to}
 use Rattle.aec_c.specs.Calls.{CannotBegin}
@@ -23,8 +25,8 @@ abbrev pub left_bits : List Bool → List Bool
 left_bits bits = drop (8 * (length bits / 8)) bits
 
 -- opening: a coder that was fed nothing replaces what was held, or a refusal changes nothing
-pub data OpensCoder (s : Settings) (old new : Option OpenCoder) (reply : Reply) : Type 0 where
-  opened : (made : OpenCoder) → IsAllowed s → new ≡ Some made → made.coder ≡ Some (fresh_coder s (2 ^ 32))
+pub data OpensCoder (s : Settings) (old new : Option Open) (reply : Reply) : Type 0 where
+  opened : (made : OpenCoder) → IsAllowed s → coder_in new ≡ Some made → made.coder ≡ Some (fresh_coder s (2 ^ 32))
       → made.bits.list ≡ [] → reply ≡ done 0
       → OpensCoder s old new reply
   not_opened : (fault : Fault) → CannotBegin s fault → new ≡ old
@@ -70,10 +72,11 @@ pub data TakesBytes (before after : OpenCoder) (old new : List ℕ) (reply : Rep
   no_memory : after ≡ before → new ≡ old → reply ≡ refused_for Memory → TakesBytes before after old new reply
 
 -- the same for what a handle holds: nothing is taken if it holds no coder
-pub data TakesOut (old new : Option OpenCoder) (before after : List ℕ) (reply : Reply) : Type 0 where
-  taken_out : (w w' : OpenCoder) → old ≡ Some w → new ≡ Some w' → TakesBytes w w' before after reply
+pub data TakesOut (old new : Option Open) (before after : List ℕ) (reply : Reply) : Type 0 where
+  taken_out : (w w' : OpenCoder) → coder_in old ≡ Some w → coder_in new ≡ Some w' → TakesBytes w w' before after reply
       → TakesOut old new before after reply
-  none_taken : old ≡ None → new ≡ None → after ≡ before → reply ≡ not_open → TakesOut old new before after reply
+  none_taken : coder_in old ≡ None → new ≡ old → after ≡ before → reply ≡ not_open
+      → TakesOut old new before after reply
 
 -- the whole bytes that were taken, and then those of the bits that were left and of all bits after
 -- them, are the bytes of all bits

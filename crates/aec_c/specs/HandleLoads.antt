@@ -11,7 +11,9 @@ use Rattle.aec_interval.specs.IntervalFormat.{interval_format}
 use Rattle.aec_interval.specs.Reached.{RefusesDecoding}
 use Rattle.aec_edit.specs.Calls.{due_refusal}
 use Rattle.aec_edit.specs.Workspace.{interval_count}
-use Rattle.aec_c.specs.declared.handle.OpenWorkspace.{OpenWorkspace}
+use Rattle.aec_c.specs.declared.kinds.OpenWorkspace.{OpenWorkspace}
+use Rattle.aec_c.specs.declared.kinds.Open.{Open}
+use Rattle.aec_c.specs.Kinds.{workspace_in}
 use Rattle.aec_c.specs.declared.reply.Reply.{Reply}
 use Rattle.aec_c.specs.Replies.{done, refused_for}
 use Rattle.aec_c.specs.HandleCalls.{format_of}
@@ -45,10 +47,10 @@ CannotHold s samples fault =
 
 -- loading: a workspace with the samples that bytes decode to replaces what was held, or a refusal
 -- changes nothing
-pub data Loads (s : Settings) (count : Option ℕ) (bytes : List ℕ) (old new : Option OpenWorkspace)
+pub data Loads (s : Settings) (count : Option ℕ) (bytes : List ℕ) (old new : Option Open)
     (reply : Reply) : Type 0 where
-  loaded : (samples : List ℤ) (w : OpenWorkspace) → AreRead s count bytes samples → new ≡ Some w → Holds s samples w
-      → reply ≡ done (length samples)
+  loaded : (samples : List ℤ) (w : OpenWorkspace) → AreRead s count bytes samples → workspace_in new ≡ Some w
+      → Holds s samples w → reply ≡ done (length samples)
       → Loads s count bytes old new reply
   unread : (fault : Fault) → CannotRead s count bytes fault → new ≡ old → reply ≡ refused_for fault
       → Loads s count bytes old new reply

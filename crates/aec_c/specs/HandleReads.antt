@@ -8,7 +8,9 @@ use Rattle.aec_params.specs.Codewords.{bytes_of}
 use Rattle.aec_bits.specs.Codec.{code_of}
 use Rattle.aec_interval.specs.IntervalFormat.{interval_format}
 use Rattle.aec_edit.specs.Calls.{range_refusal, IsDue}
-use Rattle.aec_c.specs.declared.handle.OpenWorkspace.{OpenWorkspace}
+use Rattle.aec_c.specs.declared.kinds.OpenWorkspace.{OpenWorkspace}
+use Rattle.aec_c.specs.declared.kinds.Open.{Open}
+use Rattle.aec_c.specs.Kinds.{workspace_in}
 use Rattle.aec_c.specs.declared.reply.Reply.{Reply}
 use Rattle.aec_c.specs.Calls.{CannotBegin}
 use Rattle.aec_c.specs.Replies.{done, refused_for, reply_to}
@@ -26,8 +28,8 @@ pub record IsFresh (s : Settings) (w : OpenWorkspace) : Type 0 where
   pub allowed : IsAllowed s
 
 -- opening: a fresh workspace replaces what was held, or a refusal changes nothing
-pub data Opens (s : Settings) (old new : Option OpenWorkspace) (reply : Reply) : Type 0 where
-  fresh : (w : OpenWorkspace) → new ≡ Some w → IsFresh s w → reply ≡ done 0 → Opens s old new reply
+pub data Opens (s : Settings) (old new : Option Open) (reply : Reply) : Type 0 where
+  fresh : (w : OpenWorkspace) → workspace_in new ≡ Some w → IsFresh s w → reply ≡ done 0 → Opens s old new reply
   refused : (fault : Fault) → CannotBegin s fault → new ≡ old
       → reply ≡ refused_for fault → Opens s old new reply
 
@@ -47,11 +49,12 @@ IsCodeOf w (Ok bytes) = bytes ≡ bytes_of (code_of (format_of w) w.workspace.sa
 IsCodeOf w (Err fault) = fault ≡ Memory
 
 -- the bytes of the code of a workspace's samples, written to a buffer
-pub data WritesOut (old new : Option OpenWorkspace) (before after : List ℕ) (reply : Reply) : Type 0 where
-  written : (w : OpenWorkspace) (answer : Result (List ℕ) Fault) → old ≡ Some w → new ≡ Some w → IsCodeOf w answer
-      → after ≡ left_of answer before
+pub data WritesOut (old new : Option Open) (before after : List ℕ) (reply : Reply) : Type 0 where
+  written : (w : OpenWorkspace) (answer : Result (List ℕ) Fault) → workspace_in old ≡ Some w → new ≡ old
+      → IsCodeOf w answer → after ≡ left_of answer before
       → reply ≡ reply_to answer (length before) → WritesOut old new before after reply
-  no_work : old ≡ None → new ≡ None → after ≡ before → reply ≡ not_open → WritesOut old new before after reply
+  no_work : workspace_in old ≡ None → new ≡ old → after ≡ before → reply ≡ not_open
+      → WritesOut old new before after reply
 
 -- the samples of a range, or why they are refused: for their place, else with `Memory`
 abbrev pub IsRangeOf : List ℤ → ℕ → ℕ → Result (List ℤ) Fault → Type 0
@@ -67,11 +70,12 @@ pub record IsSameBut (before after : OpenWorkspace) : Type 0 where
   pub format : format_of after ≡ format_of before
 
 -- the samples of a range, written to a buffer
-pub data ReadsOut (first len : ℕ) (old new : Option OpenWorkspace) (before after : List ℤ)
+pub data ReadsOut (first len : ℕ) (old new : Option Open) (before after : List ℤ)
     (reply : Reply) : Type 0 where
-  read : (w w' : OpenWorkspace) (answer : Result (List ℤ) Fault) → old ≡ Some w → new ≡ Some w' → IsSameBut w w'
+  read : (w w' : OpenWorkspace) (answer : Result (List ℤ) Fault) → workspace_in old ≡ Some w
+      → workspace_in new ≡ Some w' → IsSameBut w w'
       → IsRangeOf w.workspace.samples first len answer → after ≡ left_of answer before
       → reply ≡ reply_to answer (length before)
       → ReadsOut first len old new before after reply
-  none_read : old ≡ None → new ≡ None → after ≡ before → reply ≡ not_open
+  none_read : workspace_in old ≡ None → new ≡ old → after ≡ before → reply ≡ not_open
       → ReadsOut first len old new before after reply

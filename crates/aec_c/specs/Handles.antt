@@ -6,9 +6,7 @@ use denote.RawPtr.{Ptr}
 use Rattle.std.specs.contracts.impls.GlobalAllocator.TheImpl.{ghosts}
 use Rattle.std.specs.Global.{Global}
 use Rattle.std.specs.Box.Ownership.{box_owns}
-use Rattle.aec_c.specs.contracts.handle.OpenWorkspace as work
-use Rattle.aec_c.specs.contracts.coder_handle.OpenCoder as coder
-use Rattle.aec_c.specs.contracts.open_reader.OpenReader as reader
+use Rattle.aec_c.specs.contracts.kinds.Open as kinds
 
 -- the allocator of all programs, which has no data
 abbrev pub heap : Global
@@ -21,14 +19,6 @@ box_or_nothing R true p None = ffalse
 box_or_nothing R false p (Some held) = ffalse
 box_or_nothing R false p None = ftrue
 
--- what the handle of a workspace owns
-abbrev pub handle_owns : Bool → Ptr → Option work.the_row.Denot → Fml
-handle_owns = box_or_nothing work.the_row
-
--- what the handle of a coder owns
-abbrev pub coder_owns : Bool → Ptr → Option coder.the_row.Denot → Fml
-coder_owns = box_or_nothing coder.the_row
-
--- what the handle of a reader owns
-abbrev pub reader_owns : Bool → Ptr → Option reader.the_row.Denot → Fml
-reader_owns = box_or_nothing reader.the_row
+-- what a handle owns
+abbrev pub handle_owns : Bool → Ptr → Option kinds.the_row.Denot → Fml
+handle_owns = box_or_nothing kinds.the_row

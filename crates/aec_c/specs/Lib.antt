@@ -3,6 +3,7 @@ pub mod Replies
 pub mod OffsetCalls
 pub mod Bounds
 pub mod Texts
+pub mod Kinds
 pub mod Handles
 pub mod HandleCalls
 pub mod HandleReads

@@ -10,7 +10,9 @@ use Rattle.aec_interval.specs.Pieces.{Place, is_wanted_at, HasRead, ReadsInterva
 use Rattle.aec_interval.specs.Skipping.{IsFaultAt}
 use Rattle.aec_engine.specs.Output.{all_stored}
 use Rattle.aec_engine.specs.Buffers.{left_of}
-use Rattle.aec_c.specs.declared.open_reader.OpenReader.{OpenReader}
+use Rattle.aec_c.specs.declared.kinds.OpenReader.{OpenReader}
+use Rattle.aec_c.specs.declared.kinds.Open.{Open}
+use Rattle.aec_c.specs.Kinds.{reader_in}
 use Rattle.aec_c.specs.declared.reply.Reply.{Reply}
 use Rattle.aec_c.specs.Replies.{done, refused_for, reply_to}
 use Rattle.aec_c.specs.HandleCalls.{not_open}
@@ -24,9 +26,9 @@ CannotOpen s count fault =
 
 -- opening: a reader at the first bit of coded bytes replaces what was held, and the reply is how
 -- many bytes the samples of a whole interval take; or a refusal changes nothing
-pub data OpensReader (s : Settings) (count : Option ℕ) (bytes : List ℕ) (old new : Option OpenReader)
+pub data OpensReader (s : Settings) (count : Option ℕ) (bytes : List ℕ) (old new : Option Open)
     (reply : Reply) : Type 0 where
-  opened : (made : OpenReader) → IsAllowed s → new ≡ Some made
+  opened : (made : OpenReader) → IsAllowed s → reader_in new ≡ Some made
       → made.reader ≡ standing_at s count (bits_of_bytes bytes) 0 0 0
       → reply ≡ done (interval_len s * storage_len s) → OpensReader s count bytes old new reply
   not_opened : (fault : Fault) → CannotOpen s count fault → new ≡ old → reply ≡ refused_for fault
@@ -52,10 +54,11 @@ pub data ReadsNext (before after : OpenReader) (old new : List ℕ) (reply : Rep
       → ReadsNext before after old new reply
 
 -- the same for what a handle holds: nothing is written if it holds no reader
-pub data PutsNext (old new : Option OpenReader) (before after : List ℕ) (reply : Reply) : Type 0 where
-  put : (w w' : OpenReader) → old ≡ Some w → new ≡ Some w' → ReadsNext w w' before after reply
+pub data PutsNext (old new : Option Open) (before after : List ℕ) (reply : Reply) : Type 0 where
+  put : (w w' : OpenReader) → reader_in old ≡ Some w → reader_in new ≡ Some w' → ReadsNext w w' before after reply
       → PutsNext old new before after reply
-  none_put : old ≡ None → new ≡ None → after ≡ before → reply ≡ not_open → PutsNext old new before after reply
+  none_put : reader_in old ≡ None → new ≡ old → after ≡ before → reply ≡ not_open
+      → PutsNext old new before after reply
 
 -- the reader is where interval k begins, or after the last sample if there are fewer intervals, and
 -- the reply is the number of samples before it; or the fault of all bits, if it lies before there

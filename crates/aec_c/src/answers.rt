@@ -44,6 +44,17 @@ pub(crate) fn encode_with(
     encode_into(alloc, &params, limits(), samples, out)
 }
 
+/// Returns how many of `len` coded bytes are read first, if a count is given: all, or as many as
+/// always suffice for a code of so many samples. Code no longer than the bits of its samples is
+/// read whole: this test needs no division.
+fn bytes_read_first(options: &Options, count: u64, len: usize) -> u64 {
+    let bytes = len as u64;
+    if bytes.saturating_mul(8) <= count.saturating_mul(u64::from(options.bits)) {
+        return bytes;
+    }
+    bound_of(options, count)
+}
+
 /// Decodes the first `front` coded bytes as `count` samples, as `decode_into` does. Returns `None`
 /// if that fails; the buffer is unchanged then.
 fn decode_front(
@@ -104,7 +115,7 @@ pub(crate) fn decode_with(
         out.new result }
 {
     let params = params_of(options)?;
-    let bound = bound_of(options, count);
+    let bound = bytes_read_first(options, count, bytes.len());
     decode_within_bound(alloc, &params, count_of(count), bound, bytes, out)
 }
 
@@ -176,7 +187,7 @@ pub(crate) fn range_with(
         out.old out.new result }
 {
     let params = params_of(options)?;
-    let bound = bound_of(options, count);
+    let bound = bytes_read_first(options, count, bytes.len());
     let count = count_of(count);
     range_within_bound(alloc, &params, count, first, len, bound, bytes, out)
 }

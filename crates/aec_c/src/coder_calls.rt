@@ -2,22 +2,23 @@
 
 ghost use Rattle.std.specs.Prelude.{◌≡◌, None};
 ghost use Rattle.aec_c.specs.Calls.{settings_of};
+ghost use Rattle.aec_c.specs.Kinds.{coder_in};
 ghost use Rattle.aec_c.specs.HandleCalls.{OnHandle};
 ghost use Rattle.aec_c.specs.Coders.{OpensCoder, FeedsPiece, FinishesStream, TakesOut};
 
-use crate::coder_handle::CoderHandle;
-use crate::coders::{close_coder, feed, finish, open_coder, take};
+use crate::coders::{feed, finish, open_coder, take};
+use crate::handle::Handle;
 use crate::options::Options;
 use crate::reply::Reply;
 use std::alloc::Global;
 
-/// Opens a coder that was fed nothing. On success the coder that the handle held is freed, and
-/// `len` is 0; on an error the handle is unchanged.
+/// Opens a coder that was fed nothing. On success what the handle held is freed, and `len` is 0; on
+/// an error the handle is unchanged.
 #[unsafe(no_mangle)]
 pub extern "C" fn aecp_coder_open(
     alloc: Global,
     options: &Options,
-    coder: &mut CoderHandle,
+    coder: &mut Handle,
     reply: &mut Reply,
 ) -> u32
     ensures opens { OpensCoder (settings_of options.now) coder.old.value coder.new.value reply.new }
@@ -32,29 +33,30 @@ pub extern "C" fn aecp_coder_open(
 #[unsafe(no_mangle)]
 pub extern "C" fn aecp_coder_feed(
     alloc: Global,
-    coder: &mut CoderHandle,
+    coder: &mut Handle,
     samples: &[u8],
     reply: &mut Reply,
 ) -> u32
-    ensures feeds { OnHandle (FeedsPiece samples.now) coder.old.value coder.new.value reply.new }
+    ensures feeds { OnHandle coder_in (FeedsPiece samples.now) coder.old.value coder.new.value
+        reply.new }
     ensures number { result ≡ reply.new.fault }
 {
-    *reply = feed(alloc, coder, samples);
+    let mut inside = coder.take(alloc);
+    *reply = feed(&mut inside, samples);
+    coder.put(inside);
     reply.fault
 }
 
 /// Ends the stream: no more samples are taken. Replies how many bytes can be taken; these are the
 /// last.
 #[unsafe(no_mangle)]
-pub extern "C" fn aecp_coder_finish(
-    alloc: Global,
-    coder: &mut CoderHandle,
-    reply: &mut Reply,
-) -> u32
-    ensures finishes { OnHandle FinishesStream coder.old.value coder.new.value reply.new }
+pub extern "C" fn aecp_coder_finish(alloc: Global, coder: &mut Handle, reply: &mut Reply) -> u32
+    ensures finishes { OnHandle coder_in FinishesStream coder.old.value coder.new.value reply.new }
     ensures number { result ≡ reply.new.fault }
 {
-    *reply = finish(alloc, coder);
+    let mut inside = coder.take(alloc);
+    *reply = finish(&mut inside);
+    coder.put(inside);
     reply.fault
 }
 
@@ -63,22 +65,24 @@ pub extern "C" fn aecp_coder_finish(
 #[unsafe(no_mangle)]
 pub extern "C" fn aecp_coder_take(
     alloc: Global,
-    coder: &mut CoderHandle,
+    coder: &mut Handle,
     out: &mut [u8],
     reply: &mut Reply,
 ) -> u32
     ensures takes { TakesOut coder.old.value coder.new.value out.old out.new reply.new }
     ensures number { result ≡ reply.new.fault }
 {
-    *reply = take(alloc, coder, out);
+    let mut inside = coder.take(alloc);
+    *reply = take(alloc, &mut inside, out);
+    coder.put(inside);
     reply.fault
 }
 
 // bare: a wrong body would show no more than that of `aecp_close`
-/// Frees the coder that a handle holds.
+/// Frees what a handle holds.
 #[unsafe(no_mangle)]
-pub extern "C" fn aecp_coder_close(alloc: Global, coder: &mut CoderHandle)
+pub extern "C" fn aecp_coder_close(alloc: Global, coder: &mut Handle)
     ensures { coder.new.value ≡ None }
 {
-    close_coder(alloc, coder);
+    let _freed = coder.take(alloc);
 }

@@ -6,11 +6,13 @@ ghost use Rattle.aec_params.specs.Params.{IsAllowed};
 ghost use Rattle.aec_params.specs.Codewords.{bytes_of};
 ghost use Rattle.aec_interval.specs.Feeding.{fresh_coder};
 ghost use Rattle.aec_c.specs.Calls.{settings_of, CannotBegin};
+ghost use Rattle.aec_c.specs.Kinds.{value_in, coder_in};
 ghost use Rattle.aec_c.specs.HandleCalls.{OnHandle};
 ghost use Rattle.aec_c.specs.Coders.{OpensCoder, FeedsPiece, FinishesStream, TakesBytes, TakesOut};
 
 use crate::answers::params_of;
-use crate::coder_handle::{CoderHandle, OpenCoder};
+use crate::handle::Handle;
+use crate::kinds::{Open, OpenCoder};
 use crate::options::{MAX_SAMPLES, Options};
 use crate::reply::{Reply, answered, not_open, refused};
 use crate::settling::settle_slice;
@@ -21,36 +23,28 @@ use std::alloc::Global;
 use std::mem;
 
 /// Returns a coder that was fed nothing.
-fn fresh_coder(alloc: Global, options: &Options) -> Result<Box<OpenCoder>, Fault>
+fn fresh_coder(alloc: Global, options: &Options) -> Result<OpenCoder, Fault>
     ensures ok { IfOk result (λ made. (IsAllowed (settings_of options.now))
-        × (made.value.coder ≡ Some (fresh_coder (settings_of options.now) (2 ^ 32)))
-        × (made.value.bits.list ≡ [])) }
+        × (made.coder ≡ Some (fresh_coder (settings_of options.now) (2 ^ 32)))
+        × (made.bits.list ≡ [])) }
     ensures refuses { IfErr result
         (λ fault. CannotBegin (settings_of options.now) fault) }
 {
     let params = params_of(options)?;
     let coder = Some(StreamCoder::new(alloc, params, MAX_SAMPLES));
     let bits = BitBuf::new(alloc);
-    Ok(Box::new(alloc, OpenCoder { coder, bits })?)
-}
-
-/// Frees the coder that a handle holds.
-pub(crate) fn close_coder(alloc: Global, handle: &mut CoderHandle)
-    ensures { handle.new.value ≡ None }
-{
-    let _held = mem::replace(handle, CoderHandle::empty()).into_box(alloc);
+    Ok(OpenCoder { coder, bits })
 }
 
 /// Replaces what a handle holds by a coder that was fed nothing.
-pub(crate) fn open_coder(alloc: Global, options: &Options, handle: &mut CoderHandle) -> Reply
+pub(crate) fn open_coder(alloc: Global, options: &Options, handle: &mut Handle) -> Reply
     ensures { OpensCoder (settings_of options.now) handle.old.value handle.new.value result }
 {
     match fresh_coder(alloc, options) {
-        Ok(made) => {
-            close_coder(alloc, handle);
-            *handle = CoderHandle::of(made);
-            answered(0)
-        }
+        Ok(made) => match handle.hold(alloc, Open::Coder(made)) {
+            Ok(()) => answered(0),
+            Err(fault) => refused(fault),
+        },
         Err(fault) => refused(fault),
     }
 }
@@ -131,43 +125,41 @@ fn take_open(alloc: Global, made: &mut OpenCoder, out: &mut [u8]) -> Reply
 }
 
 /// Feeds a piece of stored samples to the coder that a handle holds.
-pub(crate) fn feed(alloc: Global, handle: &mut CoderHandle, piece: &[u8]) -> Reply
-    ensures { OnHandle (FeedsPiece piece.now) handle.old.value handle.new.value result }
+pub(crate) fn feed(inside: &mut Option<Box<Open>>, piece: &[u8]) -> Reply
+    ensures { OnHandle coder_in (FeedsPiece piece.now) (value_in inside.old) (value_in inside.new)
+        result }
 {
-    match mem::replace(handle, CoderHandle::empty()).into_box(alloc) {
-        Some(mut made) => {
-            let reply = feed_open(&mut made, piece);
-            *handle = CoderHandle::of(made);
-            reply
-        }
+    match inside {
+        Some(held) => match &mut **held {
+            Open::Coder(made) => feed_open(made, piece),
+            _ => not_open(),
+        },
         None => not_open(),
     }
 }
 
 /// Ends the stream of the coder that a handle holds.
-pub(crate) fn finish(alloc: Global, handle: &mut CoderHandle) -> Reply
-    ensures { OnHandle FinishesStream handle.old.value handle.new.value result }
+pub(crate) fn finish(inside: &mut Option<Box<Open>>) -> Reply
+    ensures { OnHandle coder_in FinishesStream (value_in inside.old) (value_in inside.new) result }
 {
-    match mem::replace(handle, CoderHandle::empty()).into_box(alloc) {
-        Some(mut made) => {
-            let reply = finish_open(&mut made);
-            *handle = CoderHandle::of(made);
-            reply
-        }
+    match inside {
+        Some(held) => match &mut **held {
+            Open::Coder(made) => finish_open(made),
+            _ => not_open(),
+        },
         None => not_open(),
     }
 }
 
-/// Moves the whole bytes of a handle's code into a buffer, as `take_open` does.
-pub(crate) fn take(alloc: Global, handle: &mut CoderHandle, out: &mut [u8]) -> Reply
-    ensures { TakesOut handle.old.value handle.new.value out.old out.new result }
+/// Moves the whole bytes of a coder's code into a buffer, as `take_open` does.
+pub(crate) fn take(alloc: Global, inside: &mut Option<Box<Open>>, out: &mut [u8]) -> Reply
+    ensures { TakesOut (value_in inside.old) (value_in inside.new) out.old out.new result }
 {
-    match mem::replace(handle, CoderHandle::empty()).into_box(alloc) {
-        Some(mut made) => {
-            let reply = take_open(alloc, &mut made, out);
-            *handle = CoderHandle::of(made);
-            reply
-        }
+    match inside {
+        Some(held) => match &mut **held {
+            Open::Coder(made) => take_open(alloc, made, out),
+            _ => not_open(),
+        },
         None => not_open(),
     }
 }

@@ -5,14 +5,13 @@ ghost use Rattle.aec_params.specs.declared.edit.Edit.TheVariants.{Overwrite, App
 ghost use Rattle.aec_c.specs.HandleCalls.{OnHandle, MakesEdit, MakesCopiedEdit};
 ghost use Rattle.aec_c.specs.Calls.{settings_of, count_of};
 ghost use Rattle.aec_c.specs.HandleLoads.{Loads};
+ghost use Rattle.aec_c.specs.Kinds.{workspace_in};
 ghost use Rattle.aec_c.specs.HandleReads.{Opens, size_in, calls_in, WritesOut, ReadsOut};
 
 use crate::handle::Handle;
 use crate::handle_edits::{append, apply_edit, insert, overwrite};
 use crate::handle_loads::load;
-use crate::handle_reads::{
-    call_count, close_workspace, open_workspace, read_range, sample_count, write_code,
-};
+use crate::handle_reads::{call_count, open_workspace, read_range, sample_count, write_code};
 use crate::options::Options;
 use crate::reply::Reply;
 use aec_params::Edit;
@@ -26,11 +25,13 @@ pub extern "C" fn aecp_append(
     values: &[i64],
     reply: &mut Reply,
 ) -> u32
-    ensures edits { OnHandle (MakesEdit (Append values.now))
+    ensures edits { OnHandle workspace_in (MakesEdit (Append values.now))
         handle.old.value handle.new.value reply.new }
     ensures number { result ≡ reply.new.fault }
 {
-    *reply = append(alloc, handle, values);
+    let mut inside = handle.take(alloc);
+    *reply = append(&mut inside, values);
+    handle.put(inside);
     reply.fault
 }
 
@@ -42,11 +43,13 @@ pub extern "C" fn aecp_truncate(
     count: u64,
     reply: &mut Reply,
 ) -> u32
-    ensures edits { OnHandle (MakesEdit (Truncate count))
+    ensures edits { OnHandle workspace_in (MakesEdit (Truncate count))
         handle.old.value handle.new.value reply.new }
     ensures number { result ≡ reply.new.fault }
 {
-    *reply = apply_edit(alloc, handle, &Edit::Truncate { count });
+    let mut inside = handle.take(alloc);
+    *reply = apply_edit(&mut inside, &Edit::Truncate { count });
+    handle.put(inside);
     reply.fault
 }
 
@@ -59,11 +62,13 @@ pub extern "C" fn aecp_remove(
     len: u64,
     reply: &mut Reply,
 ) -> u32
-    ensures edits { OnHandle (MakesEdit (Remove first len))
+    ensures edits { OnHandle workspace_in (MakesEdit (Remove first len))
         handle.old.value handle.new.value reply.new }
     ensures number { result ≡ reply.new.fault }
 {
-    *reply = apply_edit(alloc, handle, &Edit::Remove { first, len });
+    let mut inside = handle.take(alloc);
+    *reply = apply_edit(&mut inside, &Edit::Remove { first, len });
+    handle.put(inside);
     reply.fault
 }
 
@@ -81,7 +86,9 @@ pub extern "C" fn aecp_overwrite(
         handle.old.value handle.new.value reply.new }
     ensures number { result ≡ reply.new.fault }
 {
-    *reply = overwrite(alloc, handle, first, values);
+    let mut inside = handle.take(alloc);
+    *reply = overwrite(alloc, &mut inside, first, values);
+    handle.put(inside);
     reply.fault
 }
 
@@ -99,12 +106,14 @@ pub extern "C" fn aecp_insert(
         handle.old.value handle.new.value reply.new }
     ensures number { result ≡ reply.new.fault }
 {
-    *reply = insert(alloc, handle, first, values);
+    let mut inside = handle.take(alloc);
+    *reply = insert(alloc, &mut inside, first, values);
+    handle.put(inside);
     reply.fault
 }
 
-/// Opens an empty workspace. On success the workspace that the handle held is freed, and `len` is
-/// 0; on an error the handle is unchanged.
+/// Opens an empty workspace. On success what the handle held is freed, and `len` is 0; on an error
+/// the handle is unchanged.
 #[unsafe(no_mangle)]
 pub extern "C" fn aecp_open(
     alloc: Global,
@@ -120,7 +129,7 @@ pub extern "C" fn aecp_open(
 }
 
 /// Opens a workspace with the samples that a stream decodes to. Replies how many samples these are.
-/// On success the workspace that the handle held is freed; on an error the handle is unchanged.
+/// On success what the handle held is freed; on an error the handle is unchanged.
 #[unsafe(no_mangle)]
 pub extern "C" fn aecp_load(
     alloc: Global,
@@ -138,31 +147,36 @@ pub extern "C" fn aecp_load(
     reply.fault
 }
 
-/// Frees the workspace that a handle holds.
+/// Frees what a handle holds.
 #[unsafe(no_mangle)]
 pub extern "C" fn aecp_close(alloc: Global, handle: &mut Handle)
     ensures { handle.new.value ≡ None }
 {
-    close_workspace(alloc, handle);
+    let _freed = handle.take(alloc);
 }
 
 /// Returns the number of samples.
 #[unsafe(no_mangle)]
 pub extern "C" fn aecp_size(alloc: Global, handle: &mut Handle) -> u64
-    ensures size { result ≡ size_in handle.old.value }
+    ensures size { result ≡ size_in (workspace_in handle.old.value) }
     ensures same { handle.new.value ≡ handle.old.value }
 {
-    sample_count(alloc, handle)
+    let inside = handle.take(alloc);
+    let size = sample_count(&inside);
+    handle.put(inside);
+    size
 }
 
-// bare: a wrong body would show no more than that of `aecp_size`
 /// Returns how many intervals the coder has coded.
 #[unsafe(no_mangle)]
 pub extern "C" fn aecp_calls(alloc: Global, handle: &mut Handle) -> u64
-    ensures calls { result ≡ calls_in handle.old.value }
+    ensures calls { result ≡ calls_in (workspace_in handle.old.value) }
     ensures same { handle.new.value ≡ handle.old.value }
 {
-    call_count(alloc, handle)
+    let inside = handle.take(alloc);
+    let calls = call_count(&inside);
+    handle.put(inside);
+    calls
 }
 
 /// Writes the bytes of the code of all samples to a buffer. Replies how many bytes these are.
@@ -176,7 +190,9 @@ pub extern "C" fn aecp_write(
     ensures writes { WritesOut handle.old.value handle.new.value out.old out.new reply.new }
     ensures number { result ≡ reply.new.fault }
 {
-    *reply = write_code(alloc, handle, out);
+    let inside = handle.take(alloc);
+    *reply = write_code(alloc, &inside, out);
+    handle.put(inside);
     reply.fault
 }
 
@@ -193,6 +209,8 @@ pub extern "C" fn aecp_read(
     ensures reads { ReadsOut first len handle.old.value handle.new.value out.old out.new reply.new }
     ensures number { result ≡ reply.new.fault }
 {
-    *reply = read_range(alloc, handle, first, len, out);
+    let mut inside = handle.take(alloc);
+    *reply = read_range(alloc, &mut inside, first, len, out);
+    handle.put(inside);
     reply.fault
 }

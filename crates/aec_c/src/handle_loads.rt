@@ -4,8 +4,9 @@ ghost use Rattle.std.specs.Prelude.{◌≡◌, IfOk, IfErr};
 ghost use Rattle.aec_c.specs.Calls.{settings_of, count_of};
 ghost use Rattle.aec_c.specs.HandleLoads.{AreRead, CannotRead, Holds, CannotHold, Loads};
 
-use crate::handle::{Handle, OpenWorkspace};
-use crate::handle_reads::{close_workspace, fresh_workspace};
+use crate::handle::Handle;
+use crate::handle_reads::fresh_workspace;
+use crate::kinds::{Open, OpenWorkspace};
 use crate::options::{MAX_SAMPLES, Options, count_of, settings_of};
 use crate::reply::{Reply, answered, refused};
 use aec_bits::BitBuf;
@@ -26,12 +27,8 @@ fn reading(alloc: Global, options: &Options, count: u64, bytes: &[u8]) -> Result
 }
 
 /// Returns a workspace with these samples.
-fn workspace_with(
-    alloc: Global,
-    options: &Options,
-    samples: &[i64],
-) -> Result<Box<OpenWorkspace>, Fault>
-    ensures ok { IfOk result (λ work. Holds (settings_of options.now) samples.now work.value) }
+fn workspace_with(alloc: Global, options: &Options, samples: &[i64]) -> Result<OpenWorkspace, Fault>
+    ensures ok { IfOk result (λ work. Holds (settings_of options.now) samples.now work) }
     ensures refuses { IfErr result (λ e. CannotHold (settings_of options.now) samples.now e) }
 {
     let mut work = fresh_workspace(alloc, options)?;
@@ -54,11 +51,10 @@ pub(crate) fn load(
 {
     match reading(alloc, options, count, bytes) {
         Ok(samples) => match workspace_with(alloc, options, &samples) {
-            Ok(work) => {
-                close_workspace(alloc, handle);
-                *handle = Handle::of(work);
-                answered(samples.len() as u64)
-            }
+            Ok(work) => match handle.hold(alloc, Open::Workspace(work)) {
+                Ok(()) => answered(samples.len() as u64),
+                Err(fault) => refused(fault),
+            },
             Err(fault) => refused(fault),
         },
         Err(fault) => refused(fault),

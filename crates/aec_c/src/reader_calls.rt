@@ -2,25 +2,26 @@
 
 ghost use Rattle.std.specs.Prelude.{◌≡◌, None};
 ghost use Rattle.aec_c.specs.Calls.{settings_of, count_of};
+ghost use Rattle.aec_c.specs.Kinds.{reader_in};
 ghost use Rattle.aec_c.specs.HandleCalls.{OnHandle};
 ghost use Rattle.aec_c.specs.Readers.{OpensReader, PutsNext, GoesTo};
 
+use crate::handle::Handle;
 use crate::options::Options;
-use crate::reader_handle::ReaderHandle;
-use crate::readers::{close_reader, go_to, open_reader, put_next};
+use crate::readers::{go_to, open_reader, put_next};
 use crate::reply::Reply;
 use std::alloc::Global;
 
 /// Opens a reader at the first sample of a stream, of which it keeps a copy. Replies how many bytes
-/// the stored samples of a whole interval take. On success the reader that the handle held is
-/// freed; on an error the handle is unchanged.
+/// the stored samples of a whole interval take. On success what the handle held is freed; on an
+/// error the handle is unchanged.
 #[unsafe(no_mangle)]
 pub extern "C" fn aecp_reader_open(
     alloc: Global,
     options: &Options,
     count: u64,
     coded: &[u8],
-    reader: &mut ReaderHandle,
+    reader: &mut Handle,
     reply: &mut Reply,
 ) -> u32
     ensures opens { OpensReader (settings_of options.now) (count_of count) coded.now
@@ -36,14 +37,16 @@ pub extern "C" fn aecp_reader_open(
 #[unsafe(no_mangle)]
 pub extern "C" fn aecp_reader_next(
     alloc: Global,
-    reader: &mut ReaderHandle,
+    reader: &mut Handle,
     out: &mut [u8],
     reply: &mut Reply,
 ) -> u32
     ensures puts { PutsNext reader.old.value reader.new.value out.old out.new reply.new }
     ensures number { result ≡ reply.new.fault }
 {
-    *reply = put_next(alloc, reader, out);
+    let mut inside = reader.take(alloc);
+    *reply = put_next(alloc, &mut inside, out);
+    reader.put(inside);
     reply.fault
 }
 
@@ -51,22 +54,25 @@ pub extern "C" fn aecp_reader_next(
 #[unsafe(no_mangle)]
 pub extern "C" fn aecp_reader_go_to(
     alloc: Global,
-    reader: &mut ReaderHandle,
+    reader: &mut Handle,
     interval: u64,
     reply: &mut Reply,
 ) -> u32
-    ensures goes { OnHandle (GoesTo interval) reader.old.value reader.new.value reply.new }
+    ensures goes { OnHandle reader_in (GoesTo interval) reader.old.value reader.new.value
+        reply.new }
     ensures number { result ≡ reply.new.fault }
 {
-    *reply = go_to(alloc, reader, interval);
+    let mut inside = reader.take(alloc);
+    *reply = go_to(alloc, &mut inside, interval);
+    reader.put(inside);
     reply.fault
 }
 
 // bare: a wrong body would show no more than that of `aecp_close`
-/// Frees the reader that a handle holds.
+/// Frees what a handle holds.
 #[unsafe(no_mangle)]
-pub extern "C" fn aecp_reader_close(alloc: Global, reader: &mut ReaderHandle)
+pub extern "C" fn aecp_reader_close(alloc: Global, reader: &mut Handle)
     ensures { reader.new.value ≡ None }
 {
-    close_reader(alloc, reader);
+    let _freed = reader.take(alloc);
 }

@@ -6,19 +6,19 @@ ghost use Rattle.aec_params.specs.Params.{IsAllowed, interval_len, storage_len};
 ghost use Rattle.aec_params.specs.Codewords.{bits_of_bytes};
 ghost use Rattle.aec_interval.specs.Reached.{count_refusal};
 ghost use Rattle.aec_c.specs.Calls.{settings_of, count_of};
+ghost use Rattle.aec_c.specs.Kinds.{value_in, reader_in};
 ghost use Rattle.aec_c.specs.HandleCalls.{OnHandle};
 ghost use Rattle.aec_c.specs.Standing.{standing_at};
 ghost use Rattle.aec_c.specs.Readers.{OpensReader, ReadsNext, PutsNext, GoesTo};
 
 use crate::answers::params_of;
+use crate::handle::Handle;
 use crate::held_reader::HeldReader;
-use crate::open_reader::OpenReader;
+use crate::kinds::{Open, OpenReader};
 use crate::options::{Options, count_of};
-use crate::reader_handle::ReaderHandle;
 use crate::reply::{Reply, answered, not_open, refused, too_long};
 use aec_params::{Fault, Params, put_samples};
 use std::alloc::Global;
-use std::mem;
 
 /// Returns a reader at the first bit of coded bytes.
 fn fresh_reader(
@@ -26,15 +26,15 @@ fn fresh_reader(
     params: Params,
     count: Option<u64>,
     coded: &[u8],
-) -> Result<Box<OpenReader>, Fault>
-    ensures ok { IfOk result (λ made. made.value.reader
+) -> Result<OpenReader, Fault>
+    ensures ok { IfOk result (λ made. made.reader
         ≡ standing_at params count (bits_of_bytes coded.now) 0 0 0) }
     ensures refuses { IfErr result
         (λ fault. (fault ≡ Memory) ⊎ (count_refusal (2 ^ 32) count ≡ Some fault)) }
 {
     let reader = HeldReader::new(alloc, params, count, coded)?;
     let samples = Vec::with_capacity(alloc, params.interval_len() as usize)?;
-    Ok(Box::new(alloc, OpenReader { reader, samples })?)
+    Ok(OpenReader { reader, samples })
 }
 
 /// Returns how many bytes the samples of a whole interval take.
@@ -44,20 +44,13 @@ fn interval_bytes(params: &Params) -> u64
     params.interval_len() * params.storage() as u64
 }
 
-/// Frees the reader that a handle holds.
-pub(crate) fn close_reader(alloc: Global, handle: &mut ReaderHandle)
-    ensures { handle.new.value ≡ None }
-{
-    let _held = mem::replace(handle, ReaderHandle::empty()).into_box(alloc);
-}
-
 /// Replaces what a handle holds by a reader at the first bit of coded bytes.
 pub(crate) fn open_reader(
     alloc: Global,
     options: &Options,
     count: u64,
     coded: &[u8],
-    handle: &mut ReaderHandle,
+    handle: &mut Handle,
 ) -> Reply
     ensures { OpensReader (settings_of options.now) (count_of count) coded.now
         handle.old.value handle.new.value result }
@@ -67,11 +60,10 @@ pub(crate) fn open_reader(
         Err(fault) => return refused(fault),
     };
     match fresh_reader(alloc, params, count_of(count), coded) {
-        Ok(made) => {
-            close_reader(alloc, handle);
-            *handle = ReaderHandle::of(made);
-            answered(interval_bytes(&params))
-        }
+        Ok(made) => match handle.hold(alloc, Open::Reader(made)) {
+            Ok(()) => answered(interval_bytes(&params)),
+            Err(fault) => refused(fault),
+        },
         Err(fault) => refused(fault),
     }
 }
@@ -106,29 +98,28 @@ fn go_open(alloc: Global, made: &mut OpenReader, interval: u64) -> Reply
 }
 
 /// Writes the stored samples of the next interval to a buffer, by the reader that a handle holds.
-pub(crate) fn put_next(alloc: Global, handle: &mut ReaderHandle, out: &mut [u8]) -> Reply
-    ensures { PutsNext handle.old.value handle.new.value out.old out.new result }
+pub(crate) fn put_next(alloc: Global, inside: &mut Option<Box<Open>>, out: &mut [u8]) -> Reply
+    ensures { PutsNext (value_in inside.old) (value_in inside.new) out.old out.new result }
 {
-    match mem::replace(handle, ReaderHandle::empty()).into_box(alloc) {
-        Some(mut made) => {
-            let reply = next_open(alloc, &mut made, out);
-            *handle = ReaderHandle::of(made);
-            reply
-        }
+    match inside {
+        Some(held) => match &mut **held {
+            Open::Reader(made) => next_open(alloc, made, out),
+            _ => not_open(),
+        },
         None => not_open(),
     }
 }
 
 /// Goes to where an interval begins, by the reader that a handle holds.
-pub(crate) fn go_to(alloc: Global, handle: &mut ReaderHandle, interval: u64) -> Reply
-    ensures { OnHandle (GoesTo interval) handle.old.value handle.new.value result }
+pub(crate) fn go_to(alloc: Global, inside: &mut Option<Box<Open>>, interval: u64) -> Reply
+    ensures { OnHandle reader_in (GoesTo interval) (value_in inside.old) (value_in inside.new)
+        result }
 {
-    match mem::replace(handle, ReaderHandle::empty()).into_box(alloc) {
-        Some(mut made) => {
-            let reply = go_open(alloc, &mut made, interval);
-            *handle = ReaderHandle::of(made);
-            reply
-        }
+    match inside {
+        Some(held) => match &mut **held {
+            Open::Reader(made) => go_open(alloc, made, interval),
+            _ => not_open(),
+        },
         None => not_open(),
     }
 }

@@ -27,7 +27,7 @@ append_can f limit old s values old_is held few = record {
   few = omega (arith, old_is, few);
 }
 
-append_calls : (n old : ℕ) (values : Samples) → 0 < length values → exchange_calls n old (length values) ≡ needed_calls n old (Append values)
+pub append_calls : (n old : ℕ) (values : Samples) → 0 < length values → exchange_calls n old (length values) ≡ needed_calls n old (Append values)
 append_calls n old values some = rw (ne_eqb (length values) 0 (λ e. absurd (omega arith))) refl
 
 append_opens : (n old : ℕ) (values : Samples) → 0 < n → 0 < length values → opened_count n old (from_to old old) ≤ opened_intervals n old (Append values)

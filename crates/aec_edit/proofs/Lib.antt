@@ -25,3 +25,8 @@ pub mod RemoveLemmas
 pub mod RangeLemmas
 pub mod EarlyLemmas
 pub mod OneReadingLemmas
+pub mod PieceLemmas
+pub mod BatchLemmas
+pub mod DraftLemmas
+pub mod RebuildLemmas
+pub mod CopyLemmas

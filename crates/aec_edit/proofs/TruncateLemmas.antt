@@ -24,7 +24,7 @@ use Rattle.aec_edit.proofs.OpenedLemmas.{nothing_first, nothing_last, first_few,
 cut_inside : (n old stop : ℕ) → stop < old → cut_calls n old stop ≡ inside_calls n stop
 cut_inside n old stop less = rw (ne_eqb stop old (λ e. absurd (omega arith))) refl
 
-truncate_calls : (n old stop : ℕ) → 0 < n → stop < old → exchange_calls n stop 0 ≡ cut_calls n old stop
+pub truncate_calls : (n old stop : ℕ) → 0 < n → stop < old → exchange_calls n stop 0 ≡ cut_calls n old stop
 truncate_calls n old stop h less =
     let inside = cut_inside n old stop less in
     let same : stop + 0 ≡ stop = omega arith in

@@ -4,6 +4,7 @@ pub mod Unchanged
 pub mod Early
 pub mod Steps
 pub mod Index
+pub mod Pieces
 pub mod Fresh
 pub mod Coming
 pub mod CodedLists
@@ -11,6 +12,9 @@ pub mod Opened
 pub mod Changes
 pub mod Runs
 pub mod Stops
+pub mod Batches
+pub mod Batched
+pub mod Drafts
 pub mod Left
 pub mod Judged
 pub mod Laws

@@ -180,7 +180,7 @@ impl<C: Codec> Workspace<C> {
     }
 
     /// Checks that all values are samples. The fault names the place of the first one that isn't.
-    fn check_values(&self, values: &[i64]) -> Result<(), Fault>
+    pub(crate) fn check_values(&self, values: &[i64]) -> Result<(), Fault>
         ensures ok { OnOk result (AreValues (C.format self.now.codec) values.now) }
         ensures refuses { IfErr result
             (λ e. values_refusal (C.format self.now.codec) values.now ≡ Some e) }

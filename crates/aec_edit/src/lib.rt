@@ -3,6 +3,7 @@
 //! A `Workspace` applies edits (`apply`, `run`) and reads samples back (`range`).
 #![tactic(auto)]
 
+mod batch;
 mod coded;
 mod edited;
 mod editing;
@@ -10,6 +11,7 @@ mod exchanging;
 mod index;
 pub mod laws;
 mod outcome;
+mod pieces;
 mod ranging;
 mod workspace;
 

@@ -1,6 +1,7 @@
 //! The workspace: a coded list of samples.
 
 pub(crate) mod fresh_coding;
+pub(crate) mod rebuilding;
 
 ghost use Rattle.aec_edit.specs.Index.{KeptSamples, one_list};
 

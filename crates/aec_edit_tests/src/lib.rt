@@ -5,6 +5,8 @@
 #[cfg(test)]
 mod asserts;
 #[cfg(test)]
+mod batches;
+#[cfg(test)]
 mod many_intervals;
 #[cfg(test)]
 mod mixed_edits;

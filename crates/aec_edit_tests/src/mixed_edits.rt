@@ -26,7 +26,7 @@ const SHORT: Row = Row {
     limit: 100,
 };
 
-const ROWS: [Row; 11] = [
+pub(crate) const ROWS: [Row; 11] = [
     SHORT,
     Row {
         settings: Settings {
@@ -163,7 +163,7 @@ const ROWS: [Row; 11] = [
 ];
 
 /// Returns the next pseudorandom number below the bound.
-fn below(seed: &mut u64, bound: u64) -> u64 {
+pub(crate) fn below(seed: &mut u64, bound: u64) -> u64 {
     *seed = seed
         .wrapping_mul(6_364_136_223_846_793_005)
         .wrapping_add(1_442_695_040_888_963_407);
@@ -218,7 +218,7 @@ fn some_len(seed: &mut u64, row: &Row) -> u64 {
 }
 
 /// Returns some edit of `count` samples.
-fn some_edit(alloc: Global, seed: &mut u64, row: &Row, count: u64) -> Result<Edit, AllocError> {
+pub(crate) fn some_edit(alloc: Global, seed: &mut u64, row: &Row, count: u64) -> Result<Edit, AllocError> {
     let kind = below(seed, 20);
     let place = some_place(seed, row, count);
     if kind < 2 {
@@ -265,7 +265,7 @@ fn code_of(
 
 /// Checks that the stream is the code of the list, and that each interval begins where the code of
 /// the samples before it ends.
-fn expect_code<R: Abort>(
+pub(crate) fn expect_code<R: Abort>(
     rt: &R,
     alloc: Global,
     params: &Params,

@@ -52,7 +52,7 @@ fn places_of(count: u64, edit: &Edit) -> (u64, u64) {
 }
 
 /// Applies an edit to a plain list.
-fn change(alloc: Global, list: &mut Vec<i64>, edit: &Edit) -> Result<(), AllocError> {
+pub(crate) fn change(alloc: Global, list: &mut Vec<i64>, edit: &Edit) -> Result<(), AllocError> {
     let (first, stop) = places_of(list.len() as u64, edit);
     let mut behind = Vec::new(alloc);
     behind.extend_from_slice(list.get(stop as usize..).unwrap_or(&[]))?;

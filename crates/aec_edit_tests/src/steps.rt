@@ -247,3 +247,12 @@ pub(crate) fn stop_text<C: Codec>(
         Err(stop) => Ok(format!(in alloc; "{} {}", stop.place, stop.fault)?),
     }
 }
+
+/// Applies edits as one. Returns how many intervals were coded, or the place and the fault of the
+/// refused edit.
+pub(crate) fn apply_all<C: Codec>(
+    work: &mut Workspace<C>,
+    edits: &[Edit],
+) -> Result<u64, (u64, Fault)> {
+    work.apply_all(edits).map_err(|stop| (stop.place, stop.fault))
+}

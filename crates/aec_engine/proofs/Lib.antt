@@ -37,3 +37,4 @@ pub mod BufferLemmas
 pub mod KeptBufferLemmas
 pub mod RangeBufferLemmas
 pub mod OffsetBufferLemmas
+pub mod FromBitLemmas

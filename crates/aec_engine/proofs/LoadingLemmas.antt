@@ -1,6 +1,6 @@
 -- Samples of coded bits are appended to a workspace in whole intervals, and edits are made in
 -- between.
-use Rattle.std.proofs.Common.{◌≡◌, ◌⊎◌, inl, inr, ℕ, ◌+◌, ◌-◌, ◌*◌, ◌/◌, ◌%◌, ◌^◌, ◌<◌, ◌≤◌, Bool, true, false, if◌then◌else◌, IsTrue, Option, Some, None, Result, Ok, Err, IfErr, ℤ, List, [], ◌∷◌, ◌++◌, length, refl, sym, ap, ap₂, ◌∙◌, subst, arith, append_assoc}
+use Rattle.std.proofs.Common.{◌≡◌, ◌⊎◌, inl, inr, ℕ, ◌+◌, ◌-◌, ◌*◌, ◌/◌, ◌%◌, ◌^◌, ◌<◌, ◌≤◌, Bool, true, false, if◌then◌else◌, IsTrue, Option, Some, None, Result, Ok, Err, ℤ, List, [], ◌∷◌, ◌++◌, length, refl, sym, ap, ap₂, ◌∙◌, subst, arith, append_assoc}
 use Rattle.std.specs.Prelude.{MatchOption, nat_lt, ◌&&◌}
 use Rattle.std.specs.List.{AllByRecursion, list_all}
 use Rattle.std.specs.Option.{option_or}
@@ -21,18 +21,17 @@ use Rattle.aec_bits.proofs.RefusalLaws.{append_fits}
 use Rattle.aec_edit.specs.Calls.{due_refusal, want_of_calls}
 use Rattle.aec_edit.specs.Steps.{LacksMemory, IsAccepted, IsRefused}
 use Rattle.aec_interval.specs.IntervalFormat.{interval_format}
-use Rattle.aec_interval.specs.Reached.{count_refusal, RefusesDecoding}
+use Rattle.aec_interval.specs.Reached.{count_refusal}
 use Rattle.aec_interval.specs.Pieces.{Place, is_wanted_at, HasRead}
 use Rattle.aec_interval.proofs.ReadingLemmas.{length-stream_blocks, readings_are_samples, bits_are_read_in_one_way}
 use Rattle.aec_interval.proofs.PieceReadingLemmas.{has_read_nothing, has_read_all, has_read_front, has_read_whole}
 use Rattle.aec_engine.specs.declared.scripts.EditFault.{EditFault}
 use Rattle.aec_engine.specs.declared.scripts.EditFault.TheVariants.{Plain}
-use Rattle.aec_engine.specs.Transfers.{answer_by}
 use Rattle.aec_engine.specs.Scripts.{Listing}
 use Rattle.aec_engine.specs.Editing.{left_with, edits_left, first_calls, Recoded}
 use Rattle.aec_engine.specs.EditingSteps.{StopsEditing, recoded_of}
 use Rattle.aec_engine.specs.EarlyEdits as early
-use Rattle.aec_engine.specs.EarlyEdits.{LeadsToEdits, CarriesEarly, StopsEarly, LoadsAll, StopsLoading, EditsSamples, no_room, makes, EditsBits, not_read, lacks_room, stopped}
+use Rattle.aec_engine.specs.EarlyEdits.{LeadsToEdits, CarriesEarly, StopsEarly, LoadsAll, StopsLoading, EditsSamples, no_room, makes, EditsBits, lacks_room, stopped}
 use Rattle.aec_engine.specs.ReadingTwice.{AreSamplesOf, ReadsOn, LacksMemoryAlone}
 use Rattle.aec_engine.proofs.CallLemmas.{append_calls-le, append_calls-joined}
 use Rattle.aec_engine.proofs.EarlyEditLemmas.{leads-nowhere, leads-on, leads-stop}
@@ -293,88 +292,37 @@ append_lacks start p q f g limit most script ahead w ys zs xs called after fault
     held = subst (λ zs. AreHeld g zs) (sym same) (subst (λ f. AreHeld f ys) (sym (format ∙ is)) (held-format start.settings ys
         (subst (λ s. AllByRecursion (IsHeld s) ys) settings step.held)))
 
--- ---- the same, stated by the code's variables
-
-pub stops_err : {X : Type 0} (r : Result X EditFault) (e : EditFault) (f : Format) (limit : ℕ) (script : Listing) (start : Place)
-    → r ≡ Err e → StopsLoading f limit script start e → IfErr r (λ fault. StopsLoading f limit script start fault)
-stops_err r e f limit script start is stops = subst (λ r. IfErr r (λ fault. StopsLoading f limit script start fault)) (sym is) stops
-
 -- an edit in between was refused, or there was no memory to read it
-pub early_err : {X : Type 0} (r : Result X EditFault) (e fault : EditFault) (f : Format) (limit : ℕ) (script : Listing) (start : Place) (Stops : Type 0)
-    → r ≡ Err e → e ≡ fault → (fault ≡ Plain Memory) ⊎ Stops
+pub early_stops : (fault : EditFault) (f : Format) (limit : ℕ) (script : Listing) (start : Place) (Stops : Type 0) → (fault ≡ Plain Memory) ⊎ Stops
     → (Stops → (xs : List ℤ) → AreSamplesOf start xs → StopsEditing f limit (first_calls f xs) xs script.edits script.lines fault)
-    → IfErr r (λ fault. StopsLoading f limit script start fault)
-early_err r e fault f limit script start Stops is same (inl memory) stops = stops_err r fault f limit script start (is ∙ ap Err same) (inl memory)
-early_err r e fault f limit script start Stops is same (inr refused) stops =
-    stops_err r fault f limit script start (is ∙ ap Err same) (inr (stops refused))
-
-pub refuses_err : {X : Type 0} (r : Result X Fault) (fault : Fault) (P : Fault → Type 0) → r ≡ Err fault → P fault → IfErr r P
-refuses_err r fault P is holds = subst (λ r. IfErr r P) (sym is) holds
+    → StopsLoading f limit script start fault
+early_stops fault f limit script start Stops (inl memory) stops = inl memory
+early_stops fault f limit script start Stops (inr refused) stops = inr (stops refused)
 
 -- ---- results of edits on samples
 
-pub no_room_err : {X : Type 0} (view : X → Recoded) (r : Result X EditFault) (e : EditFault) (f : Fault) (s : Settings) (limit : ℕ) (start : Place)
-    (script : Listing) → r ≡ Err e → e ≡ Plain f → f ≡ Memory → EditsSamples s limit start script (answer_by view r)
-no_room_err view r e f s limit start script is same memory =
-    subst (λ r. EditsSamples s limit start script (answer_by view r)) (sym (is ∙ ap Err (same ∙ ap Plain memory))) no_room
+module _ (s : Settings) (limit : ℕ) (start : Place) (script : Listing) where
+  -- not all samples were appended: an edit was refused, or there was no memory
+  pub loading_stopped : (fault : EditFault) → StopsLoading (interval_format s) limit script start fault → EditsSamples s limit start script (Err fault)
+  loading_stopped fault (inl memory) = rw memory no_room
+  loading_stopped fault (inr refused) = early.stops fault refused
 
--- not all samples were appended: an edit was refused, or there was no memory
-pub loading_err : {X : Type 0} (view : X → Recoded) (r : Result X EditFault) (e fault : EditFault) (s : Settings) (f : Format) (limit most : ℕ) (start : Place)
-    (given script : Listing) → r ≡ Err e → e ≡ fault → f ≡ interval_format s → most ≡ limit → given ≡ script → StopsLoading f most given start fault
-    → EditsSamples s limit start script (answer_by view r)
-loading_err view r e fault s f limit most start given script is same format limited read stops =
-    subst (λ r. EditsSamples s limit start script (answer_by view r)) (sym (is ∙ ap Err same))
-    (by_why (subst (λ given. StopsLoading (interval_format s) limit given start fault) read
-    (subst (λ limit. StopsLoading (interval_format s) limit given start fault) limited
-    (subst (λ f. StopsLoading f most given start fault) format stops))))
-  where
-    by_why : StopsLoading (interval_format s) limit script start fault → EditsSamples s limit start script (Err fault)
-    by_why (inl memory) = subst (λ fault. EditsSamples s limit start script (Err fault)) (sym memory) no_room
-    by_why (inr refused) = early.stops fault refused
+  -- all samples were appended
+  module _ (ahead : Listing) (left : List ℤ) (calls : ℕ) (loads : LoadsAll (interval_format s) limit script start ahead left calls) where
+    -- after that an edit was refused, or there was no memory to read it
+    pub rest_stopped : (fault : EditFault) → (fault ≡ Plain Memory) ⊎ StopsEditing (interval_format s) limit calls left ahead.edits ahead.lines fault
+        → EditsSamples s limit start script (Err fault)
+    rest_stopped fault (inl memory) = rw memory no_room
+    rest_stopped fault (inr stops) = early.stops fault (λ xs at.
+        leads-stop (interval_format s) limit (left_with xs (first_calls (interval_format s) xs)) (left_with left calls) script ahead fault (loads xs at) stops)
 
--- all samples were appended
-same_loads : (s : Settings) (f : Format) (limit most : ℕ) (start : Place) (given script ahead : Listing) (left : List ℤ) (calls : ℕ)
-    → f ≡ interval_format s → most ≡ limit → given ≡ script → LoadsAll f most given start ahead left calls
-    → LoadsAll (interval_format s) limit script start ahead left calls
-same_loads s f limit most start given script ahead left calls format limited read loads =
-    subst (λ given. LoadsAll (interval_format s) limit given start ahead left calls) read
-    (subst (λ limit. LoadsAll (interval_format s) limit given start ahead left calls) limited
-    (subst (λ f. LoadsAll f most given start ahead left calls) format loads))
-
--- after that an edit was refused, or there was no memory to read it
-pub rest_err : {X : Type 0} (view : X → Recoded) (r : Result X EditFault) (e fault : EditFault) (s : Settings) (f g : Format) (limit most more : ℕ)
-    (start : Place) (given script ahead : Listing) (left : List ℤ) (calls : ℕ) → r ≡ Err e → e ≡ fault → f ≡ interval_format s → g ≡ f
-    → most ≡ limit → more ≡ most → given ≡ script → LoadsAll f most given start ahead left calls
-    → (fault ≡ Plain Memory) ⊎ StopsEditing g more calls left ahead.edits ahead.lines fault → EditsSamples s limit start script (answer_by view r)
-rest_err view r e fault s f g limit most more start given script ahead left calls is same format still limited kept read loads refused =
-    subst (λ r. EditsSamples s limit start script (answer_by view r)) (sym (is ∙ ap Err same)) (by_why refused)
-  where
-    by_why : (fault ≡ Plain Memory) ⊎ StopsEditing g more calls left ahead.edits ahead.lines fault → EditsSamples s limit start script (Err fault)
-    by_why (inl memory) = subst (λ fault. EditsSamples s limit start script (Err fault)) (sym memory) no_room
-    by_why (inr stops) = early.stops fault (λ xs at.
-        leads-stop (interval_format s) limit (left_with xs (first_calls (interval_format s) xs)) (left_with left calls) script ahead fault
-        (same_loads s f limit most start given script ahead left calls format limited read loads xs at)
-        (subst (λ limit. StopsEditing (interval_format s) limit calls left ahead.edits ahead.lines fault) (kept ∙ limited)
-        (subst (λ f. StopsEditing f more calls left ahead.edits ahead.lines fault) (still ∙ format) stops)))
-
--- after that all edits were made
-pub rest_made : (s : Settings) (f g h : Format) (limit most more : ℕ) (start : Place) (given script ahead : Listing) (left last : List ℤ)
-    (calls after : ℕ) → f ≡ interval_format s → g ≡ f → h ≡ g → most ≡ limit → more ≡ most → given ≡ script
-    → LoadsAll f most given start ahead left calls → edits_left g more calls left ahead.edits ahead.lines ≡ Ok (left_with last after)
-    → EditsSamples s limit start script (Ok (recoded_of h last after))
-rest_made s f g h limit most more start given script ahead left last calls after format still again limited kept read loads is =
-    subst (λ h. EditsSamples s limit start script (Ok (recoded_of h last after))) (sym (again ∙ still ∙ format))
-    (makes (left_with last after) (λ xs at. (same_loads s f limit most start given script ahead left calls format limited read loads xs at).same
-    ∙ subst (λ limit. edits_left (interval_format s) limit calls left ahead.edits ahead.lines ≡ Ok (left_with last after)) (kept ∙ limited)
-    (subst (λ f. edits_left f more calls left ahead.edits ahead.lines ≡ Ok (left_with last after)) (still ∙ format) is)))
+    -- after that all edits were made
+    pub rest_made : (last : List ℤ) (after : ℕ)
+        → edits_left (interval_format s) limit calls left ahead.edits ahead.lines ≡ Ok (left_with last after)
+        → EditsSamples s limit start script (Ok (recoded_of (interval_format s) last after))
+    rest_made last after is = makes (left_with last after) (λ xs at. (loads xs at).same ∙ is)
 
 -- ---- results of edits on bits
-
-pub unread_err : {X : Type 0} (view : X → Recoded) (r : Result X EditFault) (e : EditFault) (f : Fault) (s : Settings) (caps : Caps) (count : Option ℕ)
-    (bits : List Bool) (script : Listing) → r ≡ Err e → e ≡ Plain f → RefusesDecoding s count caps.samples bits f
-    → EditsBits s caps count bits script (answer_by view r)
-unread_err view r e f s caps count bits script is same refuses =
-    subst (λ r. EditsBits s caps count bits script (answer_by view r)) (sym (is ∙ ap Err same)) (not_read f refuses)
 
 pub edits_bits : (s : Settings) (caps : Caps) (count : Option ℕ) (bits : List Bool) (start : Place) (script : Listing)
     (answer : Result Recoded EditFault) → (xs : List ℤ) → AreSamplesOf start xs

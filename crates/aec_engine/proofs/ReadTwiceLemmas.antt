@@ -10,10 +10,10 @@ use Rattle.aec_params.specs.Params.{IsAllowed}
 use Rattle.aec_params.specs.Reading.{IsReading}
 use Rattle.aec_params.specs.Faults.{IsFault, IsWrongAt, not_read, cut_short, too_large, too_long, too_many}
 use Rattle.aec_params.proofs.SettingLaws.{block_size-most}
-use Rattle.aec_interval.specs.Reached.{RefusesReading, no_memory, faulty, wrong_before}
+use Rattle.aec_interval.specs.Reached.{RefusesReading}
 use Rattle.aec_interval.specs.Pieces.{Place, place_at, is_wanted_at, IsPlace, ReadsIntervals, HasRead, RefusesAt}
-use Rattle.aec_interval.specs.Skipping.{HasInterval, IsFaultAt}
-use Rattle.aec_interval.proofs.PieceReadingLemmas.{has_read_nothing, has_read_several, several-of_one, has_read_all, has_read_refused, has_read_few}
+use Rattle.aec_interval.specs.Skipping.{HasInterval, HasIntervals}
+use Rattle.aec_interval.proofs.PieceReadingLemmas.{has_read_nothing, has_read_several, several-of_one, has_read_all, has_read_refused, has_read_wrong, has_read_few}
 use Rattle.aec_engine.specs.ReadingTwice.{EndsAt, HaveSamples, IsBegun}
 
 -- block i at bit b, in the reading of place p
@@ -98,6 +98,31 @@ counts_within start p q total len a so_far has few =
 pub some_interval : (p q : Place) (found : Option ℕ) (len : ℕ) → IfSome found (λ len. HasInterval p len q) → found ≡ Some len → HasInterval p len q
 some_interval p q found len has is = subst (λ found. IfSome found (λ len. HasInterval p len q)) is has
 
+-- ---- several intervals that are skipped
+
+pub counts_several : (start p q : Place) (total more len : ℕ) → IsAllowed start.settings → CountsSoFar start p total → HasIntervals p len q
+    → more ≡ total + len → q.block < 2 ^ 34 → CountsSoFar start q more
+counts_several start p q total more len a so_far has is few =
+    counts_more start p q total more has.samples a so_far has.read (omega (arith, is, has.counted)) few
+
+-- with their samples, the count is at most 2^40 too
+pub several_within : (start p q : Place) (total len : ℕ) → IsAllowed start.settings → CountsSoFar start p total → HasIntervals p len q
+    → q.block < 2 ^ 34 → total + len ≤ 2 ^ 40
+several_within start p q total len a so_far has few =
+    counts_few start q (total + len) a (counts_several start p q total (total + len) len a so_far has refl few)
+
+pub some_several : (p q : Place) (found : Option ℕ) (len : ℕ) → IfSome found (λ len. HasIntervals p len q) → found ≡ Some len → HasIntervals p len q
+some_several p q found len has is = subst (λ found. IfSome found (λ len. HasIntervals p len q)) is has
+
+-- the fault of a reading from a place on is that of the whole reading
+pub counts_wrong : {X : Type 0} (r : Result X Fault) (fault other : Fault) (start p : Place) (total : ℕ) → IsAllowed start.settings → r ≡ Err fault
+    → fault ≡ other → CountsSoFar start p total → IsFault p.settings p.count p.limit p.bits p.block p.bit other
+    → IfErr r (λ fault. IsFault start.settings start.count start.limit start.bits 0 0 fault)
+counts_wrong {X} r fault other start p total a is same so_far wrong =
+    let P : Result X Fault → Type 0 = λ r. IfErr r (λ fault. IsFault start.settings start.count start.limit start.bits 0 0 fault) in
+    let whole = has_read_wrong p so_far.samples other (subst IsAllowed (sym (settings-same start p so_far.same)) a) so_far.read wrong in
+    subst P (sym (is ∙ ap Err same)) (subst (λ (p : Place). IsFault p.settings p.count p.limit p.bits 0 0 other) so_far.same whole)
+
 -- the fault of bits is never `Memory`
 pub faults_last : (s : Settings) (count : Option ℕ) (limit : ℕ) (bits : List Bool) (i b : ℕ) (fault : Fault) → IsFault s count limit bits i b fault
     → fault ≢ Memory
@@ -108,23 +133,6 @@ faults_last s count limit bits i b fault is_fault = by_wrong is_fault.block is_f
     by_wrong i b fault (not_read f (too_large c at large)) = λ same. absurd (cc)
     by_wrong i b fault (too_long c at small past) = λ same. absurd (cc)
     by_wrong i b fault (too_many c at lawful past) = λ same. absurd (cc)
-
-pub counts_wrong : {X : Type 0} (r : Result X Fault) (fault other : Fault) (start p : Place) (total : ℕ) → IsAllowed start.settings → r ≡ Err fault
-    → fault ≡ other
-    → CountsSoFar start p total → IsFaultAt p other → IfErr r (λ fault. IsFault start.settings start.count start.limit start.bits 0 0 fault)
-counts_wrong {X} r fault other start p total a is same so_far wrong =
-    let P : Result X Fault → Type 0 = λ r. IfErr r (λ fault. IsFault start.settings start.count start.limit start.bits 0 0 fault) in
-    let at = wrong.wrong in
-    let whole = has_read_refused p so_far.samples other (subst IsAllowed (sym (settings-same start p so_far.same)) a) so_far.read
-    (wrong_before other at wrong.before) in
-    let lasting = faults_last _ _ _ _ _ _ other at in
-    subst P (sym (is ∙ ap Err same)) (subst (λ (p : Place). IsFault p.settings p.count p.limit p.bits 0 0 other) so_far.same
-    (fault_of _ _ _ _ other whole lasting))
-  where
-    fault_of : (s : Settings) (count : Option ℕ) (limit : ℕ) (bits : List Bool) (fault : Fault) → RefusesReading s count limit bits 0 0 fault → fault ≢ Memory
-        → IsFault s count limit bits 0 0 fault
-    fault_of s count limit bits fault (no_memory behind) lasting = absurd (lasting refl)
-    fault_of s count limit bits fault (faulty f is_fault) lasting = is_fault
 
 -- ---- a place that is noted
 

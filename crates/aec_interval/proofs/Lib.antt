@@ -43,6 +43,7 @@ pub mod PieceReadingLemmas
 pub mod ShortLemmas
 pub mod UntestedRunLemmas
 pub mod SkippingLemmas
+pub mod SkippedBlockLemmas
 pub mod IntervalFormatLemmas
 pub mod IntervalReadingLemmas
 pub mod PieceLemmas

@@ -288,6 +288,11 @@ pub has_read_refused : (p : Place) (xs : List ℤ) (fault : Fault) → IsAllowed
 has_read_refused p xs fault a read refuses =
     refusal-of_all p.settings a p.count p.limit p.bits p.block p.bit xs read fault (up_to-reading _ _ _ _ _ _ _ _ refuses)
 
+-- a fault from a place on is the fault of the whole reading
+pub has_read_wrong : (p : Place) (xs : List ℤ) (fault : Fault) → IsAllowed p.settings → HasRead p xs
+    → IsFault p.settings p.count p.limit p.bits p.block p.bit fault → IsFault p.settings p.count p.limit p.bits 0 0 fault
+has_read_wrong p xs fault a read wrong = fault-of_all p.settings a p.count p.limit p.bits p.block p.bit xs read fault wrong
+
 -- if the bits have a reading, a step is refused only with `Memory`
 pub lacks_memory_only : (p : Place) (xs samples : List ℤ) (fault : Fault) → IsAllowed p.settings → HasRead p xs
     → IsReading p.settings p.count p.limit p.bits samples

@@ -28,7 +28,7 @@ use Rattle.aec_interval.specs.Reached.{AreFilled, IsReached}
 use Rattle.aec_interval.specs.Pieces.{Place, place_at, counted_from, ReadsIntervals}
 use Rattle.aec_interval.specs.Steps.{IsUntestedEnd}
 use Rattle.aec_interval.specs.UntestedBlocks.{IsUntestedAt, ReadsBlocks}
-use Rattle.aec_interval.specs.ShortIntervals.{AreWithin, begun_at, ReadsFirst, ReadsWhole, FillsFirst, FillsIntervals}
+use Rattle.aec_interval.specs.ShortIntervals.{AreWithin, begun_at, ReadsFirst, ReadsWhole, FillsIntervals}
 use Rattle.aec_interval.proofs.NextFillLemmas.{fills_block_single, fills_block_reference}
 use Rattle.aec_interval.proofs.ReadNextLemmas.{reached-start, next-cds, reached-next}
 use Rattle.aec_interval.proofs.PlaceLemmas.{LeadsTo-append, stream_blocks-append}

@@ -17,7 +17,7 @@ use Rattle.aec_params.proofs.BlockShapeLaws.{AreBlocksFrom-front, AreBlocksFrom-
 use Rattle.aec_params.proofs.StreamLaws.{stream_blocks-shape}
 use Rattle.aec_params.proofs.FillLaws.{samples-of_blocks}
 use Rattle.aec_interval.specs.Pieces.{Place, place_at, counted_from}
-use Rattle.aec_interval.specs.Skipping.{IsLedTo, asked_len, HasInterval, AllSetsStandForSamples}
+use Rattle.aec_interval.specs.Skipping.{IsLedTo, asked_len, HasInterval, HasIntervals, AllSetsStandForSamples}
 use Rattle.aec_interval.proofs.CuttingLemmas.{div_ceil-bounds}
 use Rattle.aec_interval.proofs.ReachedLemmas.{length-stream_blocks}
 
@@ -135,3 +135,28 @@ place-skipped p s count limit list bits first bit start i b len is allowed begin
     subst (λ p. HasInterval p len (place_at s count limit bits i b)) from
     (subst (λ n. HasInterval (place_at s count limit bits first start) n (place_at s count limit bits i b)) (sym asked)
     (interval-skipped s count limit bits first start i b allowed aligned wanted_there led ahead within to_end))
+
+-- ---- several intervals
+
+-- several intervals skipped from the place of a reader
+pub places-skipped : (p : Place) (s : Settings) (count : Option ℕ) (limit : ℕ) (list bits : List Bool) (first bit start i b len : ℕ)
+    → place_at s count limit list first bit ≡ p → IsAllowed s → start ≡ bit → bits ≡ list → first % s.interval ≡ 0
+    → is_wanted s count list first bit ≡ true → IsLedTo s count limit bits first start i b → first < i → len ≡ asked_len s count first i
+    → HasIntervals p len (place_at s count limit bits i b)
+places-skipped p s count limit list bits first bit start i b len is allowed begins same aligned wanted led ahead asked =
+    let wanted_there : is_wanted s count bits first start ≡ true =
+    ap (λ l. is_wanted s count l first start) same ∙ (ap (is_wanted s count list first) begins ∙ wanted) in
+    let from : place_at s count limit bits first start ≡ p =
+    ap (λ l. place_at s count limit l first start) same ∙ (ap (place_at s count limit list first) begins ∙ is) in
+    let all = samples-of_sets s count limit bits first start led.sets i b allowed aligned led.leads in
+    let counted = length-counted_from s count limit bits first start led.sets i b all.0 allowed led.leads all.1 in
+    subst (λ p. HasIntervals p len (place_at s count limit bits i b)) from (record {
+      samples = counted_from s count first all.0;
+      read = record {
+        wanted = wanted_there;
+        begins = aligned;
+        piece = record { sets = led.sets; leads = led.leads; all_samples = all.0; filled = all.1; counted = refl; same = refl };
+        ahead = ahead;
+      };
+      counted = counted ∙ sym asked;
+    })

@@ -8,7 +8,7 @@ use Rattle.aec_params.specs.Params.{IsAllowed}
 use Rattle.aec_params.specs.CodedDataSets.{CodedDataSet}
 use Rattle.aec_params.specs.Reading.{LeadsTo}
 use Rattle.aec_params.specs.Faults.{IsFault}
-use Rattle.aec_interval.specs.Pieces.{Place, place_at, ReadsPiece, ReadsInterval}
+use Rattle.aec_interval.specs.Pieces.{Place, place_at, ReadsPiece, ReadsInterval, ReadsIntervals}
 
 -- from block `first` at position `start` on, some coded data sets lead to block i at position b
 -- (serves `StreamReader::skip`, as `asked_len` does)
@@ -31,6 +31,13 @@ asked_len s (Some count) i j = min ((j - i) * s.block_size) (count - i * s.block
 pub record HasInterval (p : Place) (len : ℕ) (q : Place) : Type 0 where
   pub samples : List ℤ
   pub read : ReadsInterval p samples q
+  pub counted : length samples ≡ len
+
+-- the next `len` samples are those up to a place further on (`ReadsIntervals` of some list of
+-- samples)
+pub record HasIntervals (p : Place) (len : ℕ) (q : Place) : Type 0 where
+  pub samples : List ℤ
+  pub read : ReadsIntervals p samples q
   pub counted : length samples ≡ len
 
 -- the fault in the interval that begins at a place

@@ -2,11 +2,13 @@
 -- What the steps of a reading need and how far they come, whether they make samples or skip them:
 -- for the private functions of `reading`, `reading::untested_blocks` and `reading::skipping`. The
 -- contract of `decode_all` cites `IsReading` and `IsFault` instead.
-use Rattle.std.specs.Prelude.{◌≡◌, ◌<◌, ◌≤◌, ◌+◌, ◌%◌, ◌^◌, ℕ, Bool, true, Option, IfSome, List}
+use Rattle.std.specs.Prelude.{◌≡◌, ◌<◌, ◌≤◌, ◌+◌, ◌*◌, ◌%◌, ◌^◌, ℕ, Bool, true, Option, IfSome, unwrap_or, List}
 use Rattle.std.specs.Int.{div_ceil}
 use Rattle.aec_params.specs.declared.settings.Settings.{Settings}
 use Rattle.aec_params.specs.Reading.{is_wanted, keeps_limit}
+use Rattle.aec_bits.specs.BitReader.{Cursor}
 use Rattle.aec_interval.specs.NextSet.{blocks_before_end}
+use Rattle.aec_interval.specs.Skipping.{IsLedTo}
 
 -- in a reading that began at block `first`, where an interval begins, block i is wanted, whose
 -- coded data set begins at position b
@@ -41,3 +43,16 @@ pub record IsGoneOver (s : Settings) (count : Option ℕ) (bits : List Bool) (fi
   pub few : next < 2 ^ 34
   pub to_end : is_wanted s count bits next b ≡ true → next ≡ first + s.interval
   pub ends : is_wanted s count bits next b ≡ true → next % s.interval ≡ 0
+
+-- n blocks, at most `most`, were skipped from place `place` of an interval on: the list is the
+-- same, and a reading that has come to the first of them comes past the last one, if their samples
+-- are within its count, or else its limit. Count and limit are at most 2^32, and no interval is
+-- padded
+pub record SkipsBlocks (s : Settings) (place most : ℕ) (old : Cursor) (n : ℕ) (new : Cursor) : Type 0 where
+  pub list : new.list ≡ old.list
+  pub within : n ≤ most
+  pub stays : n ≡ 0 → new ≡ old
+  pub leads : (count : Option ℕ) (limit first start i : ℕ) → i % s.interval ≡ place → limit ≤ 2 ^ 32
+      → IfSome count (λ m. m ≤ 2 ^ 32) → (0 < n → (i + n) * s.block_size ≤ unwrap_or count limit)
+      → IsLedTo s count limit old.list first start i old.pos
+      → IsLedTo s count limit old.list first start (i + n) new.pos

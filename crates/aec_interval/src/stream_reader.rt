@@ -2,7 +2,7 @@
 
 use crate::reached_place::ReachedPlace;
 use crate::reading::short::{is_zero_interval_next, read_short};
-use crate::reading::skipping::{count_asked, skip_interval};
+use crate::reading::skipping::{count_asked, skip_interval, skip_intervals};
 use crate::reading::whole::judge_count;
 use crate::reading::{Wanted, cut_to_count, read_interval, wants_more};
 use aec_bits::{BitBuf, BitReader};
@@ -40,9 +40,10 @@ impl<'a> StreamReader<'a> {
     ghost use Rattle.std.specs.Result.{result_err};
     ghost use Rattle.aec_params.specs.declared.fault.Fault.TheVariants.{Memory};
     ghost use Rattle.aec_params.specs.Params.{interval_len};
+    ghost use Rattle.aec_params.specs.Faults.{IsFault};
     ghost use Rattle.aec_interval.specs.Reached.{count_refusal};
     ghost use Rattle.aec_interval.specs.Pieces.{place_at, is_wanted_at, IsPlace, ReadsInterval, ReadsIntervals, RefusesAt};
-    ghost use Rattle.aec_interval.specs.Skipping.{HasInterval, IsFaultAt};
+    ghost use Rattle.aec_interval.specs.Skipping.{HasInterval, HasIntervals, IsFaultAt};
 
     /// Returns a reader at the first bit. It asks for the first `count` samples, or for all samples
     /// if `count` is `None`. Fails with `TooManySamples` if a given count is above `limit`, never
@@ -247,6 +248,50 @@ impl<'a> StreamReader<'a> {
             }
             Err(fault) => {
                 self.reader.seek(from.start);
+                Err(fault)
+            }
+        }
+    }
+
+    /// Moves past the next interval as `skip` does, or past several next intervals: then past at
+    /// most `most` samples, though no clause says so. How many intervals it passes is unspecified.
+    /// Returns how many of their samples are asked for; `None` if no more is wanted.
+    ///
+    /// Fails as `next` does, with the fault of one of these intervals, but never with `Memory`; the
+    /// reader then hasn't moved.
+    pub fn skip_few(&mut self, most: u64) -> Result<Option<u64>, Fault>
+        ensures more { IfOk result (λ len. is_some len ≡ is_wanted_at self.old) }
+        ensures skipped { IfOk result (λ len. IfSome len (λ n. HasIntervals self.old n self.new)) }
+        ensures done { IfOk result (λ len. is_some len ≡ false → self.new ≡ self.old) }
+        ensures refuses { IfErr result (λ fault. let old = self.old in
+            IsFault old.settings old.count old.limit old.bits old.block old.bit fault) }
+        ensures err { OnErr result (self.new ≡ self.old) }
+        ensures few { self.new.block < 2 ^ 34 }
+        ensures ends { is_wanted_at self.new ≡ true
+            → self.new.block % self.new.settings.interval ≡ 0 }
+    {
+        let begin = Wanted {
+            first: self.block,
+            start: self.reader.pos(),
+            count: self.count,
+            limit: self.limit,
+        };
+        if !wants_more(&self.params, begin, &self.reader, self.block) {
+            return Ok(None);
+        }
+        match skip_intervals(
+            &self.params,
+            begin,
+            most,
+            &mut self.reader,
+            &mut self.values,
+        ) {
+            Ok(end) => {
+                self.block = end;
+                Ok(Some(count_asked(&self.params, begin, end)))
+            }
+            Err(fault) => {
+                self.reader.seek(begin.start);
                 Err(fault)
             }
         }

@@ -5,13 +5,13 @@ use crate::raw;
 /// ```
 /// use aecp::Options;
 ///
-/// let options = Options::new(12).signed(true).block_size(32);
+/// let options = Options::new(12).with_signed(true).with_block_size(32);
 /// assert_eq!((options.bits(), options.storage()), (12, 2));
-/// assert_eq!((options.get_signed(), options.get_block_size()), (true, 32));
+/// assert_eq!((options.signed(), options.block_size()), (true, 32));
 /// ```
 ///
-/// The calls that take options check them. A setter accepts every value. For each setter a function
-/// `get_..` returns its value.
+/// The calls that take options check them. `with_..` returns new options, and accepts every value.
+/// The function without `with_` returns the value.
 #[derive(Clone, Copy, Debug, PartialEq, Eq, Hash)]
 pub struct Options(pub(crate) raw::Options);
 
@@ -34,65 +34,65 @@ impl Options {
     }
 
     /// Sets the number of samples in a block: 8, 16, 32 or 64; with
-    /// [`even_blocks`](Options::even_blocks) every even number from 8 to 64.
+    /// [`with_even_blocks`](Options::with_even_blocks) every even number from 8 to 64.
     #[must_use]
-    pub fn block_size(mut self, samples: u32) -> Options {
+    pub fn with_block_size(mut self, samples: u32) -> Options {
         self.0.block_size = samples;
         self
     }
 
     /// Sets the number of blocks in a reference sample interval, 1 to 4096.
     #[must_use]
-    pub fn interval(mut self, blocks: u32) -> Options {
+    pub fn with_interval(mut self, blocks: u32) -> Options {
         self.0.interval = blocks;
         self
     }
 
     /// Sets whether samples are signed.
     #[must_use]
-    pub fn signed(mut self, is_on: bool) -> Options {
+    pub fn with_signed(mut self, is_on: bool) -> Options {
         self.0.is_signed = is_on;
         self
     }
 
     /// Sets whether stored samples are big-endian, not little-endian.
     #[must_use]
-    pub fn msb_first(mut self, is_on: bool) -> Options {
+    pub fn with_msb_first(mut self, is_on: bool) -> Options {
         self.0.msb_first = is_on;
         self
     }
 
     /// Sets whether samples of 17 to 24 bits are stored in three bytes instead of four.
     #[must_use]
-    pub fn three_byte(mut self, is_on: bool) -> Options {
+    pub fn with_three_byte(mut self, is_on: bool) -> Options {
         self.0.three_byte = is_on;
         self
     }
 
     /// Sets whether each sample is predicted from the one before, which is the default.
     #[must_use]
-    pub fn preprocess(mut self, is_on: bool) -> Options {
+    pub fn with_preprocess(mut self, is_on: bool) -> Options {
         self.0.preprocess = is_on;
         self
     }
 
     /// Sets whether each interval is filled up to a byte boundary.
     #[must_use]
-    pub fn pad(mut self, is_on: bool) -> Options {
+    pub fn with_pad(mut self, is_on: bool) -> Options {
         self.0.pad = is_on;
         self
     }
 
     /// Sets whether only the restricted set of code options is used, for samples of at most 4 bits.
     #[must_use]
-    pub fn restricted(mut self, is_on: bool) -> Options {
+    pub fn with_restricted(mut self, is_on: bool) -> Options {
         self.0.restricted = is_on;
         self
     }
 
     /// Sets whether a block may have any even number of samples from 8 to 64.
     #[must_use]
-    pub fn even_blocks(mut self, is_on: bool) -> Options {
+    pub fn with_even_blocks(mut self, is_on: bool) -> Options {
         self.0.even_blocks = is_on;
         self
     }
@@ -103,47 +103,47 @@ impl Options {
     }
 
     /// Returns the number of samples in a block.
-    pub fn get_block_size(&self) -> u32 {
+    pub fn block_size(&self) -> u32 {
         self.0.block_size
     }
 
     /// Returns the number of blocks in a reference sample interval.
-    pub fn get_interval(&self) -> u32 {
+    pub fn interval(&self) -> u32 {
         self.0.interval
     }
 
     /// Returns whether samples are signed.
-    pub fn get_signed(&self) -> bool {
+    pub fn signed(&self) -> bool {
         self.0.is_signed
     }
 
     /// Returns whether stored samples are big-endian.
-    pub fn get_msb_first(&self) -> bool {
+    pub fn msb_first(&self) -> bool {
         self.0.msb_first
     }
 
     /// Returns whether samples of 17 to 24 bits are stored in three bytes.
-    pub fn get_three_byte(&self) -> bool {
+    pub fn three_byte(&self) -> bool {
         self.0.three_byte
     }
 
     /// Returns whether each sample is predicted from the one before.
-    pub fn get_preprocess(&self) -> bool {
+    pub fn preprocess(&self) -> bool {
         self.0.preprocess
     }
 
     /// Returns whether each interval is filled up to a byte boundary.
-    pub fn get_pad(&self) -> bool {
+    pub fn pad(&self) -> bool {
         self.0.pad
     }
 
     /// Returns whether only the restricted set of code options is used.
-    pub fn get_restricted(&self) -> bool {
+    pub fn restricted(&self) -> bool {
         self.0.restricted
     }
 
     /// Returns whether a block may have any even number of samples from 8 to 64.
-    pub fn get_even_blocks(&self) -> bool {
+    pub fn even_blocks(&self) -> bool {
         self.0.even_blocks
     }
 

@@ -1,218 +1,33 @@
-//! The calls of libaecp.a. All unsafe code of this crate is in this file. Each of its functions is
+//! The calls of aecp-sys. All unsafe code of this crate is in this file. Each of its functions is
 //! safe to call.
 
 use std::cell::UnsafeCell;
-use std::ffi::c_void;
 use std::mem::size_of_val;
 
-/// The version of the header that this file restates: 10,000, 100 and 1 times its three numbers.
-pub const VERSION: u32 = 10000;
-
-// The faults of `aecp.h`, except AECP_NOT_OPEN: this crate calls only with a handle, coder or
-// reader that is open.
-pub const OK: u32 = 0;
-pub const BITS_PER_SAMPLE: u32 = 1;
-pub const BLOCK_SIZE: u32 = 2;
-pub const INTERVAL: u32 = 3;
-pub const RESTRICTED_WIDTH: u32 = 4;
-pub const SAMPLE_RANGE: u32 = 5;
-pub const TRUNCATED: u32 = 6;
-pub const VALUE_TOO_LARGE: u32 = 7;
-pub const RUN_TOO_LONG: u32 = 8;
-pub const TOO_MANY_SAMPLES: u32 = 9;
-pub const OUT_OF_RANGE: u32 = 10;
-pub const SPENT: u32 = 11;
-pub const MEMORY: u32 = 12;
-pub const SCRIPT: u32 = 15;
-pub const STREAM_TOO_LONG: u32 = 16;
-pub const EVEN_BLOCK_SIZE: u32 = 17;
-pub const NO_ROOM: u32 = 18;
-pub const BIT_OUT_OF_RANGE: u32 = 20;
-
+// The faults, except AECP_NOT_OPEN: this crate calls only with a handle, coder or reader that is open.
 /// A sample count that stands for all samples of a stream.
-pub const ALL: u64 = u64::MAX;
-
-/// `aecp_options`.
-#[repr(C)]
-#[derive(Clone, Copy, Debug, PartialEq, Eq, Hash)]
-pub struct Options {
-    pub bits: u32,
-    pub block_size: u32,
-    pub interval: u32,
-    pub is_signed: bool,
-    pub msb_first: bool,
-    pub three_byte: bool,
-    pub preprocess: bool,
-    pub pad: bool,
-    pub restricted: bool,
-    pub even_blocks: bool,
-}
-
-/// `aecp_reply`.
-#[repr(C)]
-#[derive(Clone, Copy, Debug, Default, PartialEq, Eq)]
-pub struct Reply {
-    pub fault: u32,
-    pub place: u64,
-    pub len: u64,
-}
-
-/// `aecp_edit_reply`.
-#[repr(C)]
-#[derive(Clone, Copy, Debug, Default, PartialEq, Eq)]
-pub struct EditReply {
-    pub reply: Reply,
-    pub line: u64,
-    pub samples: u64,
-}
-
-/// `aecp_handle`, and also `aecp_coder` and `aecp_reader`, which have the same members.
-#[repr(C)]
-struct CHandle {
-    at: *mut c_void,
-    full: bool,
-}
-
-impl CHandle {
-    /// `AECP_HANDLE`, `AECP_CODER`, `AECP_READER`.
-    fn empty() -> CHandle {
-        CHandle { at: std::ptr::null_mut(), full: false }
-    }
-}
-
-extern "C" {
-    fn aecp_version() -> u32;
-    fn aecp_encode(
-        options: *const Options,
-        samples: *const c_void,
-        samples_len: usize,
-        out: *mut u8,
-        out_len: usize,
-        reply: *mut Reply,
-    ) -> u32;
-    fn aecp_decode(
-        options: *const Options,
-        count: u64,
-        coded: *const u8,
-        coded_len: usize,
-        out: *mut c_void,
-        out_len: usize,
-        reply: *mut Reply,
-    ) -> u32;
-    fn aecp_range(
-        options: *const Options,
-        count: u64,
-        first: u64,
-        len: u64,
-        coded: *const u8,
-        coded_len: usize,
-        out: *mut c_void,
-        out_len: usize,
-        reply: *mut Reply,
-    ) -> u32;
-    fn aecp_offsets(
-        options: *const Options,
-        count: u64,
-        coded: *const u8,
-        coded_len: usize,
-        out: *mut u64,
-        out_len: usize,
-        reply: *mut Reply,
-    ) -> u32;
-    fn aecp_decode_at(
-        options: *const Options,
-        bit: u64,
-        count: u64,
-        coded: *const u8,
-        coded_len: usize,
-        out: *mut c_void,
-        out_len: usize,
-        reply: *mut Reply,
-    ) -> u32;
-    fn aecp_bound(options: *const Options, samples: u64) -> u64;
-    fn aecp_text(reply: *const Reply, out: *mut u8, out_len: usize) -> usize;
-    fn aecp_open(options: *const Options, handle: *mut CHandle, reply: *mut Reply) -> u32;
-    fn aecp_load(
-        options: *const Options,
-        count: u64,
-        coded: *const u8,
-        coded_len: usize,
-        handle: *mut CHandle,
-        reply: *mut Reply,
-    ) -> u32;
-    fn aecp_close(handle: *mut CHandle);
-    fn aecp_append(
-        handle: *mut CHandle,
-        values: *const i64,
-        values_len: usize,
-        reply: *mut Reply,
-    ) -> u32;
-    fn aecp_truncate(handle: *mut CHandle, count: u64, reply: *mut Reply) -> u32;
-    fn aecp_remove(handle: *mut CHandle, first: u64, len: u64, reply: *mut Reply) -> u32;
-    fn aecp_overwrite(
-        handle: *mut CHandle,
-        first: u64,
-        values: *const i64,
-        values_len: usize,
-        reply: *mut Reply,
-    ) -> u32;
-    fn aecp_insert(
-        handle: *mut CHandle,
-        first: u64,
-        values: *const i64,
-        values_len: usize,
-        reply: *mut Reply,
-    ) -> u32;
-    fn aecp_read(
-        handle: *mut CHandle,
-        first: u64,
-        len: u64,
-        out: *mut i64,
-        out_len: usize,
-        reply: *mut Reply,
-    ) -> u32;
-    fn aecp_write(handle: *mut CHandle, out: *mut u8, out_len: usize, reply: *mut Reply) -> u32;
-    fn aecp_size(handle: *mut CHandle) -> u64;
-    fn aecp_calls(handle: *mut CHandle) -> u64;
-    fn aecp_edit(
-        options: *const Options,
-        count: u64,
-        script: *const c_void,
-        script_len: usize,
-        coded: *const u8,
-        coded_len: usize,
-        out: *mut u8,
-        out_len: usize,
-        reply: *mut EditReply,
-    ) -> u32;
-    fn aecp_coder_open(options: *const Options, coder: *mut CHandle, reply: *mut Reply) -> u32;
-    fn aecp_coder_feed(
-        coder: *mut CHandle,
-        samples: *const c_void,
-        samples_len: usize,
-        reply: *mut Reply,
-    ) -> u32;
-    fn aecp_coder_finish(coder: *mut CHandle, reply: *mut Reply) -> u32;
-    fn aecp_coder_take(coder: *mut CHandle, out: *mut u8, out_len: usize, reply: *mut Reply)
-        -> u32;
-    fn aecp_coder_close(coder: *mut CHandle);
-    fn aecp_reader_open(
-        options: *const Options,
-        count: u64,
-        coded: *const u8,
-        coded_len: usize,
-        reader: *mut CHandle,
-        reply: *mut Reply,
-    ) -> u32;
-    fn aecp_reader_next(
-        reader: *mut CHandle,
-        out: *mut c_void,
-        out_len: usize,
-        reply: *mut Reply,
-    ) -> u32;
-    fn aecp_reader_go_to(reader: *mut CHandle, interval: u64, reply: *mut Reply) -> u32;
-    fn aecp_reader_close(reader: *mut CHandle);
-}
+pub use aecp_sys::AECP_ALL as ALL;
+/// The version of the header that the crate aecp-sys restates.
+pub use aecp_sys::AECP_VERSION as VERSION;
+use aecp_sys::{
+    aecp_append, aecp_bound, aecp_calls, aecp_close, aecp_coder_close, aecp_coder_feed,
+    aecp_coder_finish, aecp_coder_open, aecp_coder_take, aecp_decode, aecp_decode_at, aecp_edit,
+    aecp_encode, aecp_handle as CHandle, aecp_insert, aecp_load, aecp_offsets, aecp_open,
+    aecp_overwrite, aecp_range, aecp_read, aecp_reader_close, aecp_reader_go_to, aecp_reader_next,
+    aecp_reader_open, aecp_remove, aecp_size, aecp_text, aecp_truncate, aecp_version, aecp_write,
+    AECP_HANDLE,
+};
+pub use aecp_sys::{aecp_edit_reply as EditReply, aecp_options as Options, aecp_reply as Reply};
+pub use aecp_sys::{
+    AECP_BITS_PER_SAMPLE as BITS_PER_SAMPLE, AECP_BIT_OUT_OF_RANGE as BIT_OUT_OF_RANGE,
+    AECP_BLOCK_SIZE as BLOCK_SIZE, AECP_EVEN_BLOCK_SIZE as EVEN_BLOCK_SIZE,
+    AECP_INTERVAL as INTERVAL, AECP_MEMORY as MEMORY, AECP_NO_ROOM as NO_ROOM, AECP_OK as OK,
+    AECP_OUT_OF_RANGE as OUT_OF_RANGE, AECP_RESTRICTED_WIDTH as RESTRICTED_WIDTH,
+    AECP_RUN_TOO_LONG as RUN_TOO_LONG, AECP_SAMPLE_RANGE as SAMPLE_RANGE, AECP_SCRIPT as SCRIPT,
+    AECP_SPENT as SPENT, AECP_STREAM_TOO_LONG as STREAM_TOO_LONG,
+    AECP_TOO_MANY_SAMPLES as TOO_MANY_SAMPLES, AECP_TRUNCATED as TRUNCATED,
+    AECP_VALUE_TOO_LARGE as VALUE_TOO_LARGE,
+};
 
 /// The version of the linked library.
 pub fn version() -> u32 {
@@ -381,7 +196,7 @@ impl Drop for Handle {
 impl Handle {
     /// A handle that holds no workspace.
     fn empty() -> Handle {
-        Handle(UnsafeCell::new(CHandle::empty()))
+        Handle(UnsafeCell::new(AECP_HANDLE))
     }
 
     /// Makes one call with the handle.
@@ -480,7 +295,7 @@ impl Coder {
     /// An open coder, or one that isn't open if the reply has a fault.
     pub fn open(options: &Options) -> (Coder, Reply) {
         assert_version();
-        let mut coder = Coder(CHandle::empty());
+        let mut coder = Coder(AECP_HANDLE);
         // SAFETY: the coder is AECP_CODER, and no other thread has it.
         let reply = replied(|reply| unsafe { aecp_coder_open(options, &mut coder.0, reply) });
         (coder, reply)
@@ -522,7 +337,7 @@ impl Reader {
     /// An open reader, or one that isn't open if the reply has a fault.
     pub fn open(options: &Options, count: u64, coded: &[u8]) -> (Reader, Reply) {
         assert_version();
-        let mut reader = Reader(CHandle::empty());
+        let mut reader = Reader(AECP_HANDLE);
         let (at, len) = (coded.as_ptr(), coded.len());
         // SAFETY: the reader is AECP_READER, and no other thread has it; pointer and length are
         // those of a live slice, of which the library keeps a copy.

@@ -12,7 +12,7 @@ use std::mem::size_of;
 /// use aecp::{encode, Error, Options};
 ///
 /// let samples: [i16; 4] = [-3, -2, 5, 7];
-/// assert!(encode(&samples, &Options::new(12).signed(true)).is_ok());
+/// assert!(encode(&samples, &Options::new(12).with_signed(true)).is_ok());
 /// assert_eq!(encode(&samples, &Options::new(12)), Err(Error::ElementType));
 /// ```
 pub trait Sample: Copy + Default + sealed::Integer {}

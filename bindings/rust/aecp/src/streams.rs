@@ -81,7 +81,7 @@ impl fmt::Debug for Encoder {
 /// use aecp::{encode, Decoder, Options};
 ///
 /// let samples: Vec<u16> = (0..5000).map(|i| 1000 + i / 7).collect();
-/// let options = Options::new(16).interval(16);
+/// let options = Options::new(16).with_interval(16);
 /// let coded = encode(&samples, &options)?;
 ///
 /// let mut decoder = Decoder::<u16>::new(&coded, Some(5000), &options)?;

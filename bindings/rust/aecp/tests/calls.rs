@@ -26,7 +26,7 @@ fn the_library_has_the_version_of_the_crate() {
 
 #[test]
 fn known_samples_have_the_known_code() {
-    let options = Options::new(8).block_size(8).interval(2);
+    let options = Options::new(8).with_block_size(8).with_interval(2);
     let coded = encode(&[0u8, 1, 2, 3, 4, 5, 6, 7], &options).unwrap();
     assert_eq!(coded, [0x20, 0x09, 0x24, 0x92]);
     assert_eq!(decode::<u8>(&coded, Some(5), &options).unwrap(), [0, 1, 2, 3, 4]);
@@ -58,9 +58,9 @@ fn each_type_comes_back() {
         decode::<u32>(&encode(&samples, &wide).unwrap(), Some(500), &wide).unwrap(),
         samples
     );
-    let wide = wide.signed(true);
+    let wide = wide.with_signed(true);
     assert_eq!(decode::<i32>(&encode(&signed, &wide).unwrap(), Some(500), &wide).unwrap(), signed);
-    let narrow = Options::new(16).signed(true);
+    let narrow = Options::new(16).with_signed(true);
     assert_eq!(
         decode::<i16>(&encode(&short, &narrow).unwrap(), Some(500), &narrow).unwrap(),
         short
@@ -71,7 +71,7 @@ fn each_type_comes_back() {
 fn another_type_is_refused() {
     assert_eq!(encode(&[1u32], &Options::new(16)), Err(Error::ElementType));
     assert_eq!(
-        encode(&[1u16], &Options::new(16).msb_first(cfg!(target_endian = "little"))),
+        encode(&[1u16], &Options::new(16).with_msb_first(cfg!(target_endian = "little"))),
         Err(Error::ElementType)
     );
     assert_eq!(decode::<i8>(&[0], Some(1), &Options::new(8)), Err(Error::ElementType));
@@ -87,14 +87,14 @@ fn a_stored_sample_has_one_to_four_bytes() {
             _ => (4, 4),
         };
         assert_eq!(Options::new(bits).storage(), plain, "{bits}");
-        assert_eq!(Options::new(bits).three_byte(true).storage(), three_byte, "{bits}");
+        assert_eq!(Options::new(bits).with_three_byte(true).storage(), three_byte, "{bits}");
     }
 }
 
 #[test]
 fn samples_of_three_bytes_are_taken_only_as_bytes() {
-    let unsigned = Options::new(24).three_byte(true);
-    let signed = unsigned.signed(true);
+    let unsigned = Options::new(24).with_three_byte(true);
+    let signed = unsigned.with_signed(true);
     let refused = Error::ElementType;
     assert_eq!(encode(&[7u32; 8], &unsigned), Err(refused));
     assert_eq!(encode(&[7i32; 8], &signed), Err(refused));
@@ -109,7 +109,7 @@ fn samples_of_three_bytes_are_taken_only_as_bytes() {
 fn big_endian_samples_are_coded_as_bytes() {
     let samples = walk(500, 16);
     let stored: Vec<u8> = samples.iter().flat_map(|&it| (it as u16).to_be_bytes()).collect();
-    let options = Options::new(16).msb_first(true);
+    let options = Options::new(16).with_msb_first(true);
     let coded = encode(&stored, &options).unwrap();
     assert_eq!(decode::<u8>(&coded, Some(500), &options).unwrap(), stored);
     let numbers: Vec<u8> = samples.iter().flat_map(|&it| (it as u16).to_le_bytes()).collect();
@@ -119,41 +119,44 @@ fn big_endian_samples_are_coded_as_bytes() {
 #[test]
 fn options_return_what_was_set() {
     let plain = Options::new(20);
-    assert_eq!((plain.bits(), plain.get_block_size(), plain.get_interval()), (20, 16, 128));
+    assert_eq!((plain.bits(), plain.block_size(), plain.interval()), (20, 16, 128));
     let flags = |it: &Options| {
         [
-            it.get_signed(),
-            it.get_msb_first(),
-            it.get_three_byte(),
-            it.get_preprocess(),
-            it.get_pad(),
-            it.get_restricted(),
-            it.get_even_blocks(),
+            it.signed(),
+            it.msb_first(),
+            it.three_byte(),
+            it.preprocess(),
+            it.pad(),
+            it.restricted(),
+            it.even_blocks(),
         ]
     };
     assert_eq!(flags(&plain), [false, false, false, true, false, false, false]);
     let setters: [fn(Options, bool) -> Options; 7] = [
-        Options::signed,
-        Options::msb_first,
-        Options::three_byte,
-        Options::preprocess,
-        Options::pad,
-        Options::restricted,
-        Options::even_blocks,
+        Options::with_signed,
+        Options::with_msb_first,
+        Options::with_three_byte,
+        Options::with_preprocess,
+        Options::with_pad,
+        Options::with_restricted,
+        Options::with_even_blocks,
     ];
     for (place, set) in setters.iter().enumerate() {
         let mut expected = flags(&plain);
         expected[place] = !expected[place];
         assert_eq!(flags(&set(plain, expected[place])), expected);
     }
-    let sized = plain.block_size(32).interval(7);
-    assert_eq!((sized.get_block_size(), sized.get_interval()), (32, 7));
+    let sized = plain.with_block_size(32).with_interval(7);
+    assert_eq!((sized.block_size(), sized.interval()), (32, 7));
 }
 
 #[test]
 fn refusals_have_their_kind_and_place() {
     assert_eq!(encode(&[0u8], &Options::new(0)), Err(Error::Options { number: 1 }));
-    assert_eq!(encode(&[0u8], &Options::new(8).block_size(10)), Err(Error::Options { number: 2 }));
+    assert_eq!(
+        encode(&[0u8], &Options::new(8).with_block_size(10)),
+        Err(Error::Options { number: 2 })
+    );
     assert_eq!(encode(&[0u8, 1, 9], &Options::new(3)), Err(Error::Sample { index: 2 }));
     let options = Options::new(8);
     let coded = encode(&[7u8; 64], &options).unwrap();
@@ -172,7 +175,7 @@ fn refusals_have_their_kind_and_place() {
 fn each_interval_is_decoded_from_its_offset_on() {
     let samples: Vec<u16> = walk(100, 12).iter().map(|&it| it as u16).collect();
     for pad in [false, true] {
-        let options = Options::new(12).block_size(8).interval(2).pad(pad);
+        let options = Options::new(12).with_block_size(8).with_interval(2).with_pad(pad);
         let coded = encode(&samples, &options).unwrap();
         let begins = offsets(&coded, Some(100), &options).unwrap();
         assert_eq!(begins.len(), 7);
@@ -198,10 +201,13 @@ fn bits_where_no_interval_begins_are_refused() {
     for bit in [bits + 1, u64::MAX] {
         assert_eq!(decode_at::<u8>(&coded, bit, Some(0), &options), Err(Error::Bit { bits }));
     }
-    assert_eq!(decode_at::<u8>(&coded, 4, Some(0), &options.pad(true)), Err(Error::Bit { bits }));
+    assert_eq!(
+        decode_at::<u8>(&coded, 4, Some(0), &options.with_pad(true)),
+        Err(Error::Bit { bits })
+    );
     assert!(Error::Bit { bits }.to_string().contains(&bits.to_string()));
     assert_eq!(offsets(&coded[..1], Some(64), &options), Err(Error::Stream { number: 6, bit: 0 }));
-    assert_eq!(offsets(&coded, None, &options.interval(0)), Err(Error::Options { number: 3 }));
+    assert_eq!(offsets(&coded, None, &options.with_interval(0)), Err(Error::Options { number: 3 }));
 }
 
 #[test]
@@ -214,7 +220,7 @@ fn no_samples_have_an_empty_code() {
 
 #[test]
 fn a_few_bytes_decode_to_many_samples() {
-    let options = Options::new(32).block_size(64).interval(4096);
+    let options = Options::new(32).with_block_size(64).with_interval(4096);
     let zeros = vec![0u32; 6_000_000];
     let coded = encode(&zeros, &options).unwrap();
     assert!(coded.len() < 4000);
@@ -224,7 +230,7 @@ fn a_few_bytes_decode_to_many_samples() {
 
 #[test]
 fn edits_are_those_of_a_vector() {
-    let options = Options::new(16).block_size(8).interval(2);
+    let options = Options::new(16).with_block_size(8).with_interval(2);
     let mut list: Vec<i64> = walk(300, 16).iter().map(|&it| i64::from(it)).collect();
     let mut work = Workspace::new(&options).unwrap();
     assert!(work.is_empty());
@@ -266,7 +272,7 @@ fn threads_pass_a_workspace_on() {
 #[test]
 fn pieces_are_coded_as_one_list() {
     let samples = walk(3000, 16);
-    let options = Options::new(16).block_size(8).interval(4);
+    let options = Options::new(16).with_block_size(8).with_interval(4);
     let stored: Vec<u8> = samples.iter().flat_map(|it| it.to_le_bytes()[..2].to_vec()).collect();
     let whole = encode(&stored, &options).unwrap();
     for len in [1, 3, 64, 1000, 6000] {
@@ -294,7 +300,7 @@ fn a_refused_piece_is_refused_again() {
 #[test]
 fn intervals_are_decoded_in_turn() {
     let samples: Vec<i32> = walk(1000, 32).iter().map(|&it| it as i32).collect();
-    let options = Options::new(32).signed(true).block_size(8).interval(8);
+    let options = Options::new(32).with_signed(true).with_block_size(8).with_interval(8);
     let coded = encode(&samples, &options).unwrap();
     let mut decoder = Decoder::<i32>::new(&coded, Some(1000), &options).unwrap();
     let read: Vec<Vec<i32>> = decoder.by_ref().map(Result::unwrap).collect();
@@ -309,7 +315,7 @@ fn intervals_are_decoded_in_turn() {
 
 #[test]
 fn a_cut_stream_ends_with_its_fault() {
-    let options = Options::new(8).block_size(8).interval(2);
+    let options = Options::new(8).with_block_size(8).with_interval(2);
     let coded = encode(&(0..64).map(|it| it * 3).collect::<Vec<u8>>(), &options).unwrap();
     let cut = &coded[..coded.len() / 2];
     let whole = decode::<u8>(cut, Some(64), &options).unwrap_err();
@@ -325,7 +331,7 @@ fn a_cut_stream_ends_with_its_fault() {
 
 #[test]
 fn scripts_are_applied_whole_or_not() {
-    let options = Options::new(16).block_size(8).interval(2);
+    let options = Options::new(16).with_block_size(8).with_interval(2);
     let samples: Vec<u16> = walk(100, 16).iter().map(|&it| it as u16).collect();
     let coded = encode(&samples, &options).unwrap();
     let script = "truncate 4\ninsert 0 5 6\n";

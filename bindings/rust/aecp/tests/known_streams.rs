@@ -9,7 +9,7 @@ use std::fmt::Debug;
 
 /// The page's usual options: 8 bits, blocks of 8 samples, intervals of 2 blocks.
 fn usual() -> Options {
-    Options::new(8).block_size(8).interval(2)
+    Options::new(8).with_block_size(8).with_interval(2)
 }
 
 /// Checks that each call codes these samples to `coded`, and decodes `coded` to these samples.
@@ -72,30 +72,30 @@ fn check_workspace<T: Sample + Into<i64>>(samples: &[T], coded: &[u8], options: 
 fn samples_of_one_byte_have_the_code_of_the_format() {
     let count_up: Vec<u8> = (0..10).collect();
     check(&count_up[..8], &[0x20, 0x09, 0x24, 0x92], &usual());
-    check(&count_up[..8], &[0x5a, 0x92, 0x22, 0xaa], &usual().preprocess(false));
-    let ten = usual().block_size(10).interval(1).even_blocks(true);
+    check(&count_up[..8], &[0x5a, 0x92, 0x22, 0xaa], &usual().with_preprocess(false));
+    let ten = usual().with_block_size(10).with_interval(1).with_even_blocks(true);
     check(&count_up, &[0x20, 0x09, 0x24, 0x92, 0x48], &ten);
     check(&[7u8; 5], &[0x00, 0x78], &usual());
     check(&[7u8, 7, 7, 7, 7, 7, 7, 7, 8], &[0x00, 0x78, 0x8f], &usual());
-    let restricted = Options::new(2).block_size(8).interval(1).restricted(true);
+    let restricted = Options::new(2).with_block_size(8).with_interval(1).with_restricted(true);
     check(&[0u8, 0, 0, 0, 0, 0, 0, 3], &[0x80, 0x01, 0x80], &restricted);
     // A zero block, 0000 11111111 1.
-    check(&[-1i8; 8], &[0x0f, 0xf8], &usual().signed(true));
+    check(&[-1i8; 8], &[0x0f, 0xf8], &usual().with_signed(true));
 }
 
 #[test]
 fn runs_of_zeros_have_the_code_of_the_format() {
     check(&[0u8; 17], &[0x00, 0x04, 0x00, 0x20], &usual());
-    check(&[0u8; 17], &[0x00, 0x04, 0x00, 0x08], &usual().pad(true));
-    check(&[0u8; 40], &[0x00, 0x00, 0x80], &usual().interval(64));
-    check(&[0u8; 520], &[0x00, 0x00, 0x84], &usual().interval(128));
+    check(&[0u8; 17], &[0x00, 0x04, 0x00, 0x08], &usual().with_pad(true));
+    check(&[0u8; 40], &[0x00, 0x00, 0x80], &usual().with_interval(64));
+    check(&[0u8; 520], &[0x00, 0x00, 0x84], &usual().with_interval(128));
     let mut samples = [0u8; 48];
     check(&samples, &[0x00, 0x04, 0x00, 0x10, 0x00, 0x40], &usual());
     samples[20] = 1;
     check(&samples, &[0x00, 0x04, 0x40, 0x30, 0xc2, 0x00, 0x08], &usual());
     let mut samples = [0u8; 56];
     samples[48] = 1;
-    check(&samples, &[0x00, 0x22, 0xf0], &usual().interval(8).preprocess(false));
+    check(&samples, &[0x00, 0x22, 0xf0], &usual().with_interval(8).with_preprocess(false));
 }
 
 #[test]
@@ -110,21 +110,21 @@ fn intervals_begin_at_the_bits_of_the_format() {
 
 #[test]
 fn samples_of_two_and_four_bytes_have_the_code_of_the_format() {
-    let of = |bits| Options::new(bits).block_size(8).interval(2);
+    let of = |bits| Options::new(bits).with_block_size(8).with_interval(2);
     // A zero block is its identifier, the pattern of the reference sample, and a bit 1.
     check(&[7u16; 8], &[0x00, 0x00, 0x3c], &of(16));
-    check(&[-1i16; 8], &[0x07, 0xff, 0xfc], &of(16).signed(true));
+    check(&[-1i16; 8], &[0x07, 0xff, 0xfc], &of(16).with_signed(true));
     check(&[7u32; 8], &[0x00, 0x00, 0x00, 0x00, 0x1e], &of(32));
     let ends: Vec<i32> = [i32::MIN, i32::MAX].repeat(4);
     let coded = [vec![0xfc, 0x00, 0x00, 0x00, 0x07], vec![0xff; 27], vec![0xf8]].concat();
-    check(&ends, &coded, &of(32).signed(true));
+    check(&ends, &coded, &of(32).with_signed(true));
 }
 
 #[test]
 fn samples_of_three_bytes_have_the_code_of_the_format() {
-    let options = Options::new(24).block_size(8).interval(2).three_byte(true);
+    let options = Options::new(24).with_block_size(8).with_interval(2).with_three_byte(true);
     let coded = [0x00, 0x00, 0x00, 0x1e];
-    for (options, sample) in [(options, [7, 0, 0]), (options.msb_first(true), [0, 0, 7])] {
+    for (options, sample) in [(options, [7, 0, 0]), (options.with_msb_first(true), [0, 0, 7])] {
         assert_eq!(encode(&sample.repeat(8), &options).unwrap(), coded);
         assert_eq!(decode::<u8>(&coded, Some(3), &options).unwrap(), sample.repeat(3));
     }
@@ -163,7 +163,7 @@ fn errors(coded: &[u8], count: u64, options: &Options) -> [Error; 6] {
 
 #[test]
 fn a_bad_stream_is_refused_with_its_fault_and_bit() {
-    let one_bit = Options::new(1).block_size(8).preprocess(false);
+    let one_bit = Options::new(1).with_block_size(8).with_preprocess(false);
     let cut = |bit| Error::Stream { number: 6, bit };
     let value_too_large = |bit| Error::Stream { number: 7, bit };
     let run_too_long = |bit| Error::Stream { number: 8, bit };
@@ -171,7 +171,7 @@ fn a_bad_stream_is_refused_with_its_fault_and_bit() {
         (&[0x20, 0x09, 0x24], 8, usual(), cut(0)),
         (&[0x00], 8, usual(), cut(0)),
         (&[0x00, 0x78], 9, usual(), cut(13)),
-        (&[0x00, 0x04], 17, usual().pad(true), cut(16)),
+        (&[0x00, 0x04], 17, usual().with_pad(true), cut(16)),
         (&[0x27, 0xf8], 8, one_bit, value_too_large(0)),
         // A zero block, 00001, and then the block of the stream above.
         (&[0x09, 0x3f, 0xc0], 16, one_bit, value_too_large(5)),

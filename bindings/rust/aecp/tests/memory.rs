@@ -63,7 +63,7 @@ fn a_dropped_decoder_is_freed() {
 
 #[test]
 fn a_dropped_encoder_is_freed() {
-    let (_alone, options) = (alone(), Options::new(32).block_size(64).interval(4096));
+    let (_alone, options) = (alone(), Options::new(32).with_block_size(64).with_interval(4096));
     // An encoder keeps the samples of an interval that isn't complete.
     let samples = noise(64 * 4096 - 1);
     check_freed(4 * samples.len(), || {

@@ -75,6 +75,7 @@ fn behind_in_word(word: u64, nth: u32) -> u32
 }
 
 /// Returns how many bits from place `start` on end with the `count`-th 1; `None` if fewer follow.
+#[inline(always)]
 pub(crate) fn bits_to_one(buf: &BitBuf, start: u64, count: u64) -> Option<u64>
     requires within { start ≤ length buf.now.list }
     requires some { 0 < count }

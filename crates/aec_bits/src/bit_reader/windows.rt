@@ -13,15 +13,15 @@ use std::simd::prelude::*;
 /// The next bits of a list: the lowest `left` bits of a word. In the list they end before place
 /// `end`.
 #[derive(Clone, Copy)]
-struct Window {
-    word: u64,
-    left: u32,
-    end: u64,
+pub(crate) struct Window {
+    pub(crate) word: u64,
+    pub(crate) left: u32,
+    pub(crate) end: u64,
 }
 
 /// Returns the place of the first bit of a window.
 #[inline(always)]
-fn place_of(window: Window) -> u64
+pub(crate) fn place_of(window: Window) -> u64
     requires { window.left ≤ window.end }
     ensures { result ≡ window.end - window.left }
 {
@@ -141,7 +141,7 @@ fn top_word(window: Window) -> u64
 
 /// Returns what is left of a window after its first `gone` bits.
 #[inline(always)]
-fn window_after(window: Window, gone: u32) -> Window
+pub(crate) fn window_after(window: Window, gone: u32) -> Window
     requires some { 0 < gone }
     requires there { gone ≤ window.left }
     requires size { window.left ≤ 64 }
@@ -159,7 +159,7 @@ fn window_after(window: Window, gone: u32) -> Window
 
 /// Like `each_within`, but reads 8 to 16 numbers at once: fewer are faster read one by one.
 #[inline(always)]
-fn sequences_within(window: Window, numbers: &mut [u32]) -> Window
+pub(crate) fn sequences_within(window: Window, numbers: &mut [u32]) -> Window
     requires size { window.left ≤ 64 }
     requires fits { window.word < 2 ^ window.left }
     requires some { length numbers.old ≤ count_ones window.word }
@@ -176,7 +176,7 @@ fn sequences_within(window: Window, numbers: &mut [u32]) -> Window
 
 /// Returns whether a window has `count` 1 bits left.
 #[inline(always)]
-fn has_ones(window: Window, count: usize) -> bool
+pub(crate) fn has_ones(window: Window, count: usize) -> bool
     ensures { result ≡ nat_le count (count_ones window.word) }
 {
     count <= window.word.count_ones() as usize

@@ -1,6 +1,6 @@
 //! Maps samples to values, overwriting a list of values.
 
-ghost use Rattle.std.specs.Prelude.{◌≡◌, ◌<◌, ◌≤◌, ◌∷◌, true, length, map as list_map};
+ghost use Rattle.std.specs.Prelude.{◌≡◌, ◌%◌, ◌<◌, ◌≤◌, ◌∷◌, true, length, get_or, map as list_map};
 ghost use Rattle.std.specs.List.{AllByRecursion};
 ghost use Rattle.aec_params.specs.Params.{IsHeld, sample_pattern};
 ghost use Rattle.aec_params.specs.Mapping.{mapped_after, mapped_values};
@@ -39,24 +39,50 @@ fn map_each_offset(top: u32, previous: u32, values: &mut [u32])
     }
 }
 
-/// Maps the offsets of a list in place: eight at once if it has eight, else one by one.
+/// Maps eight offsets in place. Returns the last of them, by which the next one is predicted.
+#[inline(always)]
+fn map_next_eight(top: u32, previous: u32, values: &mut [u32]) -> u32
+    requires len { length values.old ≡ 8 }
+    requires within { AllByRecursion (λ x. x ≤ top) (previous ∷ values.old) }
+    ensures values { values.new ≡ mapped_offsets top previous values.old }
+    ensures last { result ≡ get_or values.old 7 0 }
+{
+    let offsets = u32x8::from_slice(values).to_array();
+    u32x8::from_array(map_eight(top, previous, &offsets)).copy_to_slice(values);
+    offsets[7]
+}
+
+/// Maps the offsets of a list in place, eight at once. Their number is a multiple of eight.
+#[inline(always)]
+fn map_by_eights(top: u32, previous: u32, values: &mut [u32])
+    requires eights { length values.old % 8 ≡ 0 }
+    requires within { AllByRecursion (λ x. x ≤ top) (previous ∷ values.old) }
+    ensures { values.new ≡ mapped_offsets top previous values.old }
+{
+    let mut p = previous;
+    for i in 0..values.len() / 8 {
+        p = map_next_eight(top, p, &mut values[8 * i..8 * i + 8]);
+    }
+}
+
+/// Maps the offsets of a list in place: eight at once, or one by one if their number is no multiple
+/// of eight. Sixteen too are mapped one by one: the compiler makes better lanes of these.
 #[inline(always)]
 fn map_offsets(top: u32, previous: u32, values: &mut [u32])
     requires { AllByRecursion (λ x. x ≤ top) (previous ∷ values.old) }
     ensures { values.new ≡ mapped_offsets top previous values.old }
 {
-    if values.len() != 8 {
+    if values.len() == 16 || values.len() % 8 != 0 {
         map_each_offset(top, previous, values);
-        return;
+    } else {
+        map_by_eights(top, previous, values);
     }
-    let offsets = u32x8::from_slice(values).to_array();
-    u32x8::from_array(map_eight(top, previous, &offsets)).copy_to_slice(values);
 }
 
 /// Returns how far the sample `previous` lies above the least one. No branch or choice depends on
 /// this sample.
 #[inline(always)]
-fn first_prediction(params: &Params, previous: i64) -> u32
+pub(crate) fn first_prediction(params: &Params, previous: i64) -> u32
     requires { IsHeld params.now previous }
     ensures value { result ≡ sample_offset params.now previous }
     ensures within { result ≤ top_offset params.now }

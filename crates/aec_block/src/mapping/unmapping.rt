@@ -5,10 +5,11 @@ ghost use Rattle.aec_params.specs.Params.{IsAllowed, IsHeld, x_min};
 ghost use Rattle.aec_block.specs.Offsets.{top_offset, near_difference, low_offset, low_offsets, AreUnmapped};
 ghost use Rattle.aec_block.specs.Unmapping.{HaveSamplePlaces, PutsSamples, CanUnmap, PutsUnmapped};
 
+use crate::mapping::mapped_blocks::first_prediction;
 use crate::mapping::small_differences::{
     are_below_two, are_low, are_near, near_differences, next_places, parities, running_places,
 };
-use crate::mapping::{greatest_offset, offset_of, unmap_by_difference, unmap_offset};
+use crate::mapping::{greatest_offset, unmap_by_difference, unmap_offset};
 use aec_params::Params;
 
 /// Fills `samples` with the samples for which values are coded, the first predicted from the sample
@@ -176,7 +177,7 @@ fn put_offsets(params: &Params, previous: i64, values: &[u32], samples: &mut [i6
     requires values { HaveSamplePlaces params.now values.now samples.old }
     ensures { PutsSamples params.now previous values.now samples.old samples.new }
 {
-    let first = offset_of(params, previous);
+    let first = first_prediction(params, previous);
     let last = put_eights(params, first, values, samples);
     let done = 8 * (values.len() / 8);
     put_each(params, last, &values[done..], &mut samples[done..]);

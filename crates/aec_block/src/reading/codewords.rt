@@ -1,8 +1,8 @@
 //! Reads the codewords of a coded data set. Some functions only call the reader, and state its
 //! clauses as `Takes` or `PutsNumbers`.
 
-ghost use Rattle.std.specs.Prelude.{◌≡◌, ◌≤◌, ◌<◌, ◌^◌, length, IfOk, OnOk};
-ghost use Rattle.aec_bits.specs.BitReader.{AreBelow};
+ghost use Rattle.std.specs.Prelude.{◌≡◌, ◌+◌, ◌≤◌, ◌<◌, ◌^◌, length, IfOk, OnOk};
+ghost use Rattle.aec_bits.specs.BitReader.{AreBelow, IsBehindWord};
 ghost use Rattle.aec_block.specs.ReadAt.{fs_at, binary_at, pair_with_number};
 ghost use Rattle.aec_block.specs.Gathering.{as_taken, PutsNumbers, Takes};
 
@@ -16,8 +16,28 @@ pub(crate) fn read_number(reader: &mut BitReader, width: u32) -> Result<u64, Fau
     requires within { reader.old.pos ≤ length reader.old.list }
     ensures taken { Takes (binary_at width) reader.old (as_taken result) reader.new }
     ensures bound { IfOk result (λ v. v < 2 ^ width) }
+    ensures place { OnOk result (reader.new.pos ≡ reader.old.pos + width) }
 {
     reader.read(width)
+}
+
+/// `read_number`, of a number that a word has after its first `gone` bits, which were read.
+#[inline(always)]
+pub(crate) fn read_number_from(
+    reader: &mut BitReader,
+    word: u64,
+    gone: u32,
+    width: u32,
+) -> Result<u64, Fault>
+    requires word { IsBehindWord reader.old gone word }
+    requires some { 0 < width }
+    requires fit { gone + width ≤ 64 }
+    requires within { reader.old.pos ≤ length reader.old.list }
+    ensures taken { Takes (binary_at width) reader.old (as_taken result) reader.new }
+    ensures bound { IfOk result (λ v. v < 2 ^ width) }
+    ensures place { OnOk result (reader.new.pos ≡ reader.old.pos + width) }
+{
+    reader.read_from(word, gone, width)
 }
 
 /// Reads the next fundamental sequence, and returns its number.

@@ -1,23 +1,24 @@
 //! Reads single coded data sets into a list. A single coded data set codes one block and is no run
 //! of zero blocks, not even of one. Nearly all coded data sets are single.
 
-ghost use Rattle.std.specs.Prelude.{◌≡◌, ◌≤◌, ◌<◌, ◌^◌, true, false, length, Some, None, IfSome, IfOk, OnErr};
+ghost use Rattle.std.specs.Prelude.{◌≡◌, ◌+◌, ◌≤◌, ◌<◌, ◌^◌, ℕ, true, false, length, Some, None, IfSome, IfOk, OnOk, OnErr};
 ghost use Rattle.std.specs.Option.{is_some};
 ghost use Rattle.std.specs.List.{AllByRecursion};
 ghost use Rattle.aec_params.specs.CodedDataSets.{CodedDataSet, has_small_values};
 ghost use Rattle.aec_params.specs.Faults.{IsSetAt};
-ghost use Rattle.aec_params.specs.Params.{IsAllowed};
+ghost use Rattle.aec_params.specs.Params.{IsAllowed, id_len};
 ghost use Rattle.aec_bits.specs.BitReader.{has_one};
 ghost use Rattle.aec_block.specs.declared.cds.Cds.TheVariants.{Single};
 ghost use Rattle.aec_block.specs.BlockShape.{block_with};
-ghost use Rattle.aec_block.specs.ReadAt.{taken, map_taken, cds_at};
-ghost use Rattle.aec_block.specs.Gathering.{bits_at, kept_members};
+ghost use Rattle.aec_block.specs.declared.reading.Kind.TheVariants.{Split};
+ghost use Rattle.aec_block.specs.ReadAt.{taken, map_taken, binary_at, cds_at};
+ghost use Rattle.aec_block.specs.Gathering.{bits_at, as_taken, kept_members, IsSeen, Takes};
 ghost use Rattle.aec_block.specs.ReadCds.{checked, is_run_body, begins_single, HasNoSingle, IsReadSingle};
 
-use crate::reading::codewords::read_usual_numbers;
+use crate::reading::codewords::{read_number_from, read_usual_numbers};
 use crate::reading::pairs::{clear_reference_place, read_usual_pairs};
 use crate::reading::values::{IN_FIRST_BLOCKS, read_usual_split};
-use crate::reading::{Kind, read_kind, read_pattern};
+use crate::reading::{Kind, Seen, UNSEEN, read_kind, read_kind_from, read_pattern};
 use aec_bits::BitReader;
 use aec_params::{Fault, Params};
 
@@ -35,6 +36,18 @@ pub fn is_single_next(params: &Params, reader: &mut BitReader) -> bool
         kind,
         Ok(Kind::NoCompression | Kind::Split(_) | Kind::SecondExtension)
     )
+}
+
+/// Returns a word whose first `gone` bits were read, or none if blocks have so many values (`N`)
+/// that their high parts are seldom in one word.
+#[inline(always)]
+fn seen_in<const N: usize>(word: u64, gone: u32) -> Seen
+    ensures { 0 < result.gone → (result.word ≡ word) × (result.gone ≡ gone) }
+{
+    if N <= 16 {
+        return Seen { word, gone };
+    }
+    UNSEEN
 }
 
 /// Reads a single coded data set without a reference sample into `values`, and moves past it.
@@ -66,12 +79,14 @@ pub fn read_single<const N: usize, const COPY: usize>(
 {
     params.known_allowed();
     let start = reader.pos();
-    let read = match read_kind(params, reader) {
+    let word = reader.next_word();
+    let read = match read_kind_from(params, reader, word) {
         Ok(Kind::NoCompression) => {
             read_usual_numbers::<N, COPY>(reader, params.bits(), values).is_ok()
         }
         Ok(Kind::Split(k)) => {
-            read_usual_split::<N, COPY>(params, reader, k, values).unwrap_or(false)
+            let seen = seen_in::<N>(word, params.id_len());
+            read_usual_split::<N, COPY>(params, reader, seen, k, values).unwrap_or(false)
         }
         Ok(Kind::SecondExtension) => {
             read_usual_pairs::<N>(params, reader, false, values).unwrap_or(false)
@@ -83,6 +98,28 @@ pub fn read_single<const N: usize, const COPY: usize>(
         return false;
     }
     true
+}
+
+/// Reads the reference sample's pattern, after an identifier of this kind that begins the word
+/// `word`.
+#[inline(always)]
+fn read_pattern_behind(
+    params: &Params,
+    reader: &mut BitReader,
+    kind: Kind,
+    word: u64,
+) -> Result<u32, Fault>
+    requires within { reader.old.pos ≤ length reader.old.list }
+    requires word { (k : ℕ) → kind ≡ Split k → IsSeen reader.old (id_len params.now) word }
+    ensures taken { Takes (binary_at params.now.bits) reader.old (as_taken result) reader.new }
+    ensures below { IfOk result (λ pattern. pattern < 2 ^ params.now.bits) }
+    ensures place { OnOk result (reader.new.pos ≡ reader.old.pos + params.now.bits) }
+{
+    let Kind::Split(_) = kind else {
+        return read_pattern(params, reader);
+    };
+    let pattern = read_number_from(reader, word, params.id_len(), params.bits())?;
+    Ok(pattern as u32)
 }
 
 /// Reads a single coded data set with a reference sample into `values`, where the caller has
@@ -114,15 +151,17 @@ fn fill_first<const N: usize, const M: usize>(
     ensures within { reader.new.pos ≤ length reader.new.list }
 {
     params.known_allowed();
-    let kind = read_kind(params, reader)?;
-    let pattern = read_pattern(params, reader)?;
+    let word = reader.next_word();
+    let kind = read_kind_from(params, reader, word)?;
+    let pattern = read_pattern_behind(params, reader, kind, word)?;
     match kind {
         Kind::NoCompression => {
             read_usual_numbers::<M, IN_FIRST_BLOCKS>(reader, params.bits(), &mut values[1..])?;
             Ok(Some(pattern))
         }
         Kind::Split(k) => {
-            if !read_usual_split::<M, IN_FIRST_BLOCKS>(params, reader, k, &mut values[1..])? {
+            let seen = seen_in::<N>(word, params.id_len() + params.bits());
+            if !read_usual_split::<M, IN_FIRST_BLOCKS>(params, reader, seen, k, &mut values[1..])? {
                 return Ok(None);
             }
             Ok(Some(pattern))

@@ -7,10 +7,11 @@ ghost use Rattle.aec_params.specs.Codewords.{fs};
 ghost use Rattle.aec_bits.specs.BitReader.{AreBelow};
 ghost use Rattle.aec_block.specs.BlockShape.{most_values};
 ghost use Rattle.aec_block.specs.ReadAt.{joined_values};
-ghost use Rattle.aec_block.specs.Gathering.{all_below, PutsHighs, PutsSplit};
+ghost use Rattle.aec_block.specs.Gathering.{all_below, IsSeen, PutsHighs, PutsSplit};
 
 use crate::block::MOST_VALUES;
 use crate::reading::codewords::{read_numbers, read_sequence};
+use crate::reading::{Seen, UNSEEN};
 use aec_bits::BitReader;
 use aec_params::{Fault, Params};
 
@@ -99,6 +100,30 @@ pub(crate) fn read_highs(
     read_long_highs(reader, highs, limit)
 }
 
+/// `read_highs`, from the word `seen` if that contains all high parts.
+#[inline(always)]
+fn read_seen_highs(
+    reader: &mut BitReader,
+    seen: Seen,
+    highs: &mut [u32],
+    limit: u64,
+) -> Result<bool, Fault>
+    requires within { reader.old.pos ≤ length reader.old.list }
+    requires seen { 0 < seen.gone → IsSeen reader.old seen.gone seen.word }
+    requires least { 0 < limit }
+    requires limit { limit ≤ 2 ^ 32 }
+    ensures { PutsHighs limit reader.old highs.old result reader.new highs.new }
+{
+    if seen.gone == 0 {
+        return read_highs(reader, highs, limit);
+    }
+    let start = reader.pos();
+    if reader.read_sequences_from(seen.word, seen.gone, highs) {
+        return Ok(are_short(highs, reader.pos() - start, limit));
+    }
+    read_highs(reader, highs, limit)
+}
+
 /// Returns a value from its high part and its lowest `k` bits.
 fn joined(high: u32, low: u32, k: u32) -> u32
     requires shift { k < 32 }
@@ -139,11 +164,13 @@ pub(crate) const IN_FIRST_BLOCKS: usize = 2;
 fn read_split<const M: usize, const COPY: usize>(
     params: &Params,
     reader: &mut BitReader,
+    seen: Seen,
     k: u32,
     values: &mut [u32],
 ) -> Result<bool, Fault>
     requires within { reader.old.pos ≤ length reader.old.list }
     requires shift { k < 32 }
+    requires seen { 0 < seen.gone → IsSeen reader.old seen.gone seen.word }
     requires most { length values.old ≤ M }
     requires small { M ≤ most_values }
     ensures { PutsSplit params.now k reader.old values.old result reader.new values.new }
@@ -151,7 +178,7 @@ fn read_split<const M: usize, const COPY: usize>(
     let limit = value_limit(params);
     let mut scratch = [0u32; M];
     let lows = &mut scratch[..values.len()];
-    let highs_fit = read_highs(reader, values, high_limit(limit, k))?;
+    let highs_fit = read_seen_highs(reader, seen, values, high_limit(limit, k))?;
     read_numbers(reader, k, lows)?;
     if !highs_fit {
         return Ok(false);
@@ -173,7 +200,7 @@ fn read_split_apart(
     requires most { length values.old ≤ most_values }
     ensures { PutsSplit params.now k reader.old values.old result reader.new values.new }
 {
-    read_split::<MOST_VALUES, OF_ANY_COUNT>(params, reader, k, values)
+    read_split::<MOST_VALUES, OF_ANY_COUNT>(params, reader, UNSEEN, k, values)
 }
 
 /// `read_split`, inlined for `N` values, the usual number; out of line for any other number.
@@ -181,16 +208,18 @@ fn read_split_apart(
 pub(crate) fn read_usual_split<const N: usize, const COPY: usize>(
     params: &Params,
     reader: &mut BitReader,
+    seen: Seen,
     k: u32,
     values: &mut [u32],
 ) -> Result<bool, Fault>
     requires within { reader.old.pos ≤ length reader.old.list }
+    requires seen { 0 < seen.gone → IsSeen reader.old seen.gone seen.word }
     requires shift { k < 32 }
     requires most { length values.old ≤ most_values }
     ensures { PutsSplit params.now k reader.old values.old result reader.new values.new }
 {
     if values.len() == N {
-        return read_split::<N, COPY>(params, reader, k, &mut values[..N]);
+        return read_split::<N, COPY>(params, reader, seen, k, &mut values[..N]);
     }
     read_split_apart(params, reader, k, values)
 }
@@ -209,14 +238,14 @@ pub(crate) fn read_block_split(
     ensures { PutsSplit params.now k reader.old values.old result reader.new values.new }
 {
     match values.len() {
-        7 => read_usual_split::<7, OF_USUAL_COUNT>(params, reader, k, values),
-        8 => read_usual_split::<8, OF_USUAL_COUNT>(params, reader, k, values),
-        15 => read_usual_split::<15, OF_USUAL_COUNT>(params, reader, k, values),
-        16 => read_usual_split::<16, OF_USUAL_COUNT>(params, reader, k, values),
-        31 => read_usual_split::<31, OF_USUAL_COUNT>(params, reader, k, values),
-        32 => read_usual_split::<32, OF_USUAL_COUNT>(params, reader, k, values),
-        63 => read_usual_split::<63, OF_USUAL_COUNT>(params, reader, k, values),
-        64 => read_usual_split::<64, OF_USUAL_COUNT>(params, reader, k, values),
+        7 => read_usual_split::<7, OF_USUAL_COUNT>(params, reader, UNSEEN, k, values),
+        8 => read_usual_split::<8, OF_USUAL_COUNT>(params, reader, UNSEEN, k, values),
+        15 => read_usual_split::<15, OF_USUAL_COUNT>(params, reader, UNSEEN, k, values),
+        16 => read_usual_split::<16, OF_USUAL_COUNT>(params, reader, UNSEEN, k, values),
+        31 => read_usual_split::<31, OF_USUAL_COUNT>(params, reader, UNSEEN, k, values),
+        32 => read_usual_split::<32, OF_USUAL_COUNT>(params, reader, UNSEEN, k, values),
+        63 => read_usual_split::<63, OF_USUAL_COUNT>(params, reader, UNSEEN, k, values),
+        64 => read_usual_split::<64, OF_USUAL_COUNT>(params, reader, UNSEEN, k, values),
         _ => read_split_apart(params, reader, k, values),
     }
 }

@@ -14,6 +14,7 @@ use aec_params::{Fault, Params};
 
 /// Returns how many values a coded data set writes, of a block with a reference sample or of
 /// another.
+#[inline(always)]
 fn count_written(params: &Params, is_ref: bool) -> usize
     ensures value { result ≡ written_count params.now is_ref }
     ensures most { result ≤ most_values }
@@ -22,6 +23,7 @@ fn count_written(params: &Params, is_ref: bool) -> usize
 }
 
 /// Returns how many bits `count` numbers of `width` bits each have.
+#[inline(always)]
 fn numbers_len(width: u32, count: usize) -> u64
     requires width { width ≤ 32 }
     requires most { count ≤ most_values }
@@ -31,6 +33,7 @@ fn numbers_len(width: u32, count: usize) -> u64
 }
 
 /// Moves past `count` numbers of `width` bits each.
+#[inline(always)]
 fn skip_numbers(reader: &mut BitReader, width: u32, count: usize) -> Result<(), Fault>
     requires width { width ≤ 32 }
     requires most { count ≤ most_values }
@@ -59,6 +62,7 @@ fn judge_highs(reader: &mut BitReader, count: usize, limit: u64) -> Result<bool,
 /// Moves past `count` high parts. Returns whether all are below `limit`. None is above their sum,
 /// the number of zeros in the skipped bits. If the sum isn't below `limit`, the high parts are
 /// read.
+#[inline(always)]
 fn skip_highs(reader: &mut BitReader, count: usize, limit: u64) -> Result<bool, Fault>
     requires most { count ≤ most_values }
     requires least { 0 < limit }
@@ -77,6 +81,7 @@ fn skip_highs(reader: &mut BitReader, count: usize, limit: u64) -> Result<bool, 
 }
 
 /// Moves past the next numbers, each as wide as a sample.
+#[inline(always)]
 pub(crate) fn skip_uncompressed(
     params: &Params,
     reader: &mut BitReader,
@@ -92,6 +97,7 @@ pub(crate) fn skip_uncompressed(
 
 /// Moves past the next values, split at bit `k`, which is at most the width. Returns whether all
 /// are at most the greatest that the width has; the high parts alone decide it.
+#[inline(always)]
 pub(crate) fn skip_split(
     params: &Params,
     reader: &mut BitReader,

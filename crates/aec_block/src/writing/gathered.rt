@@ -23,7 +23,7 @@ impl Model for Gathered {
 
 #[tactic(auto, using(crate::proofs::GatheredLemmas::gathered_bits))]
 impl Gathered {
-    ghost use Rattle.std.specs.Prelude.{◌≡◌, ◌+◌, ◌<◌, ◌≤◌, ◌^◌, ◌++◌, [], length, nat_le};
+    ghost use Rattle.std.specs.Prelude.{◌≡◌, ◌+◌, ◌%◌, ◌<◌, ◌≤◌, ◌^◌, ◌++◌, [], length, nat_le};
     ghost use Rattle.aec_params.specs.Codewords.{fs, binary};
     ghost use Rattle.aec_block.specs.Written.{FitsPart, Adds, GathersBits};
 
@@ -78,8 +78,21 @@ impl Gathered {
         out.push_reserved(self.word, self.used);
     }
 
-    /// Gathers the bits of a number too. If the word has no places for them, appends the bits
-    /// before them to the list, which has room for all.
+    /// Returns a whole word: these bits, and after them the first bits of a number, without its
+    /// `over` last ones.
+    #[inline(always)]
+    fn filled(self, value: u64, width: u32, over: u32) -> u64
+        requires number { FitsPart width value }
+        requires over { length self + width ≡ 64 + over }
+        ensures { binary 64 result ++ binary over (value % 2 ^ over)
+            ≡ self ++ binary width value }
+    {
+        (self.word << (64 - self.used)) + (value >> over)
+    }
+
+    /// Gathers the bits of a number too. If the word has no places for all of them, fills the word,
+    /// appends it to the list, which has room for all, and keeps the other bits. So each word is
+    /// appended whole: only this test depends on how many bits were gathered.
     #[inline(always)]
     pub(crate) fn put(self, value: u64, width: u32, out: &mut BitBuf) -> Gathered
         requires number { FitsPart width value }
@@ -89,8 +102,9 @@ impl Gathered {
         if self.has_place_for(width) {
             return self.joined(value, width);
         }
-        self.append_to(out);
-        Gathered::of_number(value, width)
+        let over = width - (64 - self.used);
+        out.push_reserved(self.filled(value, width, over), 64);
+        Gathered::of_number(value % (1 << over), over)
     }
 
     /// `put` for `v` zeros and a one. Many zeros are appended at once.

@@ -1,7 +1,7 @@
 //! Decodes coded data: the bytes of the first samples are kept while the bits are judged, so that
 //! only the later bits are read twice.
 
-ghost use Rattle.std.specs.Prelude.{◌≡◌, ◌+◌, ◌*◌, ◌<◌, ◌≤◌, ◌^◌, max, length, vec_len, vec_capacity, IfOk, IfErr, OnOk};
+ghost use Rattle.std.specs.Prelude.{◌≡◌, ◌+◌, ◌*◌, ◌<◌, ◌≤◌, ◌^◌, max, length, vec_len, vec_capacity, IfSome, IfOk, IfErr, OnOk};
 ghost use Rattle.aec_params.specs.Params.{IsAllowed, interval_len, storage_len};
 ghost use Rattle.aec_params.specs.declared.fault.Fault.TheVariants.{Memory};
 ghost use Rattle.aec_interval.specs.Reached.{RefusesReading};
@@ -49,7 +49,7 @@ fn kept_room(params: &Params, bits: &BitBuf) -> usize
 /// Returns for how many bytes room is made before decoding into a buffer, besides those of an
 /// interval: `kept_room`, but if the first reading has room for fewer than `FEW_PLACES` samples,
 /// only the bytes of so many. So a short answer takes little memory.
-pub(crate) fn room_to_keep(params: &Params, bits: &BitBuf, places: usize) -> usize
+fn room_to_keep(params: &Params, bits: &BitBuf, places: usize) -> usize
     ensures most { result ≤ 2 ^ 24 }
     ensures short { places < 4096 → result ≤ 4 * places }
     ensures few { result ≤ max 65536 (2 * length bits.now.list) }
@@ -59,6 +59,24 @@ pub(crate) fn room_to_keep(params: &Params, bits: &BitBuf, places: usize) -> usi
         return 4 * places;
     }
     kept_room(params, bits)
+}
+
+/// Returns what `room_to_keep` returns, but with a count at most four bytes for each sample asked
+/// for.
+pub(crate) fn room_for_answer(
+    params: &Params,
+    bits: &BitBuf,
+    count: Option<u64>,
+    places: usize,
+) -> usize
+    ensures most { result ≤ 2 ^ 24 }
+    ensures asked { IfSome count (λ n. result ≤ 4 * n) }
+{
+    let room = room_to_keep(params, bits, places);
+    match count {
+        Some(count) => room.min(count.saturating_mul(4) as usize),
+        None => room,
+    }
 }
 
 /// Returns room for the samples that are read at once, and for the bytes that decoding keeps: those

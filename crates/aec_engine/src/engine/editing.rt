@@ -1,6 +1,6 @@
 //! Edits coded data by a script.
 
-ghost use Rattle.std.specs.Prelude.{◌≡◌, ◌<◌, ◌≤◌, ◌⊎◌, length, slice_index, None, Ok, IfOk, IfErr, OnOk};
+ghost use Rattle.std.specs.Prelude.{◌≡◌, ◌+◌, ◌<◌, ◌≤◌, ◌^◌, ◌⊎◌, length, slice_index, None, Ok, IfOk, IfErr, OnOk};
 ghost use Rattle.std.specs.Io.KnownBytes.{Appends};
 ghost use Rattle.aec_params.specs.declared.fault.Fault.TheVariants.{Memory};
 ghost use Rattle.aec_params.specs.Codewords.{bytes_of};
@@ -12,7 +12,10 @@ ghost use Rattle.aec_engine.specs.Transfers.{Taking, taking_of, Putting, putting
 ghost use Rattle.aec_engine.specs.Scripts.{listing_of};
 ghost use Rattle.aec_engine.specs.Editing.{edits_left, left_with, LeavesRecoded, LeavesEdited};
 ghost use Rattle.aec_engine.specs.EditingSteps.{CarriesOut, GaveScript, RefusesScript, StopsEditing, recoded_of};
-ghost use Rattle.aec_engine.specs.EarlyEdits.{EditsBits};
+ghost use Rattle.aec_engine.specs.ScriptLines.{text_left};
+ghost use Rattle.aec_engine.specs.Planning.{listing_in, text_behind};
+ghost use Rattle.aec_engine.specs.Judging.{HasRoomOfRead, IsUnread};
+ghost use Rattle.aec_engine.specs.EarlyEdits.{IsEmptyFor, EditsSamples, EditsBits};
 ghost use Rattle.aec_engine.specs.EditsAhead.{AreAhead, left_in};
 ghost use Rattle.aec_engine.specs.Delivering.{Delivers};
 
@@ -21,11 +24,11 @@ use crate::engine::intake::read_whole;
 use crate::engine::loading::{Room, append_all, judged_reader, roomy_workspace};
 use crate::engine::two_readings::room_at_once;
 use crate::script_edits::{EditsAhead, judge_script};
-use crate::script_plan::plan_script;
+use crate::script_plan::{Plan, plan_script};
 use crate::scripts::{EditFault, Script};
 use aec_bits::{BitBuf, Codec, Sink, Source};
 use aec_edit::Workspace;
-use aec_interval::AecCodec;
+use aec_interval::{AecCodec, StreamReader};
 use aec_params::{Fault, Limits, Params};
 use std::alloc::Global;
 
@@ -79,6 +82,50 @@ fn carry_rest<C: Codec>(
     Ok(())
 }
 
+/// Appends the samples of a reader to an empty workspace over a codec that has coded nothing,
+/// applies the edits of a plan to them, and returns the workspace.
+fn edit_planned<C: Codec + Drop>(
+    alloc: Global,
+    params: &Params,
+    reader: &mut StreamReader,
+    mut workspace: Workspace<C>,
+    plan: &Plan,
+) -> Result<Workspace<C>, EditFault>
+    requires unread { IsUnread reader.old params.now }
+    requires format { C.format workspace.codec ≡ interval_format params.now }
+    requires empty { IsEmptyFor reader.old (C.format workspace.codec) workspace.limit
+        workspace.samples (C.called workspace.codec) }
+    requires room { HasRoomOfRead reader.old workspace.room.bits workspace.room.intervals }
+    requires sound { (listing_in plan.now).bad ≡ None }
+    requires few { plan.now.lines_read + text_left (text_behind plan.now) ≤ 2 ^ 63 }
+    ensures edits { EditsSamples params.now workspace.limit reader.old (listing_in plan.now)
+        (answer_by (λ w. recoded_of (C.format w.codec) w.samples (C.called w.codec)) result) }
+    ensures format { IfOk result (λ w. C.format w.codec ≡ interval_format params.now) }
+    ensures limit { IfOk result (λ w. w.limit ≡ workspace.limit) }
+{
+    let mut samples = room_at_once(alloc, params)?;
+    let mut ahead = EditsAhead::new(alloc, plan)?;
+    append_all(
+        alloc,
+        params,
+        reader,
+        &mut samples,
+        &mut workspace,
+        &mut ahead,
+    )?;
+    carry_rest(alloc, &mut workspace, &mut ahead)?;
+    Ok(workspace)
+}
+
+/// How coded bits are decoded: the parameters of their samples, the limits, and the number of
+/// samples, or `None` for all.
+#[derive(Clone, Copy)]
+struct Terms {
+    params: Params,
+    limits: Limits,
+    count: Option<u64>,
+}
+
 /// Decodes bits to samples, applies the edits of a script to them, and returns a workspace with the
 /// samples that are left. `codec` must have coded nothing, and the lines of the script must have
 /// been judged. All bits are judged before memory is allocated for samples and before an edit is
@@ -86,36 +133,25 @@ fn carry_rest<C: Codec>(
 fn edit_bits<C: Codec + Drop>(
     alloc: Global,
     codec: C,
-    params: &Params,
-    limits: Limits,
-    count: Option<u64>,
+    terms: Terms,
     bits: &BitBuf,
     script: &[u8],
 ) -> Result<Workspace<C>, EditFault>
-    requires format { C.format codec ≡ interval_format params.now }
+    requires format { C.format codec ≡ interval_format terms.params }
     requires fresh { C.called codec ≡ 0 }
     requires known { (listing_of script.now).bad ≡ None }
-    ensures edits { EditsBits params.now limits count bits.now.list (listing_of script.now)
+    ensures edits { EditsBits terms.params terms.limits terms.count bits.now.list
+        (listing_of script.now)
         (answer_by (λ w. recoded_of (C.format w.codec) w.samples (C.called w.codec)) result) }
-    ensures format { IfOk result (λ w. C.format w.codec ≡ interval_format params.now) }
-    ensures limit { IfOk result (λ w. w.limit ≡ limits.samples) }
+    ensures format { IfOk result (λ w. C.format w.codec ≡ interval_format terms.params) }
+    ensures limit { IfOk result (λ w. w.limit ≡ terms.limits.samples) }
 {
-    let (mut reader, judged) = judged_reader(alloc, params, limits, count, bits)?;
-    let room = Room::of(params, judged);
-    let plan = plan_script(alloc, params, judged.total, script)?;
-    let mut samples = room_at_once(alloc, params)?;
-    let mut workspace = roomy_workspace(alloc, codec, limits, room)?;
-    let mut ahead = EditsAhead::new(alloc, &plan)?;
-    append_all(
-        alloc,
-        params,
-        &mut reader,
-        &mut samples,
-        &mut workspace,
-        &mut ahead,
-    )?;
-    carry_rest(alloc, &mut workspace, &mut ahead)?;
-    Ok(workspace)
+    let params = terms.params;
+    let (mut reader, judged) = judged_reader(alloc, &params, terms.limits, terms.count, bits)?;
+    let room = Room::of(&params, judged);
+    let plan = plan_script(alloc, &params, judged.total, script)?;
+    let workspace = roomy_workspace(alloc, codec, terms.limits, room)?;
+    edit_planned(alloc, &params, &mut reader, workspace, &plan)
 }
 
 /// Calls `begin`, and writes the bytes of the code of a workspace's samples. Fails with `Write` if
@@ -159,7 +195,12 @@ pub fn edit_over<C: Codec + Drop, Q: Source, R: Source, W: Sink>(
 {
     let script = read_script(alloc, limits, script_source)?;
     let bits = read_bits(alloc, source, limits.bytes())?;
-    let workspace = edit_bits(alloc, codec, params, limits, count, &bits, &script)?;
+    let terms = Terms {
+        params: *params,
+        limits,
+        count,
+    };
+    let workspace = edit_bits(alloc, codec, terms, &bits, &script)?;
     deliver_code(&workspace, sink)?;
     Ok(workspace)
 }

@@ -16,7 +16,7 @@ ghost use Rattle.aec_interval.specs.Pieces.{place_at};
 ghost use Rattle.aec_engine.specs.ReadingTwice.{AreSamplesOf, GaveWhole, IsAtStart, IsBegun, KeepsFront, StoresPart, DecodesBits, CutsBits};
 ghost use Rattle.aec_engine.specs.Buffers.{FillsOne, OrMemory};
 
-use crate::engine::decoding::{keep_more, room_to_keep};
+use crate::engine::decoding::{keep_more, room_for_answer};
 use crate::engine::ranging::judge_range;
 use crate::engine::two_readings::{
     Part, append_stored, judge_from, judge_samples, part_of, room_at_once,
@@ -303,7 +303,7 @@ fn decode_rest_into(
 
 /// Reads the first samples. If they are all that are asked for, writes their bytes to the front of
 /// a buffer, if there is room; else goes on as `decode_rest_into` does.
-fn decode_bits_into(
+pub(crate) fn decode_bits_into(
     alloc: Global,
     params: &Params,
     limits: Limits,
@@ -321,7 +321,7 @@ fn decode_bits_into(
     if are_all(count, samples.len()) {
         return Ok(put_first(params, &samples, out));
     }
-    let room = room_to_keep(params, bits, samples.capacity());
+    let room = room_for_answer(params, bits, count, samples.capacity());
     decode_rest_into(alloc, params, &mut reader, room, &mut samples, out)
 }
 

@@ -47,6 +47,18 @@ fn seek_from(reader: &mut StreamReader, place: ReachedPlace) -> u64
     end
 }
 
+/// Returns how many samples may be passed at a time, after `before` samples, so that the last
+/// interval that begins at or before sample `first` is met: any number once it is passed.
+fn most_at_once(before: u64, first: u64) -> u64
+    ensures { before < first → before + result ≤ first }
+{
+    if before < first {
+        first - before
+    } else {
+        u64::MAX
+    }
+}
+
 /// The result of judging: the number of samples, how many of them lie before the place to which the
 /// reader went back, and how many bits they were read from.
 #[derive(Clone, Copy)]
@@ -82,7 +94,7 @@ pub(crate) fn judge_from(
         place: reader.place(),
         before,
     };
-    while let Some(len) = reader.skip()? {
+    while let Some(len) = reader.skip_few(most_at_once(total, first))? {
         total += len;
         let here = Begin {
             place: reader.place(),

@@ -3,5 +3,5 @@ use Rattle.aec_c.proofs.answers.decode_front.Goals as goal
 
 pub returns-in-Ok-clause-some : goal.returns-in-Ok-clause-some
 returns-in-Ok-clause-some c =
-    fills_whole c.args.params.now c.limits.result c.args.count c.args.front c.args.bytes.now c.args.out.now c.decode_into.new.out c.in-Ok.len
-    c.limits.ensures c.requires.short c.in-Ok.ensures
+    fills_whole c.args.params.now c.args.count c.args.front c.args.bytes.now c.args.out.now c.decode_into.new.out c.in-Ok.len c.requires.short
+    (rw c.limits.ensures at c.in-Ok.ensures)

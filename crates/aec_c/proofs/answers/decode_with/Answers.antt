@@ -1,14 +1,14 @@
-use Rattle.std.proofs.Common.{sym, refl}
+use Rattle.std.proofs.Common.{sym}
 use Rattle.std.proofs.lemmas.Result.{err_from_is_err_and}
 use Rattle.aec_engine.proofs.BufferLemmas.{fills_refusal}
-use Rattle.aec_c.specs.Calls.{most, bad_settings}
+use Rattle.aec_c.specs.Calls.{bad_settings}
 use Rattle.aec_c.proofs.AnswerLemmas.{decoding_into}
 use Rattle.aec_c.proofs.answers.decode_with.Goals as goal
 
 pub returns : goal.returns
 returns c =
-    decoding_into _ c.in_ok-params.params most _ c.count_of.result c.args.bytes.now c.args.out.now _ c.decode_within_bound.result c.in_ok-params.ensures.ok
-    refl c.count_of.ensures c.in_ok-params.ensures.allowed c.decode_within_bound.ensures
+    rw (← c.in_ok-params.ensures.ok, ← c.count_of.ensures) (decoding_into c.in_ok-params.params c.count_of.result c.args.bytes.now c.args.out.now _
+    c.decode_within_bound.result c.in_ok-params.ensures.allowed c.decode_within_bound.ensures)
 
 pub returns-in_err-params : goal.returns-in_err-params
 returns-in_err-params c =

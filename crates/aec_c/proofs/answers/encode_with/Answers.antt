@@ -7,8 +7,8 @@ use Rattle.aec_c.proofs.answers.encode_with.Goals as goal
 
 pub returns : goal.returns
 returns c =
-    coding_into _ c.in_ok-params.params c.limits.result c.args.samples.now c.args.out.now _ c.encode_into.result c.in_ok-params.ensures.ok c.limits.ensures
-    c.in_ok-params.ensures.allowed c.encode_into.ensures
+    rw (← c.in_ok-params.ensures.ok) (coding_into c.in_ok-params.params c.args.samples.now c.args.out.now _ c.encode_into.result
+    c.in_ok-params.ensures.allowed (rw c.limits.ensures at c.encode_into.ensures))
 
 pub returns-in_err-params : goal.returns-in_err-params
 returns-in_err-params c =

@@ -1,14 +1,14 @@
-use Rattle.std.proofs.Common.{sym, refl}
+use Rattle.std.proofs.Common.{sym}
 use Rattle.std.proofs.lemmas.Result.{err_from_is_err_and}
 use Rattle.aec_engine.proofs.BufferLemmas.{fills_refusal}
-use Rattle.aec_c.specs.Calls.{most, no_settings}
+use Rattle.aec_c.specs.Calls.{no_settings}
 use Rattle.aec_c.proofs.AnswerLemmas.{ranging_into}
 use Rattle.aec_c.proofs.answers.range_with.Goals as goal
 
 pub returns : goal.returns
 returns c =
-    ranging_into _ c.in_ok-params.params most _ c.count_of-count.result c.args.first c.args.len c.args.bytes.now c.args.out.now _
-    c.range_within_bound.result c.in_ok-params.ensures.ok refl c.count_of-count.ensures c.in_ok-params.ensures.allowed c.range_within_bound.ensures
+    rw (← c.in_ok-params.ensures.ok, ← c.count_of-count.ensures) (ranging_into c.in_ok-params.params c.count_of-count.result c.args.first c.args.len
+    c.args.bytes.now c.args.out.now _ c.range_within_bound.result c.in_ok-params.ensures.allowed c.range_within_bound.ensures)
 
 pub returns-in_err-params : goal.returns-in_err-params
 returns-in_err-params c =

@@ -1,9 +1,11 @@
+use Rattle.std.proofs.Common.{refl}
+use Rattle.aec_c.specs.Kinds.{coder_in}
 use Rattle.aec_c.specs.HandleCalls.{held}
-use Rattle.aec_c.proofs.HandleLemmas.{was_in}
+use Rattle.aec_c.proofs.HandleLemmas.{kind_was}
 use Rattle.aec_c.proofs.coders.finish.Goals as goal
 
-pub returns-in-Some : goal.returns-in-Some
-returns-in-Some c =
-    held c.deref_mut.result.now c.finish_open-reply.new.made
-    (was_in (λ h. h.value) _ c.replace.result c.in-Some.made.value c.deref_mut.result.now c.replace.ensures.value c.in-Some.ensures
-    c.deref_mut.ensures.value) c.of.ensures c.finish_open-reply.ensures
+pub returns-in-Coder : goal.returns-in-Coder
+returns-in-Coder c =
+    held c.in-Coder.made c.finish_open.new.made
+    (kind_was coder_in c.args.inside.now c.in-Some.held c.deref_mut.result.now _ c.in-Some.is c.deref_mut.ensures.value c.in-Coder.is)
+    refl c.finish_open.ensures

@@ -1,16 +1,18 @@
+use Rattle.std.proofs.Common.{refl}
+use Rattle.aec_c.specs.Kinds.{workspace_in}
 use Rattle.aec_c.specs.HandleCalls.{held}
-use Rattle.aec_c.proofs.HandleLemmas.{was_in}
+use Rattle.aec_c.proofs.HandleLemmas.{kind_was}
 use Rattle.aec_c.proofs.handle_edits.append.Goals as goal
 
-pub returns-in-Some : goal.returns-in-Some
-returns-in-Some c =
-    held c.deref_mut.result.now (record { workspace = c.append-answer.new.self })
-    (was_in (λ h. h.value) _ c.replace.result c.in-Some.work.value c.deref_mut.result.now c.replace.ensures.value c.in-Some.ensures c.deref_mut.ensures.value)
-    c.of.ensures (record {
-      answer = c.append-answer.result;
+pub returns-in-Workspace : goal.returns-in-Workspace
+returns-in-Workspace c =
+    held c.in-Workspace.work (record { workspace = c.append.new.self })
+    (kind_was workspace_in c.args.inside.now c.in-Some.held c.deref_mut.result.now _ c.in-Some.is c.deref_mut.ensures.value c.in-Workspace.is)
+    refl (record {
+      answer = c.append.result;
       replied = c.edit_reply.ensures;
-      applies = c.append-answer.ensures.applies;
-      limit = c.append-answer.ensures.rules.limit;
-      format = c.append-answer.ensures.rules.format;
-      err = c.append-answer.ensures.err;
+      applies = c.append.ensures.applies;
+      limit = c.append.ensures.rules.limit;
+      format = c.append.ensures.rules.format;
+      err = c.append.ensures.err;
     })

@@ -1,16 +1,18 @@
+use Rattle.std.proofs.Common.{refl}
+use Rattle.aec_c.specs.Kinds.{workspace_in}
 use Rattle.aec_c.specs.HandleCalls.{held}
-use Rattle.aec_c.proofs.HandleLemmas.{was_in}
+use Rattle.aec_c.proofs.HandleLemmas.{kind_was}
 use Rattle.aec_c.proofs.handle_edits.apply_edit.Goals as goal
 
-pub returns-in-Some : goal.returns-in-Some
-returns-in-Some c =
-    held c.deref_mut.result.now (record { workspace = c.apply-answer.new.self })
-    (was_in (λ h. h.value) _ c.replace.result c.in-Some.work.value c.deref_mut.result.now c.replace.ensures.value c.in-Some.ensures c.deref_mut.ensures.value)
-    c.of.ensures (record {
-      answer = c.apply-answer.result;
+pub returns-in-Workspace : goal.returns-in-Workspace
+returns-in-Workspace c =
+    held c.in-Workspace.work (record { workspace = c.apply.new.self })
+    (kind_was workspace_in c.args.inside.now c.in-Some.held c.deref_mut.result.now _ c.in-Some.is c.deref_mut.ensures.value c.in-Workspace.is)
+    refl (record {
+      answer = c.apply.result;
       replied = c.edit_reply.ensures;
-      applies = record { answer = c.apply-answer.ensures.answer; samples = c.apply-answer.ensures.samples; opens = c.apply-answer.ensures.reads };
-      limit = c.apply-answer.ensures.rules.limit;
-      format = c.apply-answer.ensures.rules.format;
-      err = c.apply-answer.ensures.err;
+      applies = record { answer = c.apply.ensures.answer; samples = c.apply.ensures.samples; opens = c.apply.ensures.reads };
+      limit = c.apply.ensures.rules.limit;
+      format = c.apply.ensures.rules.format;
+      err = c.apply.ensures.err;
     })

@@ -1,6 +1,5 @@
-use Rattle.std.proofs.Common.{◌≡◌, true, Err, refl, sym, subst, ◌∙◌}
-use Rattle.aec_params.specs.Params.{IsAllowed}
-use Rattle.aec_c.specs.OffsetCalls.{is_bit_refused, IsDecodingAt, refused_options, has_result, has_bad_bit}
+use Rattle.std.proofs.Common.{Err, refl, sym, ◌∙◌}
+use Rattle.aec_c.specs.OffsetCalls.{IsDecodingAt, refused_options, has_result, has_bad_bit}
 use Rattle.aec_c.proofs.OffsetLemmas.{begins_within, begins_whole, decoding_at_into}
 use Rattle.aec_c.proofs.ReplyLemmas.{replies_of}
 use Rattle.aec_c.proofs.offsets.decode_from_bit.Goals as goal
@@ -15,9 +14,8 @@ returns-in-Err c = has_result (record {
 
 pub returns-then-is_bit_refused : goal.returns-then-is_bit_refused
 returns-then-is_bit_refused c =
-    has_bad_bit (subst IsAllowed c.in-Ok.ensures.ok c.in-Ok.ensures.allowed)
-    (subst (λ s. is_bit_refused s c.args.coded.now c.args.bit ≡ true) c.in-Ok.ensures.ok (sym c.is_bit_refused.ensures ∙ c.if-is_bit_refused.true)) refl
-    c.bit_refused.ensures
+    rw (← c.in-Ok.ensures.ok)
+    (has_bad_bit c.in-Ok.ensures.allowed (sym c.is_bit_refused.ensures ∙ c.if-is_bit_refused.true) refl c.bit_refused.ensures)
 
 pub decode_at_into-answer-requires-clause-within : goal.decode_at_into-answer-requires-clause-within
 decode_at_into-answer-requires-clause-within c =
@@ -29,7 +27,8 @@ decode_at_into-answer-requires-clause-whole_bytes c =
 
 pub returns : goal.returns
 returns c =
-    has_result (replies_of (IsDecodingAt _ c.args.bit _ c.args.coded.now) c.args.out.now _ _ _ _ refl
-    (decoding_at_into _ c.in-Ok.params c.limits.result c.args.bit _ c.count_of.result c.args.coded.now c.args.out.now _ c.decode_at_into-answer.result
-    c.in-Ok.ensures.ok c.limits.ensures c.count_of.ensures c.in-Ok.ensures.allowed (sym c.is_bit_refused.ensures ∙ c.if-is_bit_refused.false)
-    c.decode_at_into-answer.ensures) c.reply_of.ensures)
+    rw (← c.in-Ok.ensures.ok, ← c.count_of.ensures)
+    (has_result (replies_of (IsDecodingAt c.in-Ok.params c.args.bit c.count_of.result c.args.coded.now) c.args.out.now _ _ _ _ refl
+    (decoding_at_into c.in-Ok.params c.args.bit c.count_of.result c.args.coded.now c.args.out.now _ c.decode_at_into-answer.result
+    c.in-Ok.ensures.allowed (sym c.is_bit_refused.ensures ∙ c.if-is_bit_refused.false) (rw c.limits.ensures at c.decode_at_into-answer.ensures))
+    c.reply_of.ensures))

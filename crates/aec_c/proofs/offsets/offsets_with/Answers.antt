@@ -7,8 +7,8 @@ use Rattle.aec_c.proofs.offsets.offsets_with.Goals as goal
 
 pub returns : goal.returns
 returns c =
-    finding_into _ c.in_ok-params.params c.limits.result _ c.count_of.result c.args.coded.now c.args.out.now _ c.offsets_into.result
-    c.in_ok-params.ensures.ok c.limits.ensures c.count_of.ensures c.in_ok-params.ensures.allowed c.offsets_into.ensures
+    rw (← c.in_ok-params.ensures.ok, ← c.count_of.ensures) (finding_into c.in_ok-params.params c.count_of.result c.args.coded.now c.args.out.now _
+    c.offsets_into.result c.in_ok-params.ensures.allowed (rw c.limits.ensures at c.offsets_into.ensures))
 
 pub returns-in_err-params : goal.returns-in_err-params
 returns-in_err-params c =

@@ -1,9 +1,11 @@
+use Rattle.std.proofs.Common.{refl}
+use Rattle.aec_c.specs.Kinds.{reader_in}
 use Rattle.aec_c.specs.HandleCalls.{held}
-use Rattle.aec_c.proofs.HandleLemmas.{was_in}
+use Rattle.aec_c.proofs.HandleLemmas.{kind_was}
 use Rattle.aec_c.proofs.readers.go_to.Goals as goal
 
-pub returns-in-Some : goal.returns-in-Some
-returns-in-Some c =
-    held c.deref_mut.result.now c.go_open-reply.new.made
-    (was_in (λ h. h.value) _ c.replace.result c.in-Some.made.value c.deref_mut.result.now c.replace.ensures.value c.in-Some.ensures
-    c.deref_mut.ensures.value) c.of.ensures c.go_open-reply.ensures
+pub returns-in-Reader : goal.returns-in-Reader
+returns-in-Reader c =
+    held c.in-Reader.made c.go_open.new.made
+    (kind_was reader_in c.args.inside.now c.in-Some.held c.deref_mut.result.now _ c.in-Some.is c.deref_mut.ensures.value c.in-Reader.is)
+    refl c.go_open.ensures

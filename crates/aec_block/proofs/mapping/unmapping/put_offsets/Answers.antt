@@ -13,9 +13,9 @@ returns c =
     let s = c.args.params.now in
     let values = c.args.values.now in
     let done = 8 * (length values / 8) in
-    let at_first : c.offset_of-first.result ≡ sample_offset s c.args.previous =
-    c.offset_of-first.ensures.value ∙ ap (sample_offset s) (to_z-of_z w64 c.args.previous c.ranges.previous) in
-    let previous_is : x_min s +ℤ pos c.offset_of-first.result ≡ c.args.previous =
+    let at_first : c.first_prediction-first.result ≡ sample_offset s c.args.previous =
+    c.first_prediction-first.ensures.value ∙ ap (sample_offset s) (to_z-of_z w64 c.args.previous c.ranges.previous) in
+    let previous_is : x_min s +ℤ pos c.first_prediction-first.result ≡ c.args.previous =
     ap (λ (k : ℕ). x_min s +ℤ pos k) at_first ∙ sym (sample-offset s c.args.previous c.requires.prediction) in
     let whole : take done values ++ take (length values - done) (drop done values) ≡ values =
     ap (λ (vs : List ℕ). take done values ++ vs) (take_rest values done) ∙ take-append-drop done values in

@@ -4,4 +4,4 @@ use Rattle.aec_block.proofs.writing.high_parts.put_high_groups.Given as goal
 
 abbrev pub invariant-loop-i : goal.invariant-loop-i
 invariant-loop-i l =
-    GathersBits (l.fn.gathered ++ high_parts l.k l.values) l.fn.out (l.gathered ++ high_parts l.k (drop (8 * l.i) l.values)) l.out
+    GathersBits (l.fn.gathered ++ high_parts l.k l.values) l.fn.out (l.gathered ++ high_parts l.k (drop (16 * l.i) l.values)) l.out

@@ -21,8 +21,8 @@ use Rattle.std.proofs.raw_atomic.Walks.{proved}
 use Rattle.std.specs.declared.alloc.Global.{Global}
 use Rattle.std.specs.contracts.alloc.Global as heap
 use Rattle.std.proofs.alloc.Global.TheLaws as heap_laws
-use Rattle.aec_c.specs.contracts.handle.OpenWorkspace as work
-use Rattle.aec_c.proofs.handle.OpenWorkspace.TheLaws as work_laws
+use Rattle.aec_c.specs.contracts.kinds.Open as kinds
+use Rattle.aec_c.proofs.kinds.Open.TheLaws as kinds_laws
 use Rattle.aec_c.specs.contracts.handle.Handle as handle
 use Rattle.aec_c.specs.contracts.handle.Handle.into_loose as f
 use Rattle.aec_c.proofs.handle.Handle.TheLaws.{lowers}
@@ -38,22 +38,22 @@ abbrev name : Sym
 name = (handle.struct).name
 
 abbrev Result : RattleType
-Result = Out work.the_row work_laws.the_row_laws
+Result = Out kinds.the_row kinds_laws.the_row_laws
 
 module _ {M : Type 1} (𝓤 : Ura M) (𝓛 : Logic 𝓤) (𝓜 : Model 𝓤 𝓛.H) (𝓡 : Running 𝓤 𝓛.H 𝓜) (a : Global) where
   abbrev c : Clauses 𝓤 f.ended
   c = f.clauses 𝓛 𝓜.mem 𝓡.returns
 
-  abbrev at_entry : Ptr → Bool → Option work.the_row.Denot → (walk_of 𝓛 f.ended stayed c).Ghost
+  abbrev at_entry : Ptr → Bool → Option kinds.the_row.Denot → (walk_of 𝓛 f.ended stayed c).Ghost
   at_entry p t x = ((tt, tt, tt, (record { at = p; full = t; value = x }, (a, tt)), (word p t ∷ [], (heap_laws.lowered a ∷ [], tt))), tt)
 
-  abbrev Post : Ptr → Bool → Option work.the_row.Denot → Val → SProp 𝓤
+  abbrev Post : Ptr → Bool → Option kinds.the_row.Denot → Val → SProp 𝓤
   Post p t x = (walk_of 𝓛 f.ended stayed c).post (at_entry p t x)
 
-  full : (b o : ℕ) (x : work.the_row.Denot) (v : Val)
-      → ent 𝓤 (sem 𝓛 (Result.own_val (Some (made work.the_row work_laws.the_row_laws a b o x)) (v ∷ []))) (Post (block_ptr b o) true (Some x) v)
+  full : (b o : ℕ) (x : kinds.the_row.Denot) (v : Val)
+      → ent 𝓤 (sem 𝓛 (Result.own_val (Some (made kinds.the_row kinds_laws.the_row_laws a b o x)) (v ∷ []))) (Post (block_ptr b o) true (Some x) v)
   full b o x v =
-      let loose = made work.the_row work_laws.the_row_laws a b o x in
+      let loose = made kinds.the_row kinds_laws.the_row_laws a b o x in
       qed 𝓛 (‵ (Result.own_val (Some loose) (v ∷ [])) ∷ []) ∵
       suffices ! _ (ends_at 𝓛 f.ended stayed c (at_entry (block_ptr b o) true (Some x)) v (Some loose) (tt, (tt, tt)) (tt, (tt, tt))) $ says ! refl $
       nothing ! $ nothing ! $ fjoin ! $ nothing ! $ fjoin ! $ join ! $ nothing ! $ join ! $ done !
@@ -73,4 +73,4 @@ into_loose_spec 𝓤 𝓛 𝓜 𝓡 wired =
     (λ κs qs bounds a g are. let d = a.0 in let h = a.1.0 in let vs = heap_laws.lowered h ∷ [] in
     qed 𝓛 ((‵ ftrue ⊛ ‵ (fsep ((handle.the_row).own_val d (word d.at d.full ∷ [])) (fsep ((heap.the_row).own_val h vs) ftrue))) ∷ raw (emp 𝓤) ∷ []) ∵
     split ! $ drop ! $ fsplit3 ! $ use1 𝓛 (‵ (handle.the_heap d)) (handle_out 𝓛 name d.at d.full (handle.the_heap d)) $ keep ! (0 ∷ 1 ∷ []) $
-    by ! (walk work.the_row work_laws.the_row_laws name 𝓤 𝓛 𝓜 𝓡 h (Post 𝓤 𝓛 𝓜 𝓡 h) (full 𝓤 𝓛 𝓜 𝓡 h) (none 𝓤 𝓛 𝓜 𝓡 h) d.at d.full d.value))
+    by ! (walk kinds.the_row kinds_laws.the_row_laws name 𝓤 𝓛 𝓜 𝓡 h (Post 𝓤 𝓛 𝓜 𝓡 h) (full 𝓤 𝓛 𝓜 𝓡 h) (none 𝓤 𝓛 𝓜 𝓡 h) d.at d.full d.value))

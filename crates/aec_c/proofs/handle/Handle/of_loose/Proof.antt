@@ -19,8 +19,8 @@ use Rattle.std.proofs.BoxSteps.Form as box
 use Rattle.std.proofs.BoxSteps.Steps.{box_out}
 use Rattle.aec_c.specs.Handles.{handle_owns}
 use Rattle.aec_c.specs.declared.handle.Handle.{Handle}
-use Rattle.aec_c.specs.contracts.handle.OpenWorkspace as work
-use Rattle.aec_c.proofs.handle.OpenWorkspace.TheLaws as work_laws
+use Rattle.aec_c.specs.contracts.kinds.Open as kinds
+use Rattle.aec_c.proofs.kinds.Open.TheLaws as kinds_laws
 use Rattle.aec_c.specs.contracts.handle.Handle as handle
 use Rattle.aec_c.specs.contracts.handle.Handle.of_loose as f
 use Rattle.aec_c.proofs.HandleSteps.{word, word_good, handle_in}
@@ -29,15 +29,15 @@ use Rattle.aec_c.proofs.handle.Handle.of_loose.Statement.{statement}
 use Rattle.aec_c.proofs.handle.Handle.of_loose.Code as code
 
 abbrev E : box.Bx
-E = boxed work.the_row work_laws.the_row_laws
+E = boxed kinds.the_row kinds_laws.the_row_laws
 
 abbrev stayed : Stays f.ended.signature.params f.ended.kept
-stayed = (stay_dropped (FromLoose work.the_row) yes, tt)
+stayed = (stay_dropped (FromLoose kinds.the_row) yes, tt)
 
 pub of_loose_spec : {M : Type 1} → statement M
 of_loose_spec 𝓤 𝓛 𝓜 𝓡 wired =
     let c = f.clauses 𝓛 𝓜.mem 𝓡.returns in let 𝓣 = tables 𝓤 𝓛.H 𝓜 𝓡 𝓡.env in
-    proved_at 𝓛 f.ended stayed c 𝓜 𝓡 (Goes-dropped 𝓛 0 (FromLoose work.the_row) yes (λ κs x w. refl), tt)
+    proved_at 𝓛 f.ended stayed c 𝓜 𝓡 (Goes-dropped 𝓛 0 (FromLoose kinds.the_row) yes (λ κs x w. refl), tt)
     f.Key.name code.function (code.unfolded 𝓤 𝓛.H 𝓜 𝓡 wired) (λ z are.
     let Run : List Val → SProp 𝓤 = λ vs. WpFn 𝓤 𝓛.H 𝓣.C 𝓣.Λ code.function vs ((walk_of 𝓛 f.ended stayed c).post z) in
     let v : box.D E = record { ptr = z.0.3.0.at; alloc = z.0.3.0.alloc; value = z.0.3.0.value } in

@@ -2,7 +2,7 @@ use Rattle.std.proofs.Common.{arith, ◌<◌, ◌^◌, ◌≤◌, inl, ◌∙◌
 use Rattle.std.proofs.lemmas.Result.{err_from_is_err_and}
 use Rattle.aec_engine.specs.declared.scripts.EditFault.TheVariants.{Plain}
 use Rattle.aec_engine.specs.EditsAhead.{left_in}
-use Rattle.aec_engine.proofs.LoadingLemmas.{loads_none, loads_more, loads_all, loads_stops, loads_memory, append_lacks, stops_err, early_err}
+use Rattle.aec_engine.proofs.LoadingLemmas.{loads_none, loads_more, loads_all, loads_stops, loads_memory, append_lacks, early_stops}
 use Rattle.aec_engine.proofs.engine.loading.append_all.Goals as goal
 
 pub loop-spare-init : goal.loop-spare-init
@@ -18,7 +18,7 @@ loop-spare-init g c = record {
 pub returns-in_err-next_intervals-clause-refuses : goal.returns-in_err-next_intervals-clause-refuses
 returns-in_err-next_intervals-clause-refuses g c =
     let exit = err_from_is_err_and c.from_residual.result c.from_residual.ensures.1 in
-    stops_err c.from_residual.result exit.0 _ _ (left_in c.args.ahead.now) c.args.reader.now exit.1 (inl (exit.2 ∙ ap Plain
+    rw exit.1 (inl (exit.2 ∙ ap Plain
     (loads_memory c.args.reader.now c.loop-spare.reader _ _ (left_in c.args.ahead.now) (left_in c.loop-spare.ahead) _
     c.requires.unread.read.0 _ _ c.loop-spare.invariant.loads c.requires.unread.read.1 c.in_err-next_intervals.ensures.refuses)))
 
@@ -27,7 +27,7 @@ returns-in_err-append-clause-refuses g c =
     let exit = err_from_is_err_and c.from_residual-in_err-append.result c.from_residual-in_err-append.ensures.1 in
     let allowed = c.requires.empty.allowed in
     let so_far = c.loop-spare.invariant in
-    stops_err c.from_residual-in_err-append.result exit.0 _ _ (left_in c.args.ahead.now) c.args.reader.now exit.1 (inl (exit.2 ∙ ap Plain
+    rw exit.1 (inl (exit.2 ∙ ap Plain
     (append_lacks c.args.reader.now c.loop-spare.reader c.next_intervals.new.reader _ _ _ _ (left_in c.args.ahead.now) (left_in c.loop-spare.ahead)
     c.loop-spare.workspace.samples _ c.deref.result.now
     c.requires.unread.read.0 _ _ _ allowed so_far.format c.requires.empty.format
@@ -40,15 +40,15 @@ returns-in_err-carry_early-clause-refuses g c =
     let exit = err_from_is_err_and c.from_residual-in_err-carry_early.result c.from_residual-in_err-carry_early.ensures.1 in
     let allowed = c.requires.empty.allowed in
     let so_far = c.loop-spare.invariant in
-    early_err c.from_residual-in_err-carry_early.result exit.0 c.in_err-carry_early.field-0.0 _ _ (left_in c.args.ahead.now) c.args.reader.now _ exit.1
-    exit.2 c.in_err-carry_early.ensures.refuses (λ stops xs given.
+    rw (exit.1, exit.2) (early_stops c.in_err-carry_early.field-0.0 _ _ (left_in c.args.ahead.now) c.args.reader.now _
+    c.in_err-carry_early.ensures.refuses (λ stops xs given.
     loads_stops c.args.reader.now c.loop-spare.reader c.next_intervals.new.reader _ _ _ _ _ (left_in c.args.ahead.now) (left_in c.loop-spare.ahead)
     c.loop-spare.workspace.samples _ c.deref.result.now c.append.new.self.samples xs _ c.in_err-carry_early.field-0.0 allowed so_far.format
     (c.append.ensures.rules.format ∙ so_far.format) (c.append.ensures.rules.limit ∙ so_far.limit)
     (subst (λ f. 0 < f.most) so_far.format (g.C.Codec.lawful c.loop-spare.workspace.codec).some)
     c.requires.unread.within (subst (λ n. n ≤ 2 ^ 32) c.requires.empty.limit_is c.requires.empty.bound) so_far.loads
     (c.in_ok-next_intervals.ensures.read c.if-branch.true) c.in_ok-next_intervals.ensures.ends c.deref.ensures.value
-    c.in_ok-append.ensures.applies.samples stops given)
+    c.in_ok-append.ensures.applies.samples stops given))
 
 pub loop-spare-preserved : goal.loop-spare-preserved
 loop-spare-preserved g c =

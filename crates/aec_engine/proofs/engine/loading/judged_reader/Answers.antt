@@ -1,8 +1,6 @@
-use Rattle.std.proofs.Common.{◌≢◌, Some, ◌∙◌, ap, sym, subst}
+use Rattle.std.proofs.Common.{Some, ◌∙◌, ap}
 use Rattle.std.proofs.lemmas.Result.{err_from_is_err_and}
-use Rattle.aec_params.specs.declared.fault.Fault.TheVariants.{Memory}
-use Rattle.aec_interval.specs.Reached.{faulty, RefusesDecoding}
-use Rattle.aec_engine.proofs.LoadingLemmas.{refuses_err}
+use Rattle.aec_interval.specs.Reached.{faulty}
 use Rattle.aec_engine.proofs.ReadTwiceLemmas.{faults_last}
 use Rattle.aec_engine.proofs.SettlingLemmas.{refuses_count, refuses_reading}
 use Rattle.aec_engine.proofs.engine.loading.judged_reader.Goals as goal
@@ -10,20 +8,15 @@ use Rattle.aec_engine.proofs.engine.loading.judged_reader.Goals as goal
 pub returns-in_err-reader-clause-refuses : goal.returns-in_err-reader-clause-refuses
 returns-in_err-reader-clause-refuses c =
     let exit = err_from_is_err_and c.from_residual.result c.from_residual.ensures.1 in
-    refuses_err _ exit.0 (RefusesDecoding c.args.params.now c.args.count c.args.limits.samples c.args.bits.now.list) exit.1
-    (subst (λ limit. RefusesDecoding c.args.params.now c.args.count limit c.args.bits.now.list exit.0) c.samples.ensures.value
-    (refuses_count _ _ _ _ exit.0 (ap Some exit.2 ∙ c.in_err-reader.ensures.refuses)))
+    rw (exit.1, ← c.samples.ensures.value) (refuses_count _ _ _ _ exit.0 (ap Some exit.2 ∙ c.in_err-reader.ensures.refuses))
 
 pub returns-in_err-judged-clause-refuses : goal.returns-in_err-judged-clause-refuses
 returns-in_err-judged-clause-refuses c =
     let exit = err_from_is_err_and c.from_residual-in_err-judged.result c.from_residual-in_err-judged.ensures.1 in
-    refuses_err _ exit.0 (RefusesDecoding c.args.params.now c.args.count c.args.limits.samples c.args.bits.now.list) exit.1
-    (subst (λ limit. RefusesDecoding c.args.params.now c.args.count limit c.args.bits.now.list exit.0) c.samples.ensures.value
-    (subst (RefusesDecoding _ _ _ _) (sym exit.2) (refuses_reading _ _ _ _ c.in_ok-reader.reader c.in_err-judged.field-0.0 c.in_ok-reader.ensures.ok
-    c.in_ok-reader.ensures.refuses (faulty _ c.in_err-judged.ensures.refuses))))
+    rw (exit.1, exit.2, ← c.samples.ensures.value) (refuses_reading _ _ _ _ c.in_ok-reader.reader c.in_err-judged.field-0.0 c.in_ok-reader.ensures.ok
+    c.in_ok-reader.ensures.refuses (faulty _ c.in_err-judged.ensures.refuses))
 
 pub returns-in_err-judged-clause-fault : goal.returns-in_err-judged-clause-fault
 returns-in_err-judged-clause-fault c =
     let exit = err_from_is_err_and c.from_residual-in_err-judged.result c.from_residual-in_err-judged.ensures.1 in
-    let lasting = faults_last _ _ _ _ _ _ _ c.in_err-judged.ensures.refuses in
-    refuses_err _ exit.0 (λ fault. fault ≢ Memory) exit.1 (subst (λ fault. fault ≢ Memory) (sym exit.2) lasting)
+    rw (exit.1, exit.2) (faults_last _ _ _ _ _ _ _ c.in_err-judged.ensures.refuses)

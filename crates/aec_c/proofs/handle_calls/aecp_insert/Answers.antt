@@ -1,0 +1,4 @@
+use Rattle.aec_c.proofs.handle_calls.aecp_insert.Goals as goal
+
+pub returns-clause-edits : goal.returns-clause-edits
+returns-clause-edits c = rw (c.take-inside.ensures.held, c.put.ensures) c.insert.ensures
