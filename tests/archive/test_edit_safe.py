@@ -3,13 +3,15 @@
 from __future__ import annotations
 
 import os
+import random
 from typing import Any
 
 import aecp
 import pytest
-from making import FAST, keep, leftovers, noise, parts_at, read, samples_at, walk, write
-from running import How, Hooks, command, done, refused
+from lib import foreign_writer
 from lib.settings import Settings
+from making import FAST, USUAL, keep, leftovers, noise, old_pair, options_of, parts_at, read, samples_at, walk, write
+from running import How, Hooks, command, done, refused
 
 
 @pytest.mark.parametrize("how", ["inverse", "inverse stream", "stream", "sum"])
@@ -123,6 +125,21 @@ def test_a_full_disk_changes_nothing(place: str) -> None:
             ran = command(place, *words, given=b"overwrite 0 7\n", how=How(hooks=Hooks(room=room)))
             assert ran.status == 1 and "space" in ran.err, (words, room, ran)
             assert read(path) == before and leftovers(place) == []
+
+
+def test_another_coders_stream_comes_back_by_undo(place: str) -> None:
+    """Our coder would write another stream for these samples, so an inverse script alone doesn't restore it."""
+    samples = walk(1, 3000)
+    stream = foreign_writer.stream(samples, USUAL, random.Random(1))
+    path = old_pair(place, "f", samples, coded=stream)
+    write(place, "f", USUAL.stored(samples))
+    done(place, "keep", "f", *USUAL.options())
+    assert parts_at(path).stream == stream != bytes(aecp.encode(USUAL.stored(samples), options_of(USUAL)))
+    for script in (b"overwrite 5 9\noverwrite 2000 7\n", b"insert 100 1 2 3\n", b"remove 0 64\nappend 9\n"):
+        done(place, "edit", "f.aec", "-", given=script)
+    for _ in range(3):
+        done(place, "undo", "f.aec")
+    assert parts_at(path).stream == stream
 
 
 @pytest.mark.parametrize("words,cut", [("edit f.aec -", 0), ("edit f.aec -", 3), ("undo f.aec", 0), ("undo f.aec", 3)])
