@@ -4,6 +4,7 @@ from __future__ import annotations
 
 import os
 import random
+from pathlib import Path
 from typing import Any
 
 import aecp
@@ -167,3 +168,19 @@ def test_a_wrong_coder_is_noticed(place: str, words: str, cut: int) -> None:
     before = read(path)
     ran = command(place, *words.split(), given=b"overwrite 5 9\n", how=How(before=wrong))
     assert ran.status == 1 and read(path) == before, ran
+
+
+@pytest.mark.skipif(os.geteuid() != 0, reason="only root gives files away")
+def test_a_group_that_cannot_be_given_gets_no_rights(tmp_path: Path) -> None:
+    """The new file has the group of its writer, which the old file's mode wasn't meant for."""
+    path = keep(str(tmp_path), "f", walk(1, 500))
+    for folder in (tmp_path, *tmp_path.parents):
+        if str(folder) not in ("/", "/tmp"):
+            os.chmod(folder, 0o755)
+    os.chmod(tmp_path, 0o777)
+    os.chown(path, 65534, 12345)
+    os.chmod(path, 0o664)
+    ran = command(str(tmp_path), "edit", "f.aec", "-", how=How(b"append 7\n", user=65534))
+    assert ran.status == 0, ran
+    status = os.stat(path)
+    assert (status.st_uid, status.st_gid, status.st_mode & 0o777) == (65534, 65534, 0o604)
