@@ -1,17 +1,13 @@
 -- Edits as exchanges of places, judged one after the other.
-use Rattle.std.proofs.Common.{◌≡◌, ℕ, ◌+◌, ◌-◌, ◌*◌, ◌%◌, ◌<◌, ◌≤◌, ◌^◌, Bool, true, false, cond, eqb, Option, Some, None, List, [], ◌∷◌, ◌++◌, length, take, drop, get_or, ℤ, refl, sym, ap, ◌∙◌, subst, inr, arith, length-append}
+use Rattle.std.proofs.Common.{◌≡◌, ℕ, ◌+◌, ◌-◌, ◌%◌, ◌<◌, ◌≤◌, ◌^◌, Bool, true, false, cond, eqb, Option, Some, None, List, [], ◌∷◌, ◌++◌, length, take, drop, get_or, ℤ, refl, sym, ap, ◌∙◌, subst, arith, length-append}
 use Rattle.std.specs.Int.{div_ceil}
 use Rattle.std.specs.Option.{option_or}
-use Rattle.std.proofs.lemmas.Bool.Decides.{nat_tests}
-use Rattle.std.proofs.lemmas.List.{append-nil, nil_from_length, length-take, length-drop, take_all, drop_all, take-append-drop, take_more, drop_more}
-use Rattle.std.proofs.Math.Nat.{mod-eq_of_lt}
+use Rattle.std.proofs.lemmas.List.{append-nil, length-take, length-drop, take_all, drop_all, take_more, drop_more}
 use Rattle.aec_params.specs.declared.fault.Fault.{Fault}
-use Rattle.aec_params.specs.declared.fault.Fault.TheVariants.{Spent}
 use Rattle.aec_params.specs.declared.edit.Edit.{Edit}
 use Rattle.aec_params.specs.declared.edit.Edit.TheVariants.{Overwrite, Append, Truncate, Insert, Remove}
 use Rattle.aec_params.specs.Edits.{needed_calls, samples_after}
 use Rattle.aec_params.proofs.CountLaws.{ceil_bounds}
-use Rattle.aec_params.proofs.CuttingLaws.{div_ceil-zero}
 use Rattle.aec_params.proofs.MoveLaws.{from_to}
 use Rattle.aec_bits.specs.Codec.{Format, AreHeld, IsLawful}
 use Rattle.aec_bits.specs.Refusals.{refusal_of}
@@ -19,7 +15,7 @@ use Rattle.aec_bits.proofs.RefusalLaws.{overwrite_fits, append_fits, truncate_fi
 use Rattle.aec_edit.specs.declared.batch.Change.{Change}
 use Rattle.aec_edit.specs.declared.outcome.Stop.{Stop}
 use Rattle.aec_edit.specs.Calls.{want_of_calls, due_refusal}
-use Rattle.aec_edit.specs.Changes.{IsExchangeUpTo, exchanged, fresh_total, recoding_calls}
+use Rattle.aec_edit.specs.Changes.{IsExchangeUpTo, exchanged, recoding_calls}
 use Rattle.aec_edit.specs.Batches.{all_after, all_needed, stop_or, first_refusal}
 use Rattle.aec_edit.specs.Batched.{HasCount, CanExchangeIn, IsExchangeFor, IsChangeOf, FitSoFar}
 use Rattle.aec_edit.proofs.ExchangeLemmas.{recoding, ceil_mono}
@@ -32,11 +28,11 @@ use Rattle.aec_edit.proofs.TruncateLemmas.{truncate_can, truncate_calls}
 use Rattle.aec_edit.proofs.InsertLemmas.{insert_can, insert_calls}
 use Rattle.aec_edit.proofs.RemoveLemmas.{remove_can, remove_calls}
 use Rattle.aec_edit.proofs.MoveLemmas.{end_for}
-use Rattle.aec_edit.proofs.NothingLaws.{codes_nothing}
 
 -- ---- which places can be exchanged
 
-pub to_last_in : (n limit count first stop to len : ℕ) → 0 < n → count ≤ limit → first ≤ stop → stop ≤ count → to ≡ div_ceil stop n → first + len + (count - stop) ≤ limit
+pub to_last_in : (n limit count first stop to len : ℕ) → 0 < n → count ≤ limit
+    → first ≤ stop → stop ≤ count → to ≡ div_ceil stop n → first + len + (count - stop) ≤ limit
     → CanExchangeIn n limit count (from_to first stop) to len
 to_last_in n limit count first stop to len some there order within to_is few = record {
   there = there;
@@ -109,46 +105,7 @@ is_change f limit count first stop to s values e change counted fits can needed 
       few = omega (arith, sizes, can.few);
     }
 
-no_calls : (n count : ℕ) → 0 < n → recoding_calls n count (recoding 0 0 0 0) ≡ 0
-no_calls n count some =
-    let rest : 0 % n ≡ 0 = mod-eq_of_lt some in
-    let total : fresh_total n count (recoding 0 0 0 0) ≡ 0 = omega arith in
-    ap (λ k. div_ceil k n) total ∙ div_ceil-zero n some
-
-none_can : (f : Format) (limit : ℕ) (s : List ℤ) → 1 ≤ f.most → length s ≤ limit → IsExchangeUpTo f limit s (from_to 0 0) 0 []
-none_can f limit s some few =
-    let rest : 0 % f.most ≡ 0 = mod-eq_of_lt some in
-    let total : fresh_total f.most (length s) (recoding 0 0 0 0) ≡ 0 * f.most = omega arith in
-    record {
-      order = omega arith;
-      within = omega arith;
-      reaches = omega (arith, div_ceil-zero f.most some);
-      inside = omega arith;
-      held = refl;
-      fitting = inr (0, total);
-      few = omega arith;
-    }
-
--- an edit that changes nothing
-none_change : (f : Format) (limit count : ℕ) (s values : List ℤ) (e : Edit) (change : Change) → IsLawful f → HasCount f count s → count ≤ limit
-    → refusal_of f limit s e ≡ None → length values ≡ 0 → needed_calls f.most (length s) e ≡ 0 → samples_after s e ≡ s
-    → IsExchangeFor f.most count (from_to 0 0) 0 values change → IsChangeOf f limit s e change
-none_change f limit count s values e change lawful counted few fits none codes same is =
-    let nil : values ≡ [] = nil_from_length values none in
-    is_change f limit count 0 0 0 s [] e change counted fits
-    (none_can f limit s lawful.some (omega (arith, counted.length_is))) (no_calls f.most (length s) lawful.some ∙ sym codes) same
-    (rw nil at is)
-
 module _ (f : Format) (limit count : ℕ) (s : List ℤ) (lawful : IsLawful f) (counted : HasCount f count s) (few : count ≤ limit) where
-  pub overwrite_none : (first : ℕ) (values : List ℤ) (change : Change) → AreHeld f values → first + length values ≤ count → length values ≡ 0
-      → IsExchangeFor f.most count (from_to 0 0) 0 values change → IsChangeOf f limit s (Overwrite first values) change
-  overwrite_none first values change held within none is =
-      let nil : values ≡ [] = nil_from_length values none in
-      let same : first + 0 ≡ first = omega arith in
-      let all : samples_after s (Overwrite first []) ≡ s = ap (λ k. take first s ++ drop k s) same ∙ take-append-drop first s in
-      none_change f limit count s values (Overwrite first values) change lawful counted few
-      (overwrite_fits f limit first s values held (omega (arith, counted.length_is))) none (rw nil refl) (rw nil all) is
-
   pub overwrite_change : (first stop to : ℕ) (values : List ℤ) (change : Change) → AreHeld f values → first + length values ≤ count → 0 < length values
       → stop ≡ first + length values → to ≡ div_ceil stop f.most
       → IsExchangeFor f.most count (from_to first stop) to values change → IsChangeOf f limit s (Overwrite first values) change
@@ -160,13 +117,6 @@ module _ (f : Format) (limit count : ℕ) (s : List ℤ) (lawful : IsLawful f) (
       (up_to_last f limit first (first + length values) s values lawful counted.held can)
       (same_calls f limit first (first + length values) s values lawful counted.held can ∙ overwrite_calls f.most first (length values) lawful.some some)
       refl (rw (to_is, stop_is) at is)
-
-  pub append_none : (values : List ℤ) (change : Change) → AreHeld f values → length s + length values ≤ limit → length values ≡ 0
-      → IsExchangeFor f.most count (from_to 0 0) 0 values change → IsChangeOf f limit s (Append values) change
-  append_none values change held fits none is =
-      let nil : values ≡ [] = nil_from_length values none in
-      none_change f limit count s values (Append values) change lawful counted few
-      (append_fits f limit s values held fits) none (rw nil refl) (rw nil (append-nil s)) is
 
   pub append_change : (to : ℕ) (values : List ℤ) (change : Change) → AreHeld f values → length s + length values ≤ limit → 0 < length values
       → to ≡ div_ceil count f.most → IsExchangeFor f.most count (from_to count count) to values change → IsChangeOf f limit s (Append values) change
@@ -183,14 +133,6 @@ module _ (f : Format) (limit count : ℕ) (s : List ℤ) (lawful : IsLawful f) (
       is_change f limit count count count (div_ceil count f.most) s values (Append values) change counted
       (append_fits f limit s values held fits) (up_to_last f limit count count s values lawful counted.held can) codes left (rw to_is at is)
 
-  pub truncate_none : (stop : ℕ) (change : Change) → stop ≡ count
-      → IsExchangeFor f.most count (from_to 0 0) 0 [] change → IsChangeOf f limit s (Truncate stop) change
-  truncate_none stop change stop_is is =
-      let all : stop ≡ length s = stop_is ∙ sym counted.length_is in
-      none_change f limit count s [] (Truncate stop) change lawful counted few (truncate_fits f limit stop s (omega arith)) refl
-      (ap (λ k. needed_calls f.most (length s) (Truncate k)) all ∙ (codes_nothing f.most (length s) lawful.some).keep)
-      (take_all stop s (omega arith)) is
-
   pub truncate_change : (stop to : ℕ) (change : Change) → stop < count → to ≡ div_ceil count f.most
       → IsExchangeFor f.most count (from_to stop count) to [] change → IsChangeOf f limit s (Truncate stop) change
   truncate_change stop to change less to_is is =
@@ -204,16 +146,6 @@ module _ (f : Format) (limit count : ℕ) (s : List ℤ) (lawful : IsLawful f) (
       is_change f limit count stop count (div_ceil count f.most) s [] (Truncate stop) change counted
       (truncate_fits f limit stop s (omega arith)) (up_to_last f limit stop count s [] lawful counted.held can) codes left (rw to_is at is)
 
-  pub insert_none : (first : ℕ) (values : List ℤ) (change : Change) → first ≤ count → AreHeld f values → length s + length values ≤ limit
-      → length values ≡ 0
-      → IsExchangeFor f.most count (from_to 0 0) 0 values change → IsChangeOf f limit s (Insert first values) change
-  insert_none first values change within held fits none is =
-      let nil : values ≡ [] = nil_from_length values none in
-      none_change f limit count s values (Insert first values) change lawful counted few
-      (insert_fits f limit first s values held (omega (arith, counted.length_is)) fits) none
-      (ap (λ l. needed_calls f.most (length s) (Insert first l)) nil ∙ (codes_nothing f.most (length s) lawful.some).insert first)
-      (rw nil (take-append-drop first s)) is
-
   pub insert_change : (first to : ℕ) (values : List ℤ) (change : Change) → first ≤ count → AreHeld f values → length s + length values ≤ limit
       → 0 < length values
       → to ≡ end_for f.most count first (length values) → IsExchangeFor f.most count (from_to first first) to values change
@@ -225,15 +157,6 @@ module _ (f : Format) (limit count : ℕ) (s : List ℤ) (lawful : IsLawful f) (
       is_change f limit count first first (end_for f.most (length s) first (length values)) s values (Insert first values) change counted
       (insert_fits f limit first s values held inside fits) (insert_can f limit first s values lawful.some held inside fits)
       (insert_calls f.most (length s) first values lawful.some some inside) refl (rw end at is)
-
-  pub remove_none : (first len : ℕ) (change : Change) → first + len ≤ count → len ≡ 0
-      → IsExchangeFor f.most count (from_to 0 0) 0 [] change → IsChangeOf f limit s (Remove first len) change
-  remove_none first len change within none is =
-      let same : first + len ≡ first = omega arith in
-      none_change f limit count s [] (Remove first len) change lawful counted few
-      (remove_fits f limit first len s (omega (arith, counted.length_is))) refl
-      (ap (λ k. needed_calls f.most (length s) (Remove first k)) none ∙ (codes_nothing f.most (length s) lawful.some).remove first)
-      (ap (λ k. take first s ++ drop k s) same ∙ take-append-drop first s) is
 
   pub remove_change : (first len stop to : ℕ) (change : Change) → first + len ≤ count → 0 < len → stop ≡ first + len
       → to ≡ end_for f.most count stop len → IsExchangeFor f.most count (from_to first stop) to [] change
@@ -253,15 +176,6 @@ pub due_none : (f : Format) (limit : ℕ) (s : List ℤ) (calls needed : ℕ) (e
 due_none f limit s calls needed e fits needed_is enough =
     ap (λ p. option_or p (want_of_calls calls (needed_calls f.most (length s) e))) fits ∙ ap (want_of_calls calls) (sym needed_is)
     ∙ calls_left calls needed enough
-
-spent : (calls needed : ℕ) → 2 ^ 64 - 1 - calls < needed → want_of_calls calls needed ≡ Some Spent
-spent calls needed more = grind (arith, nat_tests)
-
-pub due_spent : (f : Format) (limit : ℕ) (s : List ℤ) (calls needed : ℕ) (e : Edit) → refusal_of f limit s e ≡ None
-    → needed ≡ needed_calls f.most (length s) e → 2 ^ 64 - 1 - calls < needed → due_refusal f limit s calls e ≡ Some Spent
-due_spent f limit s calls needed e fits needed_is more =
-    ap (λ p. option_or p (want_of_calls calls (needed_calls f.most (length s) e))) fits ∙ ap (want_of_calls calls) (sym needed_is)
-    ∙ spent calls needed more
 
 pub due_refused : (f : Format) (limit : ℕ) (s : List ℤ) (calls : ℕ) (e : Edit) (fault : Fault) → refusal_of f limit s e ≡ Some fault
     → due_refusal f limit s calls e ≡ Some fault
@@ -339,18 +253,12 @@ module _ (edits : List Edit) (i : ℕ) (e : Edit) (within : i < length edits) (i
         none_of None later h = refl
         none_of (Some fault) later h = absurd (cc)
 
--- at the start, and after all edits
+-- at the start
 pub fit_first : (f : Format) (limit count : ℕ) (s : List ℤ) (calls : ℕ) (edits : List Edit) → HasCount f count s → count ≤ limit
     → FitSoFar f limit s calls edits 0 count
 fit_first f limit count s calls edits counted few =
     let none : calls + 0 ≡ calls = omega arith in
     record { counted = counted; few = few; due = ap (λ k. first_refusal f limit s k 0 edits) (sym none) }
-
-pub fit_all : (f : Format) (limit count : ℕ) (s : List ℤ) (calls : ℕ) (edits : List Edit) (i : ℕ) → length edits ≤ i
-    → FitSoFar f limit s calls edits i count → first_refusal f limit s calls 0 edits ≡ None
-fit_all f limit count s calls edits i all so_far =
-    so_far.due
-    ∙ ap (first_refusal f limit (all_after s (take i edits)) (calls + all_needed f.most s (take i edits)) i) (drop_all i edits all)
 
 -- a refusal of an edit is due if none is
 pub refused_none : (f : Format) (limit : ℕ) (s : List ℤ) (calls : ℕ) (e : Edit) (fault : Fault) → due_refusal f limit s calls e ≡ None

@@ -29,4 +29,5 @@ pub mod PieceLemmas
 pub mod BatchLemmas
 pub mod DraftLemmas
 pub mod RebuildLemmas
+pub mod StepLemmas
 pub mod CopyLemmas

@@ -47,11 +47,6 @@ pub left_after : (piece : Piece) (places later : List ℕ) → places ≡ piece_
 left_after piece places later taken =
     sym (ap (drop (piece_len piece)) taken ∙ drop_at (piece_places piece) later (piece_len piece) (length-range_with_len piece.first (piece_len piece)))
 
-pub length-taken : (piece : Piece) (places later : List ℕ) → places ≡ piece_places piece ++ later → length places ≡ piece_len piece + length later
-length-taken piece places later taken =
-    ap length taken ∙ length-append (piece_places piece) later
-    ∙ ap (λ n. n + length later) (length-range_with_len piece.first (piece_len piece))
-
 -- places are dropped, a piece at a time
 pub drops_more : (piece : Piece) (all places later : List ℕ) (len left next : ℕ) → left ≤ len → piece_len piece ≤ left → next ≡ left - piece_len piece
     → places ≡ drop (len - left) all → places ≡ piece_places piece ++ later → later ≡ drop (len - next) all

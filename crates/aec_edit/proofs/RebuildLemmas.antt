@@ -1,35 +1,27 @@
 -- A draft is coded, one interval at a time.
-use Rattle.std.proofs.Common.{◌≡◌, ℕ, ◌+◌, ◌-◌, ◌*◌, ◌/◌, ◌%◌, ◌^◌, ◌<◌, ◌≤◌, ltb, true, false, cond, min, Bool, List, [], ◌∷◌, ◌++◌, length, take, drop, ℤ, inl, inr, ◌⊎◌, refl, sym, ap, ◌∙◌, subst, arith, append_assoc, take-add, length-append}
+use Rattle.std.proofs.Common.{◌≡◌, ℕ, ◌+◌, ◌-◌, ◌*◌, ◌/◌, ◌%◌, ◌<◌, ◌≤◌, ltb, true, false, cond, min, Bool, List, [], ◌∷◌, ◌++◌, length, take, drop, ℤ, refl, sym, ap, ◌∙◌, subst, arith, append_assoc, take-add, length-append}
 use Rattle.std.specs.Int.{div_ceil}
 use Rattle.std.specs.List.{range_with_len}
-use Rattle.std.proofs.lemmas.Bool.{cases_lt}
 use Rattle.std.proofs.lemmas.Bool.Decides.{nat_tests}
-use Rattle.std.proofs.Math.Nat.{mul-le-mul_left}
-use Rattle.std.proofs.lemmas.List.{append-nil, nil_from_length, length-take, length-drop, drop-drop, drop-take, drop_all, take_min, drop_min, take_at, drop_at, take-take, take-append-le, drop-append-le}
+use Rattle.std.proofs.lemmas.List.{nil_from_length, length-take, length-drop, drop-drop, drop-take, take_min, drop_min, take_at, drop_at, take-take, take-append-le, drop-append-le}
 use Rattle.aec_params.proofs.CountLaws.{before_end}
-use Rattle.aec_bits.proofs.CodeLaws.{code_of-nil, code_of_first}
+use Rattle.aec_bits.proofs.CodeLaws.{code_of_first}
 use Rattle.aec_edit.specs.declared.batch.Change.{Change}
-use Rattle.aec_edit.specs.declared.outcome.Stop.{Stop}
-use Rattle.aec_params.specs.declared.fault.Fault.{Fault}
 use Rattle.aec_edit.specs.Workspace.{Contents, interval_count, start_of}
 use Rattle.aec_edit.specs.Changes.{exchanged}
 use Rattle.aec_edit.specs.Batched.{HasCount, CanBeMade, gone_by}
 use Rattle.aec_edit.specs.Index.{IsKeptCode}
-use Rattle.aec_edit.specs.Coming.{AddsInterval}
-use Rattle.aec_edit.specs.declared.coded.Coded.{Coded}
 use Rattle.aec_edit.proofs.ExchangeLemmas.{begins_before, ends_after}
-use Rattle.aec_edit.proofs.StartLemmas.{starts_of-nil, drop-code_of, start_of-le}
-use Rattle.aec_edit.proofs.CodingLemmas.{splits_first, bits_more, starts_more}
+use Rattle.aec_edit.proofs.StartLemmas.{drop-code_of, start_of-le}
 use Rattle.aec_edit.proofs.KeptLemmas.{begins_there}
 use Rattle.aec_edit.proofs.BatchLemmas.{exchanged_len, exchanged_held}
 use Rattle.aec_params.proofs.RemovalLaws.{range-append}
 use Rattle.aec_bits.specs.Codec.{Format, AreHeld, IsInterval, IsLawful, code_of}
-use Rattle.aec_edit.specs.Index.{starts_of}
 use Rattle.aec_edit.specs.declared.pieces.Piece.{Piece}
 use Rattle.aec_edit.specs.declared.pieces.Pieces.{Pieces}
 use Rattle.aec_edit.specs.declared.workspace.rebuilding.Draft.{Draft}
 use Rattle.aec_edit.specs.Pieces.{piece_len, piece_places, places_of, places_after, all_places, IsCut}
-use Rattle.aec_edit.specs.Drafts.{AreAt, AreFrom, fresh_among, IsDraft, IsToCode, CanBeDrafted, KeepsList, IsCodeOf, fresh_left}
+use Rattle.aec_edit.specs.Drafts.{AreAt, AreFrom, fresh_among, IsDraft, IsToCode, KeepsList}
 use Rattle.aec_edit.proofs.HeldLemmas.{held-take}
 use Rattle.aec_edit.proofs.PieceLemmas.{places_after-push}
 use Rattle.aec_edit.proofs.DraftLemmas.{AreAt-drop, AreAt-first, AreAt-within, AreAt-range, AreFrom-all, fresh_among-old, places_exchanged, marks_exchanged, fresh_exchanged}
@@ -177,7 +169,8 @@ added f limit old s most d draft draft' change begin stop lawful is can past beg
     let len : stop - begin ≡ length more = omega arith in
     let codes : d + change.needed - d ≡ change.needed = omega arith in
     let front : change.from ≡ change.first / f.most = can.from_is in
-    let now : List ℕ = take change.from (all_places draft.intervals) ++ (range_with_len d (d + change.needed - d) ++ drop change.to (all_places draft.intervals)) in
+    let now : List ℕ = take change.from (all_places draft.intervals)
+    ++ (range_with_len d (d + change.needed - d) ++ drop change.to (all_places draft.intervals)) in
     let same : now
     ≡ take (change.first / f.most) (all_places draft.intervals) ++ (range_with_len d change.needed ++ drop change.to (all_places draft.intervals)) =
     ap (λ k. take k (all_places draft.intervals) ++ (range_with_len d (d + change.needed - d) ++ drop change.to (all_places draft.intervals))) front
@@ -264,6 +257,19 @@ read_old n p len old values h within few =
     ∙ sym (take-append-le len (drop p old) values (omega (arith, size, rest, begins.2, length-drop p old)))
     ∙ ap (take len) (sym (drop-append-le p old values (omega arith)))
 
+-- the same for a part of what was decoded, as the code cuts it out
+pub read_opened : (n m p len first : ℕ) (old values opened part : List ℤ) → 0 < n → m ≡ n → first ≡ p % m → p < length old
+    → opened ≡ take n (drop (p / m * n) old) → part ≡ opened → len ≤ length opened - first
+    → take (first + len - first) (drop first part) ≡ take len (drop p (old ++ values))
+read_opened n m p len first old values opened part h m_is first_is inside opened_is part_is few =
+    let there : opened ≡ take n (drop (p / n * n) old) = opened_is ∙ ap (λ k. take n (drop (p / k * n) old)) m_is in
+    let place : first ≡ p % n = first_is ∙ ap (λ k. p % k) m_is in
+    let sum : first + len - first ≡ len = omega arith in
+    ap (λ k. take k (drop first part)) sum
+    ∙ ap (λ l. take len (drop first l)) (part_is ∙ there)
+    ∙ ap (λ k. take len (drop k (take n (drop (p / n * n) old)))) place
+    ∙ read_old n p len old values h inside (omega (arith, few, ap length there, place))
+
 -- the bits between the starts of an interval and the next one
 pub copied : (f : Format) {count : ℕ} {bits : List Bool} {starts : List ℕ} (s : List ℤ) (i start stop : ℕ) → IsLawful f → IsKeptCode f count bits starts s
     → i < interval_count f s → start ≡ start_of f s i → stop ≡ start_of f s (i + 1)
@@ -292,129 +298,3 @@ copied f {bits = bits} s i start stop lawful kept within start_is stop_is =
       start_of-le f (i + 1) s lawful.some,
     ) in
     ap (take (stop - start)) here ∙ take_at part (code_of f (drop f.most rest)) (stop - start) len
-
--- there is a next number if samples are left
-pub some_marks : (n : ℕ) (old rest : List ℤ) (m : List ℕ) → 0 < n → AreFrom n old m rest → 0 < length rest → 0 < length m
-some_marks n old rest [] h from some = absurd (omega (arith, ap length from))
-some_marks n old rest (k ∷ m) h from some = omega arith
-
--- there are no more intervals than samples
-pub few_intervals : (n count : ℕ) → 0 < n → div_ceil count n ≤ count
-few_intervals n count h = ends (cases_lt count (div_ceil count n))
-  where
-    ends : (count < div_ceil count n) ⊎ (div_ceil count n ≤ count) → div_ceil count n ≤ count
-    ends (inl less) =
-        let inside = before_end count count n h less in
-        let up : count * 1 ≤ count * n = mul-le-mul_left {m = 1} {n = n} count h in
-        absurd (omega arith)
-    ends (inr all) = all
-
-pub one_mark : (n : ℕ) (old rest : List ℤ) (piece : Piece) (cur : List Piece) → 0 < n → AreFrom n old (places_after cur) rest → piece_len piece ≤ 1
-    → (0 < 1 → 0 < length (places_after cur) → 0 < piece_len piece) → 0 < length rest → piece_len piece ≡ 1
-one_mark n old rest piece cur h from few some left =
-    let more = some (omega arith) (some_marks n old rest (places_after cur) h from left) in omega arith
-
--- how many intervals are fresh, with this one
-pub fresh_here : (n : ℕ) (old : List ℤ) (draft : Draft) (piece : Piece) (mid : List Piece) → piece_len piece ≡ 1
-    → places_after draft.intervals.after.items ≡ piece_places piece ++ places_after mid → div_ceil (length old) n ≤ piece.first
-    → fresh_left n old draft ≡ 1 + fresh_among (div_ceil (length old) n) (places_after mid)
-fresh_here n old draft piece mid one taken past =
-    fresh_first (div_ceil (length old) n) piece draft.intervals.after.items mid taken one
-    ∙ fresh_new (div_ceil (length old) n) piece.first (fresh_among (div_ceil (length old) n) (places_after mid)) past
-
--- ---- a step
-
-module _ (f : Format) (old rest : List ℤ) (draft draft' : Draft) (piece : Piece) (len : ℕ) (coded coded' : Coded) (to_code : IsToCode f.most old rest draft)
-    (len_is : len ≡ min f.most (length rest)) (one : piece_len piece ≡ 1)
-    (taken : places_after draft.intervals.after.items ≡ piece_places piece ++ places_after draft'.intervals.after.items)
-    (values : draft'.values.items ≡ draft.values.items) (starts : coded'.starts.items ≡ coded.starts.items ++ length coded.bits.list ∷ []) where
-  marks_here : AreFrom f.most old (piece.first ∷ places_after draft'.intervals.after.items) rest
-  marks_here = first_mark f.most old rest piece draft.intervals.after.items draft'.intervals.after.items to_code.marks taken one
-
-  -- the next interval is an old one
-  pub step_kept : piece.first < div_ceil (length old) f.most → places_after draft'.samples.after.items ≡ drop len (places_after draft.samples.after.items)
-      → coded'.bits.list ≡ coded.bits.list ++ f.bits_of (take f.most (drop (piece.first * f.most) old))
-      → IsToCode f.most old (drop f.most rest) draft' × AddsInterval f (take f.most rest) coded coded' × (fresh_left f.most old draft' ≡ fresh_left f.most old draft)
-  step_kept within dropped copied_is = (
-    record {
-      places = subst (λ v. AreAt (old ++ v) (places_after draft'.samples.after.items) (drop f.most rest)) (sym values)
-          (places_dropped f.most len (old ++ draft.values.items) rest draft.samples.after.items draft'.samples.after.items len_is to_code.places dropped);
-      marks = marks_here.2;
-    },
-    record { bits = copied_is ∙ ap (λ l. coded.bits.list ++ f.bits_of l) (sym (marks_here.1 within)); starts = starts },
-    sym (fresh_first (div_ceil (length old) f.most) piece draft.intervals.after.items draft'.intervals.after.items taken one
-        ∙ fresh_kept (div_ceil (length old) f.most) piece.first (fresh_left f.most old draft') within),
-  )
-
-  -- the next interval is coded
-  pub step_fresh : (front : List ℤ) → AreAt (old ++ draft.values.items) (places_after draft'.samples.after.items) (drop len rest) → front ≡ take len rest
-      → coded'.bits.list ≡ coded.bits.list ++ f.bits_of front
-      → IsToCode f.most old (drop f.most rest) draft' × AddsInterval f (take f.most rest) coded coded'
-  step_fresh front at front_is coded_is = (
-    record {
-      places = subst (λ v. AreAt (old ++ v) (places_after draft'.samples.after.items) (drop f.most rest)) (sym values)
-          (subst (AreAt (old ++ draft.values.items) (places_after draft'.samples.after.items)) (ap (λ k. drop k rest) len_is ∙ drop_min f.most rest) at);
-      marks = marks_here.2;
-    },
-    record {
-      bits = coded_is ∙ ap (λ l. coded.bits.list ++ f.bits_of l) (front_is ∙ whole_of f.most len rest len_is);
-      starts = starts;
-    },
-  )
-
--- ---- all steps
-
-pub can_go_on : {C : Type 0} (format_of : C → Format) (called : C → ℕ) (w now : Contents C) (s rest : List ℤ) (draft left : Draft)
-    → format_of now.codec ≡ format_of w.codec → now.samples ≡ w.samples
-    → called now.codec + fresh_left (format_of w.codec).most w.samples left ≡ called w.codec + fresh_left (format_of w.codec).most w.samples draft
-    → CanBeDrafted format_of called w s draft → IsToCode (format_of w.codec).most w.samples rest left → AreHeld (format_of w.codec) rest
-    → CanBeDrafted format_of called now rest left
-can_go_on format_of called w now s rest draft left format samples calls can to_code held =
-    let few : called now.codec + fresh_left (format_of w.codec).most w.samples left ≤ 2 ^ 64 - 1 = omega (arith, calls, can.calls) in
-    record { to_code = rw (format, samples) to_code; held = rw format held; calls = rw (format, samples) few }
-
-pub coding_starts : (f : Format) (s : List ℤ) (coded : Coded) (done : ℕ) → done ≡ 0 → coded.bits.list ≡ [] → coded.starts.items ≡ []
-    → (code_of f s ≡ coded.bits.list ++ code_of f (drop done s))
-    × (starts_of f 0 s ≡ coded.starts.items ++ starts_of f (length coded.bits.list) (drop done s))
-coding_starts f s coded done none no_bits no_starts = (
-  ap (λ k. code_of f (drop k s)) (sym none) ∙ ap (λ l. l ++ code_of f (drop done s)) (sym no_bits),
-  ap (λ k. starts_of f 0 (drop k s)) (sym none) ∙ ap (λ l. starts_of f (length l) (drop done s)) (sym no_bits)
-      ∙ ap (λ l. l ++ starts_of f (length coded.bits.list) (drop done s)) (sym no_starts),
-)
-
--- what is left after the next interval
-pub later_rest : (n done len count : ℕ) (s : List ℤ) → len ≡ min n (length (drop done s)) → done + len ≡ count → drop count s ≡ drop n (drop done s)
-later_rest n done len count s len_is sum =
-    ap (λ k. drop k s) (sym sum) ∙ sym (drop-drop len done s) ∙ ap (λ k. drop k (drop done s)) len_is ∙ drop_min n (drop done s)
-
-pub adds_more : (f : Format) (s rest next : List ℤ) (coded coded' : Coded) → IsLawful f → AddsInterval f (take f.most rest) coded coded' → 0 < length rest
-    → next ≡ drop f.most rest → code_of f s ≡ coded.bits.list ++ code_of f rest
-    → starts_of f 0 s ≡ coded.starts.items ++ starts_of f (length coded.bits.list) rest
-    → (code_of f s ≡ coded'.bits.list ++ code_of f next) × (starts_of f 0 s ≡ coded'.starts.items ++ starts_of f (length coded'.bits.list) next)
-adds_more f s rest next coded coded' lawful adds some next_is bits starts =
-    let split = splits_first f rest next some next_is in (
-      bits_more f coded.bits.list coded'.bits.list (code_of f s) lawful split bits adds.bits,
-      starts_more f coded.bits.list coded'.bits.list coded.starts.items coded'.starts.items (starts_of f 0 s) (length coded.bits.list) lawful split starts refl
-          adds.starts adds.bits,
-    )
-
-pub coded_all : (f : Format) (s : List ℤ) (coded : Coded) (bits : List Bool) (starts : List ℕ) (done : ℕ) → IsLawful f → done ≡ length s
-    → code_of f s ≡ bits ++ code_of f (drop done s) → starts_of f 0 s ≡ starts ++ starts_of f (length bits) (drop done s)
-    → coded.bits.list ≡ bits → coded.starts.items ≡ starts → coded.count ≡ length s → IsCodeOf f s coded
-coded_all f s coded bits starts done lawful done_is code index bits_are starts_are count_is =
-    let none : drop done s ≡ [] = drop_all done s (omega arith) in
-    record {
-      bits = bits_are ∙ sym (code ∙ ap (λ l. bits ++ code_of f l) none ∙ ap (λ l. bits ++ l) (code_of-nil f lawful.some) ∙ append-nil bits);
-      starts = starts_are
-          ∙ sym (index ∙ ap (λ l. starts ++ starts_of f (length bits) l) none ∙ ap (λ l. starts ++ l) (starts_of-nil f (length bits) lawful.some)
-          ∙ append-nil starts);
-      count_is = count_is;
-    }
-
-pub can_draft : {C : Type 0} (format_of : C → Format) (called : C → ℕ) (w : Contents C) (s : List ℤ) (draft : Draft) (most : ℕ)
-    → IsToCode (format_of w.codec).most w.samples s draft → fresh_left (format_of w.codec).most w.samples draft ≤ most → AreHeld (format_of w.codec) s
-    → called w.codec + most ≤ 2 ^ 64 - 1 → CanBeDrafted format_of called w s draft
-can_draft format_of called w s draft most to_code few held calls = record { to_code = to_code; held = held; calls = omega (arith, few, calls) }
-
-abbrev pub stop_with : ℕ → Fault → Stop
-stop_with place fault = record { place = place; fault = fault }

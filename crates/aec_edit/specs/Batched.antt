@@ -45,8 +45,8 @@ pub record IsExchangeFor (n count : ℕ) (gone : Stretch) (to : ℕ) (values : L
 pub record CanBeMade (f : Format) (limit : ℕ) (s : List ℤ) (change : Change) : Type 0 where
   pub can : IsExchangeUpTo f limit s (gone_by change) change.to change.values.now
   pub from_is : change.from ≡ change.first / f.most
-  pub needed_is : change.needed
-      ≡ recoding_calls f.most (length s) (record { gone = gone_by change; to = change.to; values = length change.values.now })
+  pub needed_is : change.needed ≡ recoding_calls f.most (length s)
+      (record { gone = gone_by change; to = change.to; values = length change.values.now })
   pub count_is : change.count ≡ change.first + length change.values.now + (length s - change.stop)
 
 -- an edit that fits, as the exchange of places for values that makes it

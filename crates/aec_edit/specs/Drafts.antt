@@ -26,7 +26,8 @@ AreAt all (k ∷ places) (x ∷ s) = (drop k all ≡ x ∷ drop (k + 1) all) × 
 abbrev pub AreFrom : ℕ → List ℤ → List ℕ → List ℤ → Type 0
 AreFrom n old [] s = s ≡ []
 AreFrom n old (k ∷ marks) s =
-    (0 < length s) × (k < div_ceil (length old) n → take n s ≡ take n (drop (k * n) old)) × AreFrom n old marks (drop n s)
+    (0 < length s) × (k < div_ceil (length old) n → take n s ≡ take n (drop (k * n) old))
+    × AreFrom n old marks (drop n s)
 
 -- how many of these numbers are those of no interval among `count`
 abbrev pub fresh_among : ℕ → List ℕ → ℕ
@@ -53,8 +54,8 @@ abbrev pub fresh_left : ℕ → List ℤ → Draft → ℕ
 fresh_left n old draft = fresh_among (div_ceil (length old) n) (places_after draft.intervals.after.items)
 
 -- a draft whose samples a workspace can code
-pub record CanBeDrafted {C : Type 0} (format_of : C → Format) (called : C → ℕ) (w : Contents C) (rest : List ℤ) (draft : Draft)
-    : Type 0 where
+pub record CanBeDrafted {C : Type 0} (format_of : C → Format) (called : C → ℕ) (w : Contents C) (rest : List ℤ)
+    (draft : Draft) : Type 0 where
   pub to_code : IsToCode (format_of w.codec).most w.samples rest draft
   pub held : AreHeld (format_of w.codec) rest
   pub calls : called w.codec + fresh_left (format_of w.codec).most w.samples draft ≤ 2 ^ 64 - 1
@@ -65,7 +66,8 @@ IsReader n old reader = (reader.opened.items ≡ []) ⊎ (reader.opened.items �
 
 -- samples, limit and format are unchanged, and the count of coded intervals has risen by at most
 -- `coded`
-pub record KeepsList {C : Type 0} (format_of : C → Format) (called : C → ℕ) (coded : ℕ) (old new : Contents C) : Type 0 where
+pub record KeepsList {C : Type 0} (format_of : C → Format) (called : C → ℕ) (coded : ℕ) (old new : Contents C)
+    : Type 0 where
   pub samples : new.samples ≡ old.samples
   pub limit : new.limit ≡ old.limit
   pub format : format_of new.codec ≡ format_of old.codec

@@ -20,6 +20,7 @@ impl<C: Codec> Workspace<C> {
     ghost use Rattle.aec_edit.specs.Judged.{AreValues, CanCome, MakesEdit};
     ghost use Rattle.aec_edit.specs.declared.outcome.Outcome.{Outcome as OutcomeOf};
     ghost use Rattle.aec_edit.specs.Stops.{StopsAtRefusal};
+    ghost use Rattle.aec_edit.specs.Batches.{AreAllOrNone};
 
     /// Applies an edit, and returns how many intervals it coded: `needed_calls`. Decodes at most as
     /// many intervals as contain a sample that is kept and coded again.
@@ -259,6 +260,32 @@ impl<C: Codec> Workspace<C> {
             }
         }
         Ok(())
+    }
+
+    /// Applies all edits, or none of them, and returns how many intervals it coded. Does it in one
+    /// pass: an interval that the edits leave whole is copied, even to another place. Each other
+    /// one is coded once. Applied one after the other, the edits code at least as many.
+    ///
+    /// First the edits are judged in their order, as `apply` judges each of them, with the samples
+    /// and the calls that the edits before it leave. The first that is refused decides: the result
+    /// names its place and its fault, and nothing is changed. If none is refused, it may fail with
+    /// `Memory` if an allocation fails. The place is then the number of edits, and no sample is
+    /// changed, but some calls may have been made.
+    pub fn apply_all(&mut self, edits: &[Edit]) -> Result<u64, Stop>
+        ensures answer { AreAllOrNone (C.format self.old.codec) self.old.limit self.old.samples
+            (C.called self.old.codec)
+            edits.now result self.new.samples (C.called self.new.codec) }
+        ensures rules { KeepsRules C.format self.old self.new }
+        ensures err { IfErr result (λ stop. stop.fault ≢ Memory → self.new ≡ self.old) }
+    {
+        self.judge_all(edits)?;
+        match self.rebuild(edits) {
+            Ok(coded) => Ok(coded),
+            Err(fault) => Err(Stop {
+                place: edits.len() as u64,
+                fault,
+            }),
+        }
     }
 }
 

@@ -51,7 +51,12 @@ fn expect_batch<R: Abort>(
     let mut edits = edits;
     if let Some(fault) = fault {
         let place = edits.len().saturating_sub(1);
-        same_at(rt, apply_all(work, edits), Err((place as u64, fault)), &place);
+        same_at(
+            rt,
+            apply_all(work, edits),
+            Err((place as u64, fault)),
+            &place,
+        );
         same_at(rt, calls(work), before, &place);
         edits = &edits[..place];
     }

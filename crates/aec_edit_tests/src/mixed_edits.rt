@@ -218,7 +218,12 @@ fn some_len(seed: &mut u64, row: &Row) -> u64 {
 }
 
 /// Returns some edit of `count` samples.
-pub(crate) fn some_edit(alloc: Global, seed: &mut u64, row: &Row, count: u64) -> Result<Edit, AllocError> {
+pub(crate) fn some_edit(
+    alloc: Global,
+    seed: &mut u64,
+    row: &Row,
+    count: u64,
+) -> Result<Edit, AllocError> {
     let kind = below(seed, 20);
     let place = some_place(seed, row, count);
     if kind < 2 {

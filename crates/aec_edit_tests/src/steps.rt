@@ -254,5 +254,6 @@ pub(crate) fn apply_all<C: Codec>(
     work: &mut Workspace<C>,
     edits: &[Edit],
 ) -> Result<u64, (u64, Fault)> {
-    work.apply_all(edits).map_err(|stop| (stop.place, stop.fault))
+    work.apply_all(edits)
+        .map_err(|stop| (stop.place, stop.fault))
 }

@@ -6,7 +6,6 @@ ghost use Rattle.aec_params.specs.declared.fault.Fault.TheVariants.{Memory};
 use super::Workspace;
 use crate::batch::Change;
 use crate::coded::Coded;
-use crate::outcome::Stop;
 use crate::pieces::{Piece, Pieces, drop_next, take_next};
 use aec_bits::{BitBuf, BitReader, Codec};
 use aec_params::{Edit, Fault};
@@ -51,7 +50,7 @@ impl Reader {
 }
 
 impl<C: Codec> Workspace<C> {
-    ghost use Rattle.std.specs.Prelude.{◌≡◌, ◌≢◌, ◌+◌, ◌-◌, ◌*◌, ◌^◌, ◌<◌, ◌≤◌, ◌++◌, ◌⊎◌, [], None, Some, List, ℤ, min, length, take, drop, ℕ, IfOk, OnOk, OnErr, IfErr};
+    ghost use Rattle.std.specs.Prelude.{◌≡◌, ◌+◌, ◌-◌, ◌*◌, ◌^◌, ◌<◌, ◌≤◌, ◌++◌, ◌⊎◌, [], None, Some, List, ℤ, min, length, take, drop, ℕ, IfOk, OnOk, OnErr, IfErr};
     ghost use Rattle.aec_edit.specs.Calls.{RisesAtMost};
     ghost use Rattle.aec_params.specs.declared.fault.Fault.TheVariants.{Memory};
     ghost use Rattle.aec_bits.specs.Codec.{AreHeld, IsInterval};
@@ -59,37 +58,12 @@ impl<C: Codec> Workspace<C> {
     ghost use Rattle.aec_edit.specs.Changes.{exchanged};
     ghost use Rattle.aec_edit.specs.Unchanged.{KeepsRules, KeepsCodec};
     ghost use Rattle.aec_edit.specs.Pieces.{piece_len, places_after};
-    ghost use Rattle.aec_edit.specs.Batches.{all_after, all_needed, first_refusal, AreAllOrNone};
+    ghost use Rattle.aec_edit.specs.Batches.{all_after, all_needed, first_refusal};
     ghost use Rattle.aec_edit.specs.Batched.{HasCount, CanBeMade, gone_by};
     ghost use Rattle.aec_edit.specs.Drafts.{AreAt, IsDraft, IsToCode, CanBeDrafted, IsReader, KeepsList, AddsNext, IsCodeOf, fresh_left};
 
-    /// Applies edits as one: all of them, or none. Returns how many intervals it coded: each
-    /// interval that is changed or moved apart is coded once, so that there are at most as many as
-    /// the edits need one after the other.
-    ///
-    /// The edits are judged first, each with the samples and the calls that those before it leave.
-    /// Fails with the first refusal that is due, and its place; nothing is changed then. Else it
-    /// may fail with `Memory` if an allocation fails: the place is then the number of edits, no
-    /// sample is changed, and some calls may have been made.
-    pub fn apply_all(&mut self, edits: &[Edit]) -> Result<u64, Stop>
-        ensures answer { AreAllOrNone (C.format self.old.codec) self.old.limit self.old.samples
-            (C.called self.old.codec)
-            edits.now result self.new.samples (C.called self.new.codec) }
-        ensures rules { KeepsRules C.format self.old self.new }
-        ensures err { IfErr result (λ stop. stop.fault ≢ Memory → self.new ≡ self.old) }
-    {
-        self.judge_all(edits)?;
-        match self.rebuild(edits) {
-            Ok(coded) => Ok(coded),
-            Err(fault) => Err(Stop {
-                place: edits.len() as u64,
-                fault,
-            }),
-        }
-    }
-
     /// Applies edits that fit. If it fails with `Memory`, the samples are unchanged.
-    fn rebuild(&mut self, edits: &[Edit]) -> Result<u64, Fault>
+    pub(crate) fn rebuild(&mut self, edits: &[Edit]) -> Result<u64, Fault>
         requires fit { first_refusal (C.format self.old.codec) self.old.limit self.old.samples
             (C.called self.old.codec) 0 edits.now ≡ None }
         requires calls { C.called self.old.codec

@@ -2,7 +2,8 @@ use Rattle.std.proofs.Common.{length, refl, arith}
 use Rattle.aec_bits.specs.Codec.{Format}
 use Rattle.aec_edit.specs.Pieces.{all_places}
 use Rattle.aec_edit.proofs.DraftLemmas.{AreAt-length, AreFrom-length}
-use Rattle.aec_edit.proofs.RebuildLemmas.{added, few_intervals}
+use Rattle.aec_edit.proofs.RebuildLemmas.{added}
+use Rattle.aec_edit.proofs.StepLemmas.{few_intervals}
 use Rattle.aec_edit.proofs.workspace.Workspace.add.Goals as goal
 
 pub exchange-requires-clause-within : goal.exchange-requires-clause-within
@@ -17,7 +18,8 @@ exchange-requires-2-clause-within g c =
     let f : Format = g.C.Codec.format seen.codec in
     let is = c.requires.2 in
     let can = c.requires.3.can in
-    omega (arith, can.inside, AreFrom-length f.most (g.C.Codec.lawful seen.codec).some seen.samples (all_places c.args.draft.now.intervals) c.requires.0 is.marks)
+    let size = AreFrom-length f.most (g.C.Codec.lawful seen.codec).some seen.samples (all_places c.args.draft.now.intervals) c.requires.0 is.marks in
+    omega (arith, can.inside, size)
 
 pub returns-clause-ok : goal.returns-clause-ok
 returns-clause-ok g c = λ s most is can.

@@ -6,8 +6,8 @@ use Rattle.aec_edit.proofs.workspace.Workspace.append_change.Goals as goal
 pub exchange_for-requires-2 : goal.exchange_for-requires-2
 exchange_for-requires-2 g c =
     let seen = c.args.self.now in
-    to_last_in (g.C.Codec.format seen.codec).most seen.limit c.args.count c.args.count c.args.count _ _ (g.C.Codec.lawful seen.codec).some c.requires.few (omega arith)
-    (omega arith) (c.div_ceil-to.ensures ∙ ap (div_ceil c.args.count) c.interval_len.ensures.value)
+    to_last_in (g.C.Codec.format seen.codec).most seen.limit c.args.count c.args.count c.args.count _ _ (g.C.Codec.lawful seen.codec).some c.requires.few
+    (omega arith) (omega arith) (c.div_ceil-to.ensures ∙ ap (div_ceil c.args.count) c.interval_len.ensures.value)
     (omega (arith, c.in_ok-check_growth_of.ensures.few))
 
 pub returns : goal.returns

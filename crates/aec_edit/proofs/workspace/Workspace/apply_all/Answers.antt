@@ -1,6 +1,6 @@
 use Rattle.std.proofs.Common.{length, refl, ap, arith}
 use Rattle.std.proofs.lemmas.Result.{err_from_is_err_and}
-use Rattle.aec_edit.proofs.RebuildLemmas.{stop_with}
+use Rattle.aec_edit.proofs.StepLemmas.{stop_with}
 use Rattle.aec_edit.proofs.workspace.Workspace.apply_all.Goals as goal
 
 pub returns-in_err-judge_all-clause-answer : goal.returns-in_err-judge_all-clause-answer
@@ -21,4 +21,5 @@ returns-in-Ok-clause-answer g c =
 pub returns-in-Err-clause-answer : goal.returns-in-Err-clause-answer
 returns-in-Err-clause-answer g c =
     let failed = c.in-Err.ensures in
-    rw c.in_ok-judge_all.ensures.ok (record { stop_is = ap (λ fault. stop_with (length c.args.edits.now) fault) failed.fault; rises = failed.rises }, failed.err)
+    rw c.in_ok-judge_all.ensures.ok
+    (record { stop_is = ap (λ fault. stop_with (length c.args.edits.now) fault) failed.fault; rises = failed.rises }, failed.err)

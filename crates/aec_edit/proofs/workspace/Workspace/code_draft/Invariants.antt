@@ -1,7 +1,6 @@
-use Rattle.std.proofs.Common.{◌≡◌, ◌+◌, ◌-◌, ◌≤◌, ◌++◌, List, ℤ, length, drop}
-use Rattle.aec_bits.specs.Codec.{code_of}
-use Rattle.aec_edit.specs.Index.{starts_of}
-use Rattle.aec_edit.specs.Drafts.{IsToCode, CanBeDrafted, IsReader, fresh_left}
+use Rattle.std.proofs.Common.{◌≡◌, ◌+◌, ◌-◌, ◌≤◌, List, ℤ, length}
+use Rattle.aec_edit.specs.Drafts.{CanBeDrafted, IsReader, fresh_left}
+use Rattle.aec_edit.proofs.StepLemmas.{IsCodedTo}
 use Rattle.aec_edit.proofs.workspace.Workspace.code_draft.Given as goal
 
 abbrev pub invariant-loop-left : goal.invariant-loop-left
@@ -20,11 +19,7 @@ invariant-loop-left g l =
           ≡ g.C.Codec.called l.fn.self.codec + fresh_left f.most old l.fn.draft;
       least : g.C.Codec.called l.fn.self.codec ≤ g.C.Codec.called l.self.codec;
       rest : (s : List ℤ) → CanBeDrafted g.C.Codec.format g.C.Codec.called l.fn.self s l.fn.draft → l.fn.draft.count ≡ length s
-          → record {
-            to_code : IsToCode f.most old (drop done s) l.draft;
-            bits : code_of f s ≡ l.coded.bits.list ++ code_of f (drop done s);
-            starts : starts_of f 0 s ≡ l.coded.starts.items ++ starts_of f (length l.coded.bits.list) (drop done s);
-          };
+          → IsCodedTo f old s done l.draft l.coded;
     }
 
 abbrev pub decreases-loop-left : goal.decreases-loop-left

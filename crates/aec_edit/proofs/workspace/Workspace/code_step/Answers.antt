@@ -3,7 +3,8 @@ use Rattle.aec_bits.specs.Codec.{Format}
 use Rattle.aec_edit.specs.Pieces.{places_after}
 use Rattle.aec_edit.specs.Drafts.{AreAt}
 use Rattle.aec_edit.proofs.DraftLemmas.{AreAt-length}
-use Rattle.aec_edit.proofs.RebuildLemmas.{one_mark, step_kept, step_fresh, fresh_here, is_interval, keeps_then, keeps_still}
+use Rattle.aec_edit.proofs.RebuildLemmas.{is_interval, keeps_then, keeps_still}
+use Rattle.aec_edit.proofs.StepLemmas.{one_mark, step_kept, step_fresh, fresh_here}
 use Rattle.aec_edit.proofs.workspace.Workspace.code_step.Goals as goal
 
 pub drop_next-requires : goal.drop_next-requires
@@ -70,24 +71,20 @@ returns-clause-ok g c = λ rest can len_is.
     let f : Format = g.C.Codec.format seen.codec in
     let mark = c.in_ok-mark.ensures in
     let got = c.in_ok-gather_next.ensures in
-    let coded = c.in_ok-code_front.ensures in
-    let one = one_mark f.most seen.samples rest c.in_ok-mark.mark c.args.draft.now.intervals.after.items (g.C.Codec.lawful seen.codec).some can.to_code.marks
+    let piece = c.in_ok-mark.mark in
+    let one = one_mark f.most seen.samples rest piece c.args.draft.now.intervals.after.items (g.C.Codec.lawful seen.codec).some can.to_code.marks
     mark.few mark.some (omega (arith, len_is, c.requires.some)) in
     let at = subst (λ v. AreAt (seen.samples ++ v) (places_after c.args.draft.now.samples.after.items) rest) (sym c.as_slice-values.ensures.value)
     can.to_code.places in
     let read = got.ok rest at (omega (arith, len_is)) in
-    let later = subst (λ v. AreAt (seen.samples ++ v) (places_after c.gather_next.new.after.items) (drop c.args.len rest)) c.as_slice-values.ensures.value read.1 in
-    let bits = rw got.same.format at coded.ok in
+    let later = subst (λ v. AreAt (seen.samples ++ v) (places_after c.gather_next.new.after.items) (drop c.args.len rest)) c.as_slice-values.ensures.value
+    read.1 in
     let starts = c.in_ok-push.ensures.items ∙ ap (λ n. c.args.coded.now.starts.items ++ n ∷ []) c.len.ensures.value in
-    let step = step_fresh f seen.samples rest c.args.draft.now _ c.in_ok-mark.mark c.args.len c.args.coded.now _ can.to_code len_is one mark.ok refl starts
-    c.gather_next.new.reader.front.items later read.0 bits in
-    let fresh = fresh_here f.most seen.samples c.args.draft.now c.in_ok-mark.mark c.take_next.new.after.items one mark.ok
+    let step = step_fresh f seen.samples rest c.args.draft.now _ piece c.args.len c.args.coded.now _ can.to_code len_is one mark.ok refl starts
+    c.gather_next.new.reader.front.items later read.0 (rw got.same.format at c.in_ok-code_front.ensures.ok) in
+    let fresh = fresh_here f.most seen.samples c.args.draft.now piece c.take_next.new.after.items one mark.ok
     (omega (arith, c.if-mark-intervals.false, c.intervals.ensures)) in
-    record {
-      to_code = step.0;
-      adds = step.1;
-      calls = omega (arith, fresh, coded.counts, got.same.calls.few, got.same.calls.stays);
-    }
+    record { to_code = step.0; adds = step.1; calls = omega (arith, fresh, c.in_ok-code_front.ensures.counts, got.same.calls.few, got.same.calls.stays) }
 
 pub returns-clause-same : goal.returns-clause-same
 returns-clause-same g c = keeps_then c.in_ok-gather_next.ensures.same c.in_ok-code_front.ensures.same refl

@@ -1,11 +1,12 @@
-use Rattle.std.proofs.Common.{◌≡◌, ◌+◌, take, sym, ◌∙◌, subst, refl, arith}
+use Rattle.std.proofs.Common.{◌+◌, take, sym, subst, refl, arith}
 use Rattle.std.proofs.lemmas.List.{take_all}
 use Rattle.aec_bits.specs.Codec.{Format}
 use Rattle.aec_edit.specs.Batches.{all_after, all_needed}
 use Rattle.aec_edit.specs.Batched.{FitSoFar}
 use Rattle.aec_edit.specs.Drafts.{IsDraft}
-use Rattle.aec_edit.proofs.BatchLemmas.{fit_first, fits_more, none_here, refused_none, after_more, needed_more}
+use Rattle.aec_edit.proofs.BatchLemmas.{fit_first, fits_more, none_here, refused_none}
 use Rattle.aec_edit.proofs.RebuildLemmas.{rewound}
+use Rattle.aec_edit.proofs.StepLemmas.{draft_more}
 use Rattle.aec_edit.proofs.workspace.Workspace.draft_of.Goals as goal
 
 pub loop-edit-init : goal.loop-edit-init
@@ -43,26 +44,20 @@ pub loop-edit-preserved : goal.loop-edit-preserved
 loop-edit-preserved g c =
     let seen = c.args.self.now in
     let f : Format = g.C.Codec.format seen.codec in
+    let calls = g.C.Codec.called seen.codec in
     let so_far = c.loop-edit.invariant in
     let edits = c.args.edits.now in
     let i = c.loop-edit.edit-index in
     let edit = c.edit-item.result in
-    let front = take i edits in
-    let here = all_after seen.samples front in
-    let most = all_needed f.most seen.samples front in
+    let here = all_after seen.samples (take i edits) in
     let is_it = c.in_ok-change.ensures here so_far.fit.counted in
-    let none = none_here edits i edit c.loop-edit-test.true c.edit-item.is f seen.limit seen.samples (g.C.Codec.called seen.codec)
-    c.loop-edit.draft.count so_far.fit c.requires in
-    let drafted = c.in_ok-add.ensures.ok here most so_far.draft is_it.made in
-    let left = sym is_it.left ∙ sym (after_more edits i edit c.loop-edit-test.true c.edit-item.is seen.samples) in
-    let sum : most + c.in_ok-change.change.needed ≡ all_needed f.most seen.samples (take (i + 1) edits) =
-    omega (arith, is_it.needed, needed_more edits i edit c.loop-edit-test.true c.edit-item.is f.most seen.samples) in
+    let none = none_here edits i edit c.loop-edit-test.true c.edit-item.is f seen.limit seen.samples calls c.loop-edit.draft.count so_far.fit c.requires in
+    let drafted = c.in_ok-add.ensures.ok here (all_needed f.most seen.samples (take i edits)) so_far.draft is_it.made in
     record {
-      fit = subst (FitSoFar f seen.limit seen.samples (g.C.Codec.called seen.codec) edits (i + 1)) (sym c.in_ok-add.ensures.count)
-          (fits_more edits i edit c.loop-edit-test.true c.edit-item.is f seen.limit seen.samples (g.C.Codec.called seen.codec) c.loop-edit.draft.count so_far.fit
+      fit = subst (FitSoFar f seen.limit seen.samples calls edits (i + 1)) (sym c.in_ok-add.ensures.count)
+          (fits_more edits i edit c.loop-edit-test.true c.edit-item.is f seen.limit seen.samples calls c.loop-edit.draft.count so_far.fit
           c.in_ok-change.change is_it none);
-      draft = subst (λ k. IsDraft f seen.samples (all_after seen.samples (take (i + 1) edits)) k c.add.new.draft) sum
-          (subst (λ l. IsDraft f seen.samples l (most + c.in_ok-change.change.needed) c.add.new.draft) left drafted);
+      draft = draft_more f seen.limit seen.samples edits i edit c.in_ok-change.change c.add.new.draft c.loop-edit-test.true c.edit-item.is is_it drafted;
     }
 
 pub returns-clause-ok : goal.returns-clause-ok

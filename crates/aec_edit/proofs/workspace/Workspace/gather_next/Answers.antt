@@ -29,15 +29,7 @@ read_piece-requires-clause-within g c =
     let needs = c.requires.rest in
     let here = so_far.rest needs.0 needs.1 needs.2 in
     let done = c.args.len - c.loop-left.left in
-    let some = c.in_ok-piece.ensures.some (omega (arith, c.loop-left-test.true))
-    (omega (
-      arith,
-      AreAt-length _ (places_after c.loop-left.after.items) (drop done needs.0) here.1,
-      length-drop done needs.0,
-      needs.2,
-      so_far.few,
-      c.loop-left-test.true,
-    )) in
+    let some = read_piece-requires-clause-some g c in
     omega (
       arith,
       piece_within c.args.self.now.samples c.args.values.now (drop done needs.0) c.in_ok-piece.piece c.loop-left.after.items c.take_next.new.after.items

@@ -24,14 +24,9 @@ loop-place-preserved g c =
     let calls = g.C.Codec.called seen.codec + all_needed f.most seen.samples (take c.loop-place.place c.args.edits.now) in
     let is_it = c.in-Ok.ensures.ok here so_far.fit.counted in
     let none = due_none f seen.limit here calls c.in-Ok.change.needed edit is_it.fits is_it.needed (omega (arith, c.in-Ok.ensures.enough, so_far.spent)) in
+    let more = needed_more c.args.edits.now c.loop-place.place edit c.loop-place-test.true c.index-edits-place.is f.most seen.samples in
     record {
       fit = fits_more c.args.edits.now c.loop-place.place edit c.loop-place-test.true c.index-edits-place.is f seen.limit seen.samples
           (g.C.Codec.called seen.codec) c.loop-place.count so_far.fit c.in-Ok.change is_it none;
-      spent = omega (
-        arith,
-        so_far.spent,
-        c.in-Ok.ensures.enough,
-        is_it.needed,
-        needed_more c.args.edits.now c.loop-place.place edit c.loop-place-test.true c.index-edits-place.is f.most seen.samples,
-      );
+      spent = omega (arith, so_far.spent, c.in-Ok.ensures.enough, is_it.needed, more);
     }

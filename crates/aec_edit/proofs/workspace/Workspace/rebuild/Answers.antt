@@ -1,7 +1,8 @@
 use Rattle.std.proofs.Common.{◌≤◌, length, refl, sym, ap, ◌∙◌, arith}
 use Rattle.aec_bits.specs.Codec.{Format}
 use Rattle.aec_edit.specs.Batches.{all_after, all_needed}
-use Rattle.aec_edit.proofs.RebuildLemmas.{draft_to_code, can_draft}
+use Rattle.aec_edit.proofs.RebuildLemmas.{draft_to_code}
+use Rattle.aec_edit.proofs.StepLemmas.{can_draft}
 use Rattle.aec_edit.proofs.workspace.Workspace.rebuild.Goals as goal
 
 pub code_draft-requires : goal.code_draft-requires
