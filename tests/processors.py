@@ -108,6 +108,7 @@ def try_places(folder, tally):
     tally.check("no file", place(module, new), "libaecp.so.1")
     # Later files come before earlier ones.
     plain = os.path.join(module, "libaecp.so")
+    os.mkdir(os.path.join(module, V3))
     for best in (plain, os.path.join(module, V3, "libaecp.so")):
         open(best, "w").close()
         tally.check(f"a new processor, {best}", place(module, new), best)
