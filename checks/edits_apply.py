@@ -71,6 +71,7 @@ REFUSED_BY_TESTS = [
     "aec_edit_tests/workspaces_answer_step_by_step",
     "aec_edit_tests/a_run_takes_the_last_call",
     "aec_edit_tests/mixed_edits_leave_the_code_of_a_plain_list",
+    "aec_edit_tests/edits_applied_as_one_leave_the_code_of_a_plain_list",
     "aec_engine_tests/edits_stand_on_their_lines",
     "aec_engine_tests/scripts_are_carried_out",
     "aec_tests/each_option_has_its_setting",

@@ -1,7 +1,8 @@
 #!/usr/bin/env python3
 """Builds the sdist and the wheel of the Python module, with the library inside: python.py FOLDER [--wheel]
 
-Copies bindings/python, with the files that its links lead to, and runs `python3 -m build` there: all metadata are in its pyproject.toml.
+Copies bindings/python, with the files that its gathered.txt names, and runs `python3 -m build` there: all metadata are in its
+pyproject.toml.
 FOLDER gets both files, whose dates are SOURCE_DATE_EPOCH or else the commit's. This Python must have build, setuptools and wheel, or
 else Debian's, /usr/bin/python3: the wheel is for any Python. With --wheel no sdist is written.
 """
@@ -28,7 +29,8 @@ LIBRARIES = ("libaecp.so", f"{stage.V3}/libaecp.so")
 # Where the wheel has the libraries, by their names in bin/.
 PLACES = {name: f"aecp/{name}" for name in LIBRARIES}
 NEEDED = "import build, setuptools, wheel"
-LEFT_OUT = ("__pycache__", "build", "dist", "*.egg-info", "tests", ".*")
+GATHERED = "gathered.txt"
+LEFT_OUT = ("__pycache__", "build", "dist", "*.egg-info", "tests", ".*", GATHERED)
 
 
 class Unfit(Exception):
@@ -62,17 +64,31 @@ def builder():
     raise Unfit("no Python here has build, setuptools and wheel (on Debian: python3-build, python3-setuptools, python3-wheel)")
 
 
-def copy_sources(folder, text):
-    """Copies the module's sources and what their links lead to. A link that leads to nothing is left out. `text` is that of PROVED, or
-    None."""
-    for at, folders, names in os.walk(SOURCE):
+def gathered():
+    """Yields the place in the module's folder and the path of each file that it gets from another folder, if this file is there."""
+    with open(os.path.join(SOURCE, GATHERED), encoding="ascii") as file:
+        for place, source in map(str.split, file):
+            path = os.path.join(proved.TOP, source)
+            if os.path.exists(path):
+                yield place, path
+
+
+def sources():
+    """Returns the place and the path of each file of a distribution, but for PROVED."""
+    names = dict(gathered())
+    for at, folders, files in os.walk(SOURCE):
         kept = shutil.ignore_patterns(*LEFT_OUT)
         folders[:] = sorted(set(folders) - kept(at, folders))
-        for name in sorted(set(names) - kept(at, names)):
+        for name in sorted(set(files) - kept(at, files)):
             path = os.path.join(at, name)
-            if os.path.exists(path):
-                mode = 0o755 if name.endswith(".so") else 0o644
-                stage.write(os.path.join(folder, os.path.relpath(path, SOURCE)), stage.read(path), mode)
+            names.setdefault(os.path.relpath(path, SOURCE), path)
+    return names.items()
+
+
+def copy_sources(folder, text):
+    """Copies the module's sources and the files that it gets from other folders. `text` is that of PROVED, or None."""
+    for place, path in sources():
+        stage.write(os.path.join(folder, place), stage.read(path), 0o755 if place.endswith(".so") else 0o644)
     if text is not None:
         stage.write(os.path.join(folder, "aecp", "PROVED"), text.encode())
 

@@ -97,8 +97,8 @@ def place(module, cpuinfo, **given):
 
 
 def try_places(folder, tally):
-    """Tests which library beside the module the module takes."""
-    module = os.path.join(folder, "aecp")
+    """Tests which library the module takes, beside it and in a checkout's bin/."""
+    module, checkout = os.path.join(folder, "bindings/python/aecp"), os.path.join(folder, "bin")
     left_out = shutil.ignore_patterns("__pycache__", "*.so")
     shutil.copytree(os.path.join(TOP, "bindings/python/aecp"), module, ignore=left_out)
     new, old = os.path.join(folder, "new"), os.path.join(folder, "old")
@@ -107,9 +107,11 @@ def try_places(folder, tally):
             file.write(TEXT.format(" ".join(flags), ""))
     tally.check("no file", place(module, new), "libaecp.so.1")
     # Later files come before earlier ones.
-    plain = os.path.join(module, "libaecp.so")
-    for best in (plain, os.path.join(module, V3, "libaecp.so")):
+    for where, level in ((checkout, PLAIN), (checkout, V3), (module, PLAIN), (module, V3)):
+        best = os.path.join(where, *([V3] if level == V3 else []), "libaecp.so")
+        os.makedirs(os.path.dirname(best), exist_ok=True)
         open(best, "w").close()
+        plain = os.path.join(where, "libaecp.so")
         tally.check(f"a new processor, {best}", place(module, new), best)
         tally.check(f"an old processor, {best}", place(module, old), plain)
         tally.check(f"AECP_LEVEL={V3}, {best}", place(module, old, AECP_LEVEL=V3), best)

@@ -81,7 +81,7 @@ enum {
     AECP_STREAM_TOO_LONG = 16, /* place: the greatest length in bytes, 2^40; the command aec allows 2^35 */
     AECP_EVEN_BLOCK_SIZE = 17, /* `even_blocks` is on, and `block_size` isn't an even number from 8 to 64 */
     AECP_NO_ROOM = 18,         /* len: the bytes, or samples, that the result needs */
-    AECP_NOT_OPEN = 19,        /* the handle holds no workspace; the coder or reader isn't open; the coder is finished */
+    AECP_NOT_OPEN = 19,        /* the handle, coder or reader isn't open, or was opened as another of these; the coder is finished */
     AECP_BIT_OUT_OF_RANGE = 20 /* place: the number of bits of `coded`. No interval begins at this bit: it is past their end,
                                 * or, with `pad`, it isn't the first bit of a byte */
 };
@@ -174,7 +174,7 @@ typedef struct {
 
 #define AECP_HANDLE {NULL, false}
 
-/* Opens an empty workspace of at most 2^32 samples. On success the workspace that the handle held is freed; after a fault the handle is
+/* Opens an empty workspace of at most 2^32 samples. On success what the handle held is freed; after a fault the handle is
  * unchanged. Faults: options, MEMORY. aecp_close frees the workspace. Trap: aecp_open frees arbitrary memory if the handle is
  * uninitialized. */
 uint32_t aecp_open(const aecp_options *options, aecp_handle *handle, aecp_reply *reply);
@@ -237,7 +237,7 @@ typedef struct {
 
 #define AECP_CODER {NULL, false}
 
-/* Opens a coder of at most 2^32 samples. On success the coder that `coder` held is freed; after a fault it is unchanged. Faults: options,
+/* Opens a coder of at most 2^32 samples. On success what `coder` held is freed; after a fault it is unchanged. Faults: options,
  * MEMORY. Trap: aecp_coder_open frees arbitrary memory if the coder is uninitialized. */
 uint32_t aecp_coder_open(const aecp_options *options, aecp_coder *coder, aecp_reply *reply);
 
@@ -271,7 +271,7 @@ typedef struct {
 #define AECP_READER {NULL, false}
 
 /* Opens a reader of a stream's first `count` samples, or of all with AECP_ALL, at sample 0. `reply->len` is the length in bytes of the
- * samples of a whole interval. On success the reader that `reader` held is freed; after a fault it is unchanged. Faults: options,
+ * samples of a whole interval. On success what `reader` held is freed; after a fault it is unchanged. Faults: options,
  * TOO_MANY_SAMPLES, MEMORY. Allocates the length of the stream, and eight bytes a sample of an interval. Traps: it reads no sample yet, so
  * a bad stream opens too; aecp_reader_open frees arbitrary memory if the reader is uninitialized. */
 uint32_t aecp_reader_open(const aecp_options *options, uint64_t count, const uint8_t *coded, size_t coded_len, aecp_reader *reader,

@@ -1,6 +1,8 @@
 """Gives the wheel the tag of a built library that any Python can load. All metadata are in pyproject.toml."""
 
+import atexit
 import os
+import shutil
 
 from setuptools import Distribution, setup
 
@@ -9,9 +11,26 @@ try:
 except ImportError:  # before setuptools 70.1
     from wheel.bdist_wheel import bdist_wheel
 
-LIBRARY = os.path.join(os.path.dirname(os.path.abspath(__file__)), "aecp", "libaecp.so")
+HERE = os.path.dirname(os.path.abspath(__file__))
+TOP = os.path.dirname(os.path.dirname(HERE))
+LIBRARY = os.path.join(HERE, "aecp", "libaecp.so")
 # The glibc that the library needs. packaging/python.py and tests/packages.py compare it with the library.
 PLATFORM = "manylinux_2_17_x86_64"
+
+
+def gather():
+    """Copies files that a checkout has in other folders to the places that gathered.txt gives, until this process ends. An sdist
+    contains these files, and no gathered.txt."""
+    table = os.path.join(HERE, "gathered.txt")
+    if not os.path.exists(table):
+        return
+    with open(table, encoding="ascii") as file:
+        for place, source in map(str.split, file):
+            place, source = os.path.join(HERE, place), os.path.join(TOP, source)
+            if os.path.exists(source):
+                os.makedirs(os.path.dirname(place), exist_ok=True)
+                shutil.copy(source, place)
+                atexit.register(os.remove, place)
 
 
 class WithLibrary(Distribution):
@@ -33,4 +52,5 @@ class TaggedWheel(bdist_wheel):
         super().run()
 
 
+gather()
 setup(distclass=WithLibrary, cmdclass={"bdist_wheel": TaggedWheel})

@@ -178,10 +178,17 @@ def walks_for(settings: Settings, count: int) -> Any:
     return st.integers(0, 2**32).map(walked)
 
 
-def old_pair(folder: Any, name: str, samples: list[int], settings: Settings = USUAL, history: Optional[list[Any]] = None) -> str:
+def old_pair(
+    folder: Any,
+    name: str,
+    samples: list[int],
+    settings: Settings = USUAL,
+    history: Optional[list[Any]] = None,
+    coded: Optional[bytes] = None,
+) -> str:
     """Writes a pair of the earlier form: NAME.aec, the bare stream, and NAME.aec.json. Returns the path of the stream."""
     stored, options = settings.stored(samples), options_of(settings)
-    coded = bytes(aecp.encode(stored, options))
+    coded = bytes(aecp.encode(stored, options)) if coded is None else coded
     when = "2026-11-01T01:02:03Z"
     state = {"samples": {"count": len(samples), **old_sum(stored)}, "stream": old_sum(coded)}
     fields: dict[str, Any] = {

@@ -16,7 +16,7 @@ sys.path.insert(0, os.path.join(os.path.dirname(__file__), "..", "..", "bindings
 
 import aecp  # noqa: E402
 from aecp import Options, archive  # noqa: E402
-from aecp.archive import _file, _history, _index, _saving, _stored  # noqa: E402
+from aecp.archive import _file, _history, _index, _restoring, _saving, _stored, _strict  # noqa: E402
 
 numpy = pytest.importorskip("numpy")
 
@@ -359,3 +359,23 @@ def test_index_of_a_long_list_is_small() -> None:
     data = written(Options(16), stored(Options(16), 1 << 20))
     file = archive.ArchiveFile.of_bytes(data)
     assert len(file.index) * _index.ENTRY.size <= len(file.stream()) / 1000
+
+
+def test_a_name_that_occurs_twice_is_refused() -> None:
+    assert _strict.parse(b'{"a":1,"b":1}', 9) == {"a": 1, "b": 1}
+    with pytest.raises(_strict.Wrong):
+        _strict.parse(b'{"a":1,"a":1}', 9)
+
+
+def test_the_part_of_a_damaged_range_that_is_asked_for() -> None:
+    lost = archive.Range(10, 20)
+    for first, length, part in ((15, 10, (15, 10)), (0, 15, (10, 5)), (25, 99, (25, 5)), (0, 99, (10, 20))):
+        assert _restoring.within(lost, first, length) == part
+    assert _restoring.within(lost, 30, 9).length == _restoring.within(lost, 0, 10).length == 0
+
+
+@pytest.mark.parametrize("count", [0, 1, 1 << 21, (1 << 21) + 1, 5 << 20])
+def test_a_long_fill(count: int) -> None:
+    file = io.BytesIO()
+    _restoring.write_fill(file, b"ab", count)
+    assert file.getvalue() == b"ab" * count

@@ -17,7 +17,7 @@ from running import How, done, in_child, refused
 
 ZEROS = Settings(bits=8, block_size=64, interval=4096)
 MOST = 64 << 20  # bytes of memory, beside what the process has in the beginning
-MANY = 3 << 26  # samples: three times as many bytes
+MANY = 3 << 25  # samples, of one byte
 
 
 def limit(more: int = 0) -> How:
@@ -28,7 +28,7 @@ def limit(more: int = 0) -> How:
 
 
 def large(place: str) -> str:
-    """Keeps 192 MiB of samples that take few bytes."""
+    """Keeps 96 MiB of samples that take few bytes."""
     with open(os.path.join(place, "f"), "wb") as file:
         for number in range(MANY >> 20):
             piece = bytearray(1 << 20)
@@ -47,12 +47,12 @@ def at(path: str, *places: int) -> list[int]:
 def test_edit_undo_and_repair_take_little_memory(place: str) -> None:
     path = large(place)
     first = parts_at(path)
-    pixels = b"".join(b"overwrite %d 7\n" % (it * 60_000_000 + 5) for it in range(4))
-    others = b"insert 100000000 1 2 3\nremove 100000004 90000000\noverwrite 99 9\nappend 4 5\n"
+    pixels = b"".join(b"overwrite %d 7\n" % (it * 30_000_000 + 5) for it in range(4))
+    others = b"insert 50000000 1 2 3\nremove 50000004 45000000\noverwrite 99 9\nappend 4 5\n"
     for script in (pixels, others):
         done(place, "edit", "f.aec", "-", given=script, how=limit())
-    assert sound(path) == MANY + 3 - 90_000_000 + 2
-    assert at(path, 5, 99, 60_000_005, 100_000_000, 100_000_002) == [7, 9, 7, 1, 3]
+    assert sound(path) == MANY + 3 - 45_000_000 + 2
+    assert at(path, 5, 99, 30_000_005, 50_000_000, 50_000_002) == [7, 9, 7, 1, 3]
     assert parts_at(path).fields["shape"] is None
     damaged = bytearray(read(path))
     damaged[len(parts_at(path).stream) // 2] ^= 255
@@ -82,7 +82,7 @@ def sound_of(data: bytes) -> bytes:
 
 def test_memory_beside_incompressible_samples(place: str) -> None:
     """The stream is held at most six times."""
-    samples = noise(1, 1 << 22)
+    samples = noise(1, 1 << 21)
     path = made(os.path.join(place, "f.aec"), samples, FAST)
     size = len(parts_at(path).stream)
     for words, script in (("edit f.aec -", b"overwrite 5 9\ninsert 7 7\n"), ("undo f.aec", b""), ("forget f.aec --keep 1", b"")):
@@ -91,7 +91,7 @@ def test_memory_beside_incompressible_samples(place: str) -> None:
 
 
 def test_fresh_values_take_what_they_amount_to(place: str, times: int) -> None:
-    """3,000 new values at new places: their places, the new values and the old ones, coded: 9 KB for each edit."""
+    """3,000 new values at new places: their places, the new values and the old ones, coded: 10 KB for each edit."""
     chance = random.Random(1)
     path = keep(place, "f", walk(1, 1 << 17), FAST)
     stream, size, edits = parts_at(path).stream, os.path.getsize(path), 3 * times
@@ -101,7 +101,7 @@ def test_fresh_values_take_what_they_amount_to(place: str, times: int) -> None:
         scripts.append(b"".join(b"overwrite %d %d\n" % (it, chance.randrange(900, 1100)) for it in places))
         done(place, "edit", "f.aec", "-", given=scripts[-1])
     parts = sound_parts(path)
-    assert os.path.getsize(path) - len(parts.stream) - size + len(stream) < 9500 * edits
+    assert os.path.getsize(path) - len(parts.stream) - size + len(stream) < 10_500 * edits
     for number, script in enumerate(scripts, 1):
         assert script_of(parts, number) == script
         assert done(place, "log", "f.aec", "--script", str(number)).out == script.decode()

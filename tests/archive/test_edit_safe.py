@@ -3,13 +3,16 @@
 from __future__ import annotations
 
 import os
+import random
+from pathlib import Path
 from typing import Any
 
 import aecp
 import pytest
-from making import FAST, keep, leftovers, noise, parts_at, read, samples_at, walk, write
-from running import How, Hooks, command, done, refused
+from lib import foreign_writer
 from lib.settings import Settings
+from making import FAST, USUAL, keep, leftovers, noise, old_pair, options_of, parts_at, read, samples_at, walk, write
+from running import How, Hooks, command, done, refused
 
 
 @pytest.mark.parametrize("how", ["inverse", "inverse stream", "stream", "sum"])
@@ -125,6 +128,21 @@ def test_a_full_disk_changes_nothing(place: str) -> None:
             assert read(path) == before and leftovers(place) == []
 
 
+def test_another_coders_stream_comes_back_by_undo(place: str) -> None:
+    """Our coder would write another stream for these samples, so an inverse script alone doesn't restore it."""
+    samples = walk(1, 3000)
+    stream = foreign_writer.stream(samples, USUAL, random.Random(1))
+    path = old_pair(place, "f", samples, coded=stream)
+    write(place, "f", USUAL.stored(samples))
+    done(place, "keep", "f", *USUAL.options())
+    assert parts_at(path).stream == stream != bytes(aecp.encode(USUAL.stored(samples), options_of(USUAL)))
+    for script in (b"overwrite 5 9\noverwrite 2000 7\n", b"insert 100 1 2 3\n", b"remove 0 64\nappend 9\n"):
+        done(place, "edit", "f.aec", "-", given=script)
+    for _ in range(3):
+        done(place, "undo", "f.aec")
+    assert parts_at(path).stream == stream
+
+
 @pytest.mark.parametrize("words,cut", [("edit f.aec -", 0), ("edit f.aec -", 3), ("undo f.aec", 0), ("undo f.aec", 3)])
 def test_a_wrong_coder_is_noticed(place: str, words: str, cut: int) -> None:
     """A stream that is cut, or that decodes to other samples, never replaces the file."""
@@ -150,3 +168,19 @@ def test_a_wrong_coder_is_noticed(place: str, words: str, cut: int) -> None:
     before = read(path)
     ran = command(place, *words.split(), given=b"overwrite 5 9\n", how=How(before=wrong))
     assert ran.status == 1 and read(path) == before, ran
+
+
+@pytest.mark.skipif(os.geteuid() != 0, reason="only root gives files away")
+def test_a_group_that_cannot_be_given_gets_no_rights(tmp_path: Path) -> None:
+    """The new file has the group of its writer, which the old file's mode wasn't meant for."""
+    path = keep(str(tmp_path), "f", walk(1, 500))
+    for folder in (tmp_path, *tmp_path.parents):
+        if str(folder) not in ("/", "/tmp"):
+            os.chmod(folder, 0o755)
+    os.chmod(tmp_path, 0o777)
+    os.chown(path, 65534, 12345)
+    os.chmod(path, 0o664)
+    ran = command(str(tmp_path), "edit", "f.aec", "-", how=How(b"append 7\n", user=65534))
+    assert ran.status == 0, ran
+    status = os.stat(path)
+    assert (status.st_uid, status.st_gid, status.st_mode & 0o777) == (65534, 65534, 0o604)

@@ -235,3 +235,20 @@ def test_a_large_file_that_changes_while_it_is_compared(place: str) -> None:
 
     ran = command(place, "keep", "a", "-n", "16", "--remove", how=How(before=changing))
     assert ran.status == 1 and read(path).startswith(other), ran
+
+
+@pytest.mark.parametrize("at", [-1, 6])
+def test_remove_compares_what_is_around_the_samples(place: str, at: int) -> None:
+    """A byte after the samples, or one of the header, has changed, with size and time as they were."""
+    numpy = pytest.importorskip("numpy")
+    path = os.path.join(place, "a.npy")
+    numpy.save(path, numpy.arange(3000, dtype="<u2"))
+    with open(path, "ab") as file:
+        file.write(b"the tail")
+    done(place, "keep", "a.npy")
+    data, before = bytearray(read(path)), os.stat(path).st_mtime_ns
+    data[at] ^= 1
+    write(place, "a.npy", bytes(data))
+    os.utime(path, ns=(before, before))
+    ran = command(place, "keep", "a.npy", "--remove")
+    assert ran.status == 1 and read(path) == data, ran

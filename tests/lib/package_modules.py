@@ -1,5 +1,6 @@
 """Tests the wheel in fresh environments of Python, and the Rust crate over the packed archive. For packages.py."""
 
+import filecmp
 import glob
 import os
 import re
@@ -286,6 +287,9 @@ def try_crate(unpacked, folder, tally):
     for name, file in (("aecp-sys", "LICENSE"), ("aecp-sys", "build.rs"), ("aecp", "LICENSE"), ("aecp", "src/raw.rs")):
         status, said = cargo(os.path.join(crates, name), folder, "package", "--list", "--allow-dirty")
         tally.holds(status == 0 and file in said.split(), f"cargo package of {name} lacks {file}: {said}")
+    for name in ("aecp-sys", "aecp"):
+        same = filecmp.cmp(os.path.join(TOP, "LICENSE"), os.path.join(crates, name, "LICENSE"), shallow=False)
+        tally.holds(same, f"bindings/rust/{name}/LICENSE isn't the repository's")
     status, said = cargo(crate, folder, "test", AECP_LIB_DIR=lib)
     tally.holds(status == 0, f"cargo test: {said}")
     print(f"cargo test: {', '.join(re.findall(r'test result: ok. ([0-9]+ passed)', said))}")

@@ -60,12 +60,13 @@ class Reader(ctypes.Structure):
 
 
 def place_of_library() -> str:
-    """Returns the path of the library: AECP_LIBRARY, else beside this module, else where the loader looks for SONAME. Beside this
-    module the library for the processor's level comes first. A checkout has links to its bin/ there."""
+    """Returns the path of the library: AECP_LIBRARY, else beside this module, else in a checkout's bin/, else where the loader
+    looks for SONAME. Beside this module and in bin/, the library for the processor's level comes first."""
     named = os.environ.get("AECP_LIBRARY")
     if named:
         return named
-    places = (os.path.join(HERE, name) for name in names_of(NAME))
+    folders = (HERE, os.path.normpath(os.path.join(HERE, "..", "..", "..", "bin")))
+    places = (os.path.join(folder, name) for folder in folders for name in names_of(NAME))
     return next(filter(os.path.exists, places), SONAME)
 
 

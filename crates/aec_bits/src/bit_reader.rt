@@ -146,8 +146,8 @@ impl<'a> BitReader<'a> {
         self.buf.word_from(self.pos)
     }
 
-    /// `read`, of a number that a word contains after its first `gone` bits. They were read, and
-    /// the word was returned by `next_word` before.
+    /// Reads the next `width` bits as `read` does, from a word that `next_word` returned `gone`
+    /// bits before.
     #[inline(always)]
     pub fn read_from(&mut self, word: u64, gone: u32, width: u32) -> Result<u64, Fault>
         requires word { IsBehindWord self.old gone word }
@@ -168,8 +168,10 @@ impl<'a> BitReader<'a> {
         Ok(value)
     }
 
-    /// `read_sequences` of sequences that a word contains after its first `gone` bits, as in
-    /// `read_from`. Returns false if the word doesn't contain all of them.
+    /// Reads fundamental sequences as `read_sequences` does, from a word that `next_word` returned
+    /// `gone` bits before. Returns false if the word doesn't contain all of them, or at any other
+    /// place: no clause says when. The reader then hasn't moved, and the contents of `numbers` are
+    /// unspecified.
     #[inline(always)]
     pub fn read_sequences_from(&mut self, word: u64, gone: u32, numbers: &mut [u32]) -> bool
         requires word { IsBehindWord self.old gone word }

@@ -138,8 +138,8 @@ fn skip_plain(params: &Params, reader: &mut BitReader, is_ref: bool) -> Result<b
 
 /// Moves past one coded data set by sample splitting or without compression, of a block with a
 /// reference sample or of another. Returns false if no such set begins at the reader's place, or if
-/// a value of it is above the greatest that the width has; the reader then hasn't moved. May
-/// return false at a split above the width. Allocates nothing.
+/// a value of it is above the greatest that the width has; the reader then hasn't moved. No clause
+/// says when it returns true: `skip_cds` skips what it leaves. Allocates nothing.
 #[inline(always)]
 pub fn skip_single(params: &Params, reader: &mut BitReader, is_ref: bool) -> bool
     ensures skipped { result ≡ true → (c : CodedDataSet)

@@ -73,7 +73,8 @@ pub record KeepsList {C : Type 0} (format_of : C → Format) (called : C → ℕ
   pub format : format_of new.codec ≡ format_of old.codec
   pub calls : RisesAtMost coded (called old.codec) (called new.codec)
 
--- the next interval of `rest` was coded or copied, of which the calls have risen if it was coded
+-- the next interval of `rest` was coded or copied: the calls made and those still needed have the
+-- same sum
 pub record AddsNext {C : Type 0} (format_of : C → Format) (called : C → ℕ) (rest : List ℤ) (w w_after : Contents C)
     (old new : Draft) (coded coded_after : Coded) : Type 0 where
   pub to_code : IsToCode (format_of w.codec).most w.samples (drop (format_of w.codec).most rest) new

@@ -262,9 +262,11 @@ impl<C: Codec> Workspace<C> {
         Ok(())
     }
 
-    /// Applies all edits, or none of them, and returns how many intervals it coded. Does it in one
-    /// pass: an interval that the edits leave whole is copied, even to another place. Each other
-    /// one is coded once. Applied one after the other, the edits code at least as many.
+    /// Applies all edits, or none of them, and returns how many intervals it coded: at most as many
+    /// as the edits code one after the other. It copies the bits of each interval that no edit
+    /// changes or cuts differently, even to another place, and codes each other one once; no clause
+    /// says this, nor how many intervals it decodes. It allocates the whole new code beside the old
+    /// one, so it may fail with `Memory` even if no interval is coded.
     ///
     /// First the edits are judged in their order, as `apply` judges each of them, with the samples
     /// and the calls that the edits before it leave. The first that is refused decides: the result

@@ -14,8 +14,9 @@ pub enum Outcome {
 /// Where and why a list of edits ended.
 #[derive(Clone, Copy, Debug, PartialEq, Eq, Drop)]
 pub struct Stop {
-    /// The number of edits before the refused one.
+    /// The number of edits before the refused one; the number of all edits if `apply_all` lacks
+    /// memory.
     pub place: u64,
-    /// Why that edit was refused.
+    /// Why that edit, or all of them, were refused.
     pub fault: Fault,
 }

@@ -19,11 +19,11 @@ bits_from bytes bit within =
     let k = bit / 8 in
     let few : k ≤ length bytes = omega (arith, within) in
     let cut : bits_of_bytes bytes ≡ bits_of_bytes (take k bytes) ++ bits_of_bytes (drop k bytes) =
-        ap bits_of_bytes (sym (take-append-drop k bytes)) ∙ bits_of_bytes-append (take k bytes) (drop k bytes) in
+    ap bits_of_bytes (sym (take-append-drop k bytes)) ∙ bits_of_bytes-append (take k bytes) (drop k bytes) in
     let front : length (bits_of_bytes (take k bytes)) ≡ 8 * k =
-        omega (arith, length-bits_of_bytes (take k bytes), length-take-le k bytes few) in
+    omega (arith, length-bits_of_bytes (take k bytes), length-take-le k bytes few) in
     let behind : drop (8 * k) (bits_of_bytes bytes) ≡ bits_of_bytes (drop k bytes) =
-        ap (drop (8 * k)) cut ∙ drop_at (bits_of_bytes (take k bytes)) (bits_of_bytes (drop k bytes)) (8 * k) front in
+    ap (drop (8 * k)) cut ∙ drop_at (bits_of_bytes (take k bytes)) (bits_of_bytes (drop k bytes)) (8 * k) front in
     let whole : 8 * k + bit % 8 ≡ bit = omega arith in
     ap (drop (bit % 8)) (sym behind) ∙ drop-drop (bit % 8) (8 * k) (bits_of_bytes bytes) ∙ ap (λ n. drop n (bits_of_bytes bytes)) whole
 

@@ -46,8 +46,7 @@ pub record IsGoneOver (s : Settings) (count : Option ℕ) (bits : List Bool) (fi
 
 -- n blocks, at most `most`, were skipped from place `place` of an interval on: the list is the
 -- same, and a reading that has come to the first of them comes past the last one, if their samples
--- are within its count, or else its limit. Count and limit are at most 2^32, and no interval is
--- padded
+-- are within its count, or else its limit; this holds for a count and a limit of at most 2^32
 pub record SkipsBlocks (s : Settings) (place most : ℕ) (old : Cursor) (n : ℕ) (new : Cursor) : Type 0 where
   pub list : new.list ≡ old.list
   pub within : n ≤ most

@@ -30,9 +30,13 @@ ones_skipped = is_reading (zero_block usual (Some 0) ∷ zero_block usual None �
 pub ones_skipped_between : IsReading padded None 4096 (bits_of_bytes (0x00 ∷ 0x07 ∷ 0x00 ∷ 0x08 ∷ [])) (zeros 24)
 ones_skipped_between =
     is_reading (zero_block usual (Some 0) ∷ zero_block usual None ∷ zero_block usual (Some 0) ∷ [])
-    (run_from_the_start 1 ∷ run_from_the_start 0 ∷ []) 3 29 (zeros 24)
-    (refl, refl, record { shape = record { reference = lit< tt; body = tt }; small = refl; within = refl }, refl,
-    (refl, refl, record { shape = record { reference = lit< tt; body = tt }; small = refl; within = refl }, refl, (refl, refl)))
+    (run_from_the_start 1 ∷ run_from_the_start 0 ∷ []) 3 29 (zeros 24) (
+      refl,
+      refl,
+      record { shape = record { reference = lit< tt; body = tt }; small = refl; within = refl },
+      refl,
+      (refl, refl, record { shape = record { reference = lit< tt; body = tt }; small = refl; within = refl }, refl, (refl, refl)),
+    )
     refl refl (search rules) refl refl refl
 
 -- ---- choices of other coders

@@ -61,16 +61,24 @@ run_from_the_start m = record { reference = Some 0; body = zero_blocks m }
 pub seventeen_zeros : IsReading usual (Some 17) 4096 (bits_of_bytes (0x00 ∷ 0x04 ∷ 0x00 ∷ 0x20 ∷ [])) (zeros 17)
 seventeen_zeros =
     is_reading (zero_block usual (Some 0) ∷ zero_block usual None ∷ zero_block usual (Some 0) ∷ [])
-    (run_from_the_start 1 ∷ run_from_the_start 0 ∷ []) 3 27 (zeros 24)
-    (refl, refl, record { shape = record { reference = lit< tt; body = tt }; small = refl; within = refl }, refl,
-    (refl, refl, record { shape = record { reference = lit< tt; body = tt }; small = refl; within = refl }, refl, (refl, refl)))
+    (run_from_the_start 1 ∷ run_from_the_start 0 ∷ []) 3 27 (zeros 24) (
+      refl,
+      refl,
+      record { shape = record { reference = lit< tt; body = tt }; small = refl; within = refl },
+      refl,
+      (refl, refl, record { shape = record { reference = lit< tt; body = tt }; small = refl; within = refl }, refl, (refl, refl)),
+    )
     refl refl (search rules) refl refl refl
 
 -- the second interval begins after the padding; the zero bits that remain end the stream
 pub padded_zeros : IsReading padded None 4096 (bits_of_bytes (0x00 ∷ 0x04 ∷ 0x00 ∷ 0x08 ∷ [])) (zeros 24)
 padded_zeros =
     is_reading (zero_block usual (Some 0) ∷ zero_block usual None ∷ zero_block usual (Some 0) ∷ [])
-    (run_from_the_start 1 ∷ run_from_the_start 0 ∷ []) 3 29 (zeros 24)
-    (refl, refl, record { shape = record { reference = lit< tt; body = tt }; small = refl; within = refl }, refl,
-    (refl, refl, record { shape = record { reference = lit< tt; body = tt }; small = refl; within = refl }, refl, (refl, refl)))
+    (run_from_the_start 1 ∷ run_from_the_start 0 ∷ []) 3 29 (zeros 24) (
+      refl,
+      refl,
+      record { shape = record { reference = lit< tt; body = tt }; small = refl; within = refl },
+      refl,
+      (refl, refl, record { shape = record { reference = lit< tt; body = tt }; small = refl; within = refl }, refl, (refl, refl)),
+    )
     refl refl (search rules) refl refl refl

@@ -24,6 +24,7 @@ from aecp.options import FLAGS, NUMBERS, Options
 
 USUAL = {"block_size": 16, "interval": 128}
 WRITING = ("keep", "back", "edit", "undo", "forget")  # verbs that write files
+SYNCING = 8  # threads of a process that write small files, so that they wait for the disk together
 
 
 class Wrong(Exception):
@@ -129,7 +130,8 @@ def dealt(
     process has died, `again` is done instead of `work`."""
     jobs, dask = getattr(asked, "jobs", None), getattr(asked, "dask", None)
     sizes = [it.size for it in found]
-    deal = Deal(Guarded(work), DIED, Guarded(again or work))
+    threads = SYNCING if asked.verb in WRITING else 1
+    deal = Deal(Guarded(work), DIED, Guarded(again or work), threads)
     with pool_of(jobs, dask, len(found), partial(clean, asked)) as pool:
         with console.progress(len(found), sum(sizes)) as progress:
             for it, outcome in deal.results(pool, found, sizes):

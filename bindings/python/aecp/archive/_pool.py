@@ -11,6 +11,7 @@ import multiprocessing
 import os
 import signal
 import sys
+import threading
 from collections.abc import Iterator, Sequence
 from concurrent.futures import Future, ProcessPoolExecutor
 from concurrent.futures.process import BrokenProcessPool
@@ -294,25 +295,50 @@ def pool_of(
 
 class Deal(Generic[T, R]):
     """One piece of work on many items: what is done with an item, the result of an item whose
-    process died, and what is done instead of the work after a process has died."""
+    process died, what is done instead of the work after a process has died, and how many threads of
+    a process share a lot: while one waits for the disk, others work."""
 
-    def __init__(self, work: Callable[[T], R], died: R, again: Callable[[T], R]) -> None:
-        self.work, self.died, self.again = work, died, again
+    def __init__(
+        self, work: Callable[[T], R], died: R, again: Callable[[T], R], threads: int = 1
+    ) -> None:
+        self.work, self.died, self.again, self.threads = work, died, again, threads
 
     def __call__(self, lot: list[T]) -> list[R]:
-        return [self.work(item) for item in lot]
+        done: dict[int, R] = {}
+        rest = iter(range(len(lot)))
+
+        def work() -> None:
+            for i in rest:
+                done[i] = self.work(lot[i])
+
+        others = [threading.Thread(target=work) for _ in range(min(self.threads, len(lot)) - 1)]
+        begun = []
+        for thread in others:
+            with contextlib.suppress(RuntimeError):  # the system has no more threads
+                thread.start()
+                begun.append(thread)
+        work()
+        for thread in begun:
+            thread.join()
+        return [done[i] for i in range(len(lot))]
 
     @property
     def once_more(self) -> Deal[T, R]:
         """What is done after a process has died."""
         return Deal(self.again, self.died, self.again)
 
+    @property
+    def one_by_one(self) -> Deal[T, R]:
+        """The same work in one thread: the first process ends it by an exception."""
+        return Deal(self.work, self.died, self.again)
+
     def results(
         self, pool: Pool, items: Sequence[T], sizes: Sequence[int]
     ) -> Iterator[tuple[T, R]]:
         """Yields each item with its result, in order."""
         lots = dealt(items, sizes, pool.workers)
-        for lot, results in zip(lots, pool.results(self, lots)):
+        work = self.one_by_one if isinstance(pool, Here) else self
+        for lot, results in zip(lots, pool.results(work, lots)):
             if results is None and len(lot) > 1:
                 singles = [[item] for item in lot]
                 for item, result in zip(lot, pool.results(self.once_more, singles)):

@@ -332,7 +332,7 @@ pub(crate) fn decode_bits_into(
 /// Allocates room for the coded bytes, and for an interval of samples, or more but at most 4,096.
 /// Unless a count is given and the first reading returns all samples, it also allocates room for
 /// the bytes that are kept while the coded bytes are judged: four bytes for each sample of an
-/// interval, and 64 KiB, or with short blocks up to 16 MiB (with a count below 4,096, only four
+/// interval, and 64 KiB, or with short blocks up to 16 MiB (with a count, at most four
 /// bytes for each sample asked for). The samples after the kept bytes are read twice.
 pub fn decode_into(
     alloc: Global,

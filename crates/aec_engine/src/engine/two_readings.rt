@@ -47,8 +47,8 @@ fn seek_from(reader: &mut StreamReader, place: ReachedPlace) -> u64
     end
 }
 
-/// Returns how many samples may be passed at a time, after `before` samples, so that the last
-/// interval that begins at or before sample `first` is met: any number once it is passed.
+/// Returns how many samples `skip_few` may pass after `before` samples: only up to sample `first`,
+/// so that it stops at the last interval that begins there or before; after `first`, any number.
 fn most_at_once(before: u64, first: u64) -> u64
     ensures { before < first → before + result ≤ first }
 {
