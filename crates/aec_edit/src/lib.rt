@@ -1,6 +1,6 @@
 //! A coded list of samples that is edited in place, over any lawful codec of intervals.
 //!
-//! A `Workspace` applies edits (`apply`, `run`, `apply_all`) and reads samples back (`range`).
+//! A `Workspace` applies edits (`apply`, `apply_all`, `run`) and reads samples back (`range`).
 #![tactic(auto)]
 
 mod batch;

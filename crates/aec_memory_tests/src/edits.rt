@@ -55,6 +55,10 @@ impl Trial for Edits {
         if number == RESERVE {
             return self.work.reserve(1000, 9);
         }
+        if number == ALL {
+            self.coded = coded_at_once(&mut self.work, &self.edits)?;
+            return Ok(());
+        }
         match self.edits.get(number) {
             Some(edit) => self.coded = self.work.apply(edit)?,
             None => self.part = self.work.range(self.alloc, 19, 3)?,
@@ -66,6 +70,14 @@ impl Trial for Edits {
         print_work(rt, self.alloc, &self.work);
         let _ = print!(rt; " coded {},", self.coded);
         print_samples(rt, &self.part);
+    }
+}
+
+/// Applies edits as one.
+fn coded_at_once(work: &mut Workspace<AecCodec>, edits: &[Edit]) -> Result<u64, Fault> {
+    match work.apply_all(edits) {
+        Ok(coded) => Ok(coded),
+        Err(stop) => Err(stop.fault),
     }
 }
 
@@ -179,6 +191,12 @@ remove 0 16";
 
 const SEVENS: &str = "append 7 7 7 7 7\nappend 7 7 7 8\ntruncate 5";
 
+// Forty-eight zeros, of which one becomes a one. The same again appends zeros, and opens an
+// interval.
+const ZEROS_AT_ONCE: &str = "\
+append 0 0 0 0 0 0 0 0 0 0 0 0 0 0 0 0 0 0 0 0 0 0 0 0 0 0 0 0 0 0 0 0 0 0 0 0 0 0 0 0 0 0 0 0 0 0 0 0
+overwrite 20 1";
+
 const SPENT: &str = "\
 append 0 0 0 0 0 0 0 0 0 0 0 0 0 0 0 0 0
 append 0 0 0 0 0 0 0 0 0 0 0 0 0 0 0 0
@@ -188,6 +206,10 @@ truncate 0";
 const APPLY: &str = "Workspace::apply";
 
 const RESERVE: usize = 100;
+
+const ALL: usize = 101;
+
+const AT_ONCE: [(usize, &str); 2] = [(ALL, "Workspace::apply_all"), (ALL, "Workspace::apply_all")];
 
 const RESERVED: [(usize, &str); 3] = [
     (RESERVE, "Workspace::reserve"),
@@ -219,12 +241,13 @@ const LINES: &str = "# p\noverwrite 20 1 -2\nappend\ntruncate 5";
 
 const MOVING_LINES: &str = "insert 3 1 -2\nremove 4 5\ninsert 0";
 
-/// Applies edits one by one, reads a range, runs a list of edits, and reads scripts.
+/// Applies edits one by one and as one, reads a range, runs a list of edits, and reads scripts.
 pub fn try_edits<R: Print + Eprint>(rt: &R, alloc: Global) -> Result<(), Fault> {
     try_calls(rt, &ZEROS_EDITED, &mut Edits::new(alloc, 48, ZEROS)?);
     try_calls(rt, &EDITED[..3], &mut Edits::new(alloc, 48, SEVENS)?);
     try_calls(rt, &EDITED, &mut Edits::new(alloc, 65, MOVED_ZEROS)?);
     try_calls(rt, &RESERVED, &mut Edits::new(alloc, 48, SEVENS)?);
+    try_calls(rt, &AT_ONCE, &mut Edits::new(alloc, 96, ZEROS_AT_ONCE)?);
     try_runs(rt, alloc)?;
     try_script(rt, alloc, LINES);
     try_script(rt, alloc, MOVING_LINES);
