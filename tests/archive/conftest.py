@@ -32,6 +32,8 @@ def pytest_addoption(parser: Any) -> None:
 def pytest_configure(config: Any) -> None:
     if not hasattr(ctypes.CDLL(None), "hooks_log"):
         raise pytest.UsageError("run these tests by: python3 tests/archive.py FOLDER (it preloads hooks.c)")
+    # In the background of a shell this process ignores SIGINT, and so would the commands that it runs.
+    signal.signal(signal.SIGINT, signal.default_int_handler)
     settings.load_profile("thorough" if config.getoption("--thorough") else "usual")
 
 
