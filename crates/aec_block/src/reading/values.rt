@@ -100,9 +100,10 @@ pub(crate) fn read_highs(
     read_long_highs(reader, highs, limit)
 }
 
-/// `read_highs`, from the word `seen` if that contains all high parts.
+/// `read_highs`, from the word `seen` if that contains all high parts. As of `read_split`, each copy
+/// has one caller.
 #[inline(always)]
-fn read_seen_highs(
+fn read_seen_highs<const M: usize, const COPY: usize>(
     reader: &mut BitReader,
     seen: Seen,
     highs: &mut [u32],
@@ -178,7 +179,7 @@ fn read_split<const M: usize, const COPY: usize>(
     let limit = value_limit(params);
     let mut scratch = [0u32; M];
     let lows = &mut scratch[..values.len()];
-    let highs_fit = read_seen_highs(reader, seen, values, high_limit(limit, k))?;
+    let highs_fit = read_seen_highs::<M, COPY>(reader, seen, values, high_limit(limit, k))?;
     read_numbers(reader, k, lows)?;
     if !highs_fit {
         return Ok(false);
