@@ -144,10 +144,10 @@ def try_valgrind(in_c, tally):
 
 
 def try_names(folder, tally):
-    """Checks the names that the shared library exports, and the libraries that it needs."""
+    """Checks the names that the shared library exports, all of the version AECP_1, and the libraries that it needs."""
     library = os.path.join(folder, "libaecp.so")
     names = subprocess.run(["nm", "-D", "--defined-only", library], capture_output=True, text=True, check=True).stdout
-    wanted = {f"aecp_{name}" for name in CALLS}
+    wanted = {"AECP_1", *(f"aecp_{name}@@AECP_1" for name in CALLS)}
     tally.check("names", {line.split()[-1] for line in names.splitlines()}, wanted)
     needs = subprocess.run(["readelf", "-d", library], capture_output=True, text=True, check=True).stdout
     tally.check("needs", [line.split("[")[1] for line in needs.splitlines() if "(NEEDED)" in line], ["libc.so.6]"])
