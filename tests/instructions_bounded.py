@@ -58,32 +58,32 @@ INPUTS = {
 
 # The kind of samples, J and r; and the instructions a sample that the proved program took in coding and in decoding.
 MEASURED = {
-    ("detector", 8, 128): (48.6, 42.4),
-    ("detector", 16, 128): (38.8, 34.6),
-    ("detector", 64, 128): (36.4, 36.7),
-    ("detector", 8, 2): (49.4, 43.8),
-    ("detector", 8, 1): (50.6, 47.4),
-    ("zeros", 8, 128): (19.3, 7.0),
-    ("zeros", 8, 8): (20.1, 10.3),
-    ("zeros", 8, 2): (22.8, 15.6),
-    ("zeros", 8, 1): (26.5, 25.3),
-    ("patches", 8, 1): (38.3, 45.6),
-    ("walk", 16, 128): (44.2, 45.9),
-    ("ramp", 8, 128): (47.7, 42.0),
-    ("mask", 8, 2): (47.7, 39.6),
-    ("mask", 16, 128): (44.2, 29.8),
-    ("mask", 64, 128): (40.0, 28.2),
-    ("residues", 8, 128): (54.4, 41.2),
-    ("noise without prediction", 8, 128): (41.3, 26.0),
-    ("noise without prediction", 16, 128): (30.9, 21.2),
+    ("detector", 8, 128): (48.9, 39.7),
+    ("detector", 16, 128): (37.8, 33.4),
+    ("detector", 64, 128): (34.5, 36.0),
+    ("detector", 8, 2): (49.3, 40.1),
+    ("detector", 8, 1): (50.2, 42.9),
+    ("zeros", 8, 128): (18.7, 7.3),
+    ("zeros", 8, 8): (19.4, 12.6),
+    ("zeros", 8, 2): (21.8, 15.3),
+    ("zeros", 8, 1): (25.2, 24.8),
+    ("patches", 8, 1): (37.4, 42.9),
+    ("walk", 16, 128): (42.4, 42.3),
+    ("ramp", 8, 128): (48.0, 39.4),
+    ("mask", 8, 2): (46.8, 38.6),
+    ("mask", 16, 128): (43.5, 29.3),
+    ("mask", 64, 128): (38.3, 29.5),
+    ("residues", 8, 128): (54.5, 38.9),
+    ("noise without prediction", 8, 128): (41.7, 25.9),
+    ("noise without prediction", 16, 128): (31.1, 21.2),
 }
 
 # The kind of samples, J and r; and the branches of a block that are mispredicted in coding.
 MISPREDICTED = {
-    ("detector", 8, 128): 0.46,
-    ("detector", 16, 128): 1.18,
-    ("detector", 64, 128): 8.71,
-    ("detector", 8, 2): 0.65,
+    ("detector", 8, 128): 0.43,
+    ("detector", 16, 128): 0.86,
+    ("detector", 64, 128): 5.76,
+    ("detector", 8, 2): 0.53,
 }
 
 
