@@ -100,8 +100,8 @@ pub(crate) fn read_highs(
     read_long_highs(reader, highs, limit)
 }
 
-/// `read_highs`, from the word `seen` if that contains all high parts. As of `read_split`, each copy
-/// has one caller.
+/// `read_highs`, from the word `seen` if that contains all high parts. Each copy has one caller, as
+/// those of `read_split` have.
 #[inline(always)]
 fn read_seen_highs<const M: usize, const COPY: usize>(
     reader: &mut BitReader,
