@@ -16,7 +16,7 @@ mod stored_lists;
 pub use edit::Edit;
 pub use fault::Fault;
 pub use judging::first_bad;
-pub use limits::Limits;
+pub use limits::{Limits, MAX_SAMPLES};
 pub use params::Params;
 pub use samples::Samples;
 pub use settings::Settings;

@@ -2,6 +2,9 @@
 
 use std::marker::Model;
 
+/// The greatest number of samples of a stream: `most_samples` of the contracts.
+pub const MAX_SAMPLES: u64 = 1 << 32;
+
 /// The greatest number of samples, and of bytes of coded data or of a script.
 #[derive(Clone, Copy, Debug, PartialEq, Eq)]
 pub struct Limits {
@@ -25,13 +28,13 @@ impl Limits {
     ghost use Rattle.std.specs.Prelude.{◌≡◌, ◌≤◌, SomeIff};
     ghost use Rattle.aec_params.specs.Limits.{Caps, AreLimits};
 
-    /// Returns limits of these samples and bytes; `None` if there are more than 2^32 samples or
-    /// 2^40 bytes.
+    /// Returns limits of these samples and bytes; `None` if there are more than `MAX_SAMPLES`
+    /// samples or 2^40 bytes.
     pub fn new(samples: u64, bytes: u64) -> Option<Limits>
         ensures { let caps : Caps = record
             { samples = samples; bytes = bytes } in SomeIff result (AreLimits caps) caps }
     {
-        if samples <= 1 << 32 && bytes <= 1 << 40 {
+        if samples <= MAX_SAMPLES && bytes <= 1 << 40 {
             Some(Limits { samples, bytes })
         } else {
             None
