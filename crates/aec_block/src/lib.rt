@@ -5,6 +5,7 @@
 mod block;
 mod cds;
 mod choice;
+pub mod copies;
 pub mod laws;
 mod mapping;
 mod reading;

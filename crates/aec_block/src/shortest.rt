@@ -7,7 +7,8 @@ ghost use Rattle.aec_block.specs.Written.{shortest_bits, Appends};
 
 use crate::block::BlockRef;
 use crate::choice::choose_among;
-use crate::writing::{WITH_REFERENCE, WITHOUT_REFERENCE, write_values};
+use crate::copies::{WRITE_WITH_REFERENCE, WRITE_WITHOUT_REFERENCE};
+use crate::writing::write_values;
 use aec_bits::BitBuf;
 use aec_params::{Fault, Params};
 
@@ -28,7 +29,7 @@ fn write_without_reference<const N: usize>(
     let values = &values[..N];
     let block = BlockRef::new(None, values);
     let choice = choose_among(params, id_len, &block, values);
-    write_values::<N, WITHOUT_REFERENCE>(params, id_len, &block, values, choice, out)
+    write_values::<N, WRITE_WITHOUT_REFERENCE>(params, id_len, &block, values, choice, out)
 }
 
 /// `write_without_reference` for a block of `N` values with a reference.
@@ -48,7 +49,7 @@ fn write_with_reference<const N: usize>(
     let after = &all[1..N];
     let block = BlockRef::new(Some(pattern), all);
     let choice = choose_among(params, id_len, &block, after);
-    write_values::<N, WITH_REFERENCE>(params, id_len, &block, after, choice, out)
+    write_values::<N, WRITE_WITH_REFERENCE>(params, id_len, &block, after, choice, out)
 }
 
 /// Appends the shortest coded data set of a block of `N` values, of which the first is 0 if there

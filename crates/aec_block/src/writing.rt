@@ -19,6 +19,7 @@ ghost use Rattle.aec_block.specs.Written.{high_parts, low_parts, split_parts, sh
 use crate::block::{Block, BlockRef};
 use crate::choice::lengths::{head_len, pair_len};
 use crate::choice::{Choice, Coding};
+use crate::copies::WRITE_BLOCK;
 use crate::writing::after_reference::put_seven;
 use crate::writing::gathered::Gathered;
 use crate::writing::high_parts::put_high_parts;
@@ -240,18 +241,9 @@ fn put_split(
     put_written(block, values, k, len, head, out).append_to(out);
 }
 
-/// The copy of `write_values` for a block of any number of values.
-const OF_ANY_BLOCK: usize = 0;
-
-/// The copy for blocks of a known number of values without a reference.
-pub(crate) const WITHOUT_REFERENCE: usize = 1;
-
-/// The copy for blocks of a known number of values with a reference.
-pub(crate) const WITH_REFERENCE: usize = 2;
-
 /// Appends the coded data set of a block by the chosen option. `values` are those that are written
-/// one by one. Fails with `Memory` if an allocation fails. `N` and `COPY` are for the compiler
-/// alone: it inlines this much code only into a single caller, so each caller has its own copy.
+/// one by one. Fails with `Memory` if an allocation fails. `N` is for the compiler alone. Each
+/// caller passes a `COPY` of its own, as `copies` says.
 #[inline(always)]
 pub(crate) fn write_values<const N: usize, const COPY: usize>(
     params: &Params,
@@ -294,7 +286,7 @@ pub fn write_block(
     ensures { Appends (shortest_bits params.now block.now) out.old result out.new }
 {
     let view = block.view();
-    write_values::<0, OF_ANY_BLOCK>(params, params.id_len(), &view, view.written(), choice, out)
+    write_values::<0, WRITE_BLOCK>(params, params.id_len(), &view, view.written(), choice, out)
 }
 
 /// Returns the number that the code of a run of `z` blocks spells: 4, the remainder code, for a run

@@ -103,7 +103,7 @@ pub(crate) fn read_block_numbers(
 }
 
 /// `read_numbers`, inlined for `N` numbers, the usual count here; else `read_block_numbers`. Each
-/// `COPY` has one caller for each `N`.
+/// caller passes a `COPY` of its own, as `copies` says.
 #[inline(always)]
 pub(crate) fn read_usual_numbers<const N: usize, const COPY: usize>(
     reader: &mut BitReader,

@@ -15,9 +15,10 @@ ghost use Rattle.aec_block.specs.ReadAt.{taken, map_taken, binary_at, cds_at};
 ghost use Rattle.aec_block.specs.Gathering.{bits_at, as_taken, kept_members, IsSeen, Takes};
 ghost use Rattle.aec_block.specs.ReadCds.{checked, is_run_body, begins_single, HasNoSingle, IsReadSingle};
 
+use crate::copies::FILL_FIRST;
 use crate::reading::codewords::{read_number_from, read_usual_numbers};
 use crate::reading::pairs::{clear_reference_place, read_usual_pairs};
-use crate::reading::values::{IN_FIRST_BLOCKS, read_usual_split};
+use crate::reading::values::read_usual_split;
 use crate::reading::{Kind, Seen, UNSEEN, read_kind, read_kind_from, read_pattern};
 use aec_bits::BitReader;
 use aec_params::{Fault, Params};
@@ -53,9 +54,8 @@ fn seen_in<const N: usize>(word: u64, gone: u32) -> Seen
 /// Reads a single coded data set without a reference sample into `values`, and moves past it.
 /// Returns false if none begins at the reader's place, or if a value of it is above the greatest
 /// that the width has; the reader then hasn't moved, and the contents of `values` are unspecified.
-/// Allocates nothing. Inlined for blocks of `N` values; other blocks are read too. `COPY` is for
-/// speed alone: with any number the result is the same. Calls with different `COPY` share no code,
-/// since the compiler inlines a large function only into its only caller. This crate uses 0 to 2.
+/// Allocates nothing. Inlined for blocks of `N` values; other blocks are read too. Each
+/// caller passes a `COPY` of its own, as `copies` says.
 #[inline(always)]
 #[tactic(auto, using(crate::proofs::NoSingleLemmas::none_stands))]
 pub fn read_single<const N: usize, const COPY: usize>(
@@ -156,12 +156,12 @@ fn fill_first<const N: usize, const M: usize>(
     let pattern = read_pattern_behind(params, reader, kind, word)?;
     match kind {
         Kind::NoCompression => {
-            read_usual_numbers::<M, IN_FIRST_BLOCKS>(reader, params.bits(), &mut values[1..])?;
+            read_usual_numbers::<M, FILL_FIRST>(reader, params.bits(), &mut values[1..])?;
             Ok(Some(pattern))
         }
         Kind::Split(k) => {
             let seen = seen_in::<N>(word, params.id_len() + params.bits());
-            if !read_usual_split::<M, IN_FIRST_BLOCKS>(params, reader, seen, k, &mut values[1..])? {
+            if !read_usual_split::<M, FILL_FIRST>(params, reader, seen, k, &mut values[1..])? {
                 return Ok(None);
             }
             Ok(Some(pattern))

@@ -10,6 +10,7 @@ ghost use Rattle.aec_block.specs.ReadAt.{joined_values};
 ghost use Rattle.aec_block.specs.Gathering.{all_below, IsSeen, PutsHighs, PutsSplit};
 
 use crate::block::MOST_VALUES;
+use crate::copies::{READ_BLOCK_SPLIT, READ_SPLIT_APART};
 use crate::reading::codewords::{read_numbers, read_sequence};
 use crate::reading::{Seen, UNSEEN};
 use aec_bits::BitReader;
@@ -148,19 +149,9 @@ fn join(values: &mut [u32], lows: &[u32], k: u32)
     }
 }
 
-/// The copy of `read_split` for any number of values, out of line.
-const OF_ANY_COUNT: usize = 0;
-
-/// The copy for each usual number of values, out of line.
-const OF_USUAL_COUNT: usize = 1;
-
-/// The copy in `read_single_first`. The callers of `read_single` choose other numbers than these.
-pub(crate) const IN_FIRST_BLOCKS: usize = 2;
-
 /// Fills `values`, `M` at most, with the next values, split at bit `k`. Returns whether all are at
 /// most the greatest that the width has. If `k` is at most the width, values with small high parts
-/// are small. Each `COPY` has one caller: the compiler inlines a large function only if it has one
-/// caller.
+/// are small. Each caller passes a `COPY` of its own, as `copies` says.
 #[inline(always)]
 fn read_split<const M: usize, const COPY: usize>(
     params: &Params,
@@ -201,7 +192,7 @@ fn read_split_apart(
     requires most { length values.old ≤ most_values }
     ensures { PutsSplit params.now k reader.old values.old result reader.new values.new }
 {
-    read_split::<MOST_VALUES, OF_ANY_COUNT>(params, reader, UNSEEN, k, values)
+    read_split::<MOST_VALUES, READ_SPLIT_APART>(params, reader, UNSEEN, k, values)
 }
 
 /// `read_split`, inlined for `N` values, the usual number; out of line for any other number.
@@ -239,14 +230,14 @@ pub(crate) fn read_block_split(
     ensures { PutsSplit params.now k reader.old values.old result reader.new values.new }
 {
     match values.len() {
-        7 => read_usual_split::<7, OF_USUAL_COUNT>(params, reader, UNSEEN, k, values),
-        8 => read_usual_split::<8, OF_USUAL_COUNT>(params, reader, UNSEEN, k, values),
-        15 => read_usual_split::<15, OF_USUAL_COUNT>(params, reader, UNSEEN, k, values),
-        16 => read_usual_split::<16, OF_USUAL_COUNT>(params, reader, UNSEEN, k, values),
-        31 => read_usual_split::<31, OF_USUAL_COUNT>(params, reader, UNSEEN, k, values),
-        32 => read_usual_split::<32, OF_USUAL_COUNT>(params, reader, UNSEEN, k, values),
-        63 => read_usual_split::<63, OF_USUAL_COUNT>(params, reader, UNSEEN, k, values),
-        64 => read_usual_split::<64, OF_USUAL_COUNT>(params, reader, UNSEEN, k, values),
+        7 => read_usual_split::<7, READ_BLOCK_SPLIT>(params, reader, UNSEEN, k, values),
+        8 => read_usual_split::<8, READ_BLOCK_SPLIT>(params, reader, UNSEEN, k, values),
+        15 => read_usual_split::<15, READ_BLOCK_SPLIT>(params, reader, UNSEEN, k, values),
+        16 => read_usual_split::<16, READ_BLOCK_SPLIT>(params, reader, UNSEEN, k, values),
+        31 => read_usual_split::<31, READ_BLOCK_SPLIT>(params, reader, UNSEEN, k, values),
+        32 => read_usual_split::<32, READ_BLOCK_SPLIT>(params, reader, UNSEEN, k, values),
+        63 => read_usual_split::<63, READ_BLOCK_SPLIT>(params, reader, UNSEEN, k, values),
+        64 => read_usual_split::<64, READ_BLOCK_SPLIT>(params, reader, UNSEEN, k, values),
         _ => read_split_apart(params, reader, k, values),
     }
 }
