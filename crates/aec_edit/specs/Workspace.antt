@@ -1,7 +1,8 @@
 -- A workspace as its callers see it.
-use Rattle.std.specs.Prelude.{◌≡◌, ℕ, ◌*◌, ◌^◌, ◌≤◌, Bool, ℤ, List, ◌++◌, length, take}
+use Rattle.std.specs.Prelude.{◌≡◌, ℕ, ◌*◌, ◌≤◌, Bool, ℤ, List, ◌++◌, length, take}
 use Rattle.std.specs.Int.{div_ceil}
 use Rattle.aec_params.specs.Codewords.{bits_of_bytes}
+use Rattle.aec_params.specs.Limits.{most_samples}
 use Rattle.aec_bits.specs.Codec.{Format, AreHeld, code_of}
 
 -- how much code can grow without an allocation: by this many bits, and by the starts of this many
@@ -19,13 +20,13 @@ pub record Contents (C : Type 0) : Type 0 where
   pub room : Room
 
 -- what always holds for a workspace: an interval has 1 to 262,144 samples, the format holds the
--- samples, and there are no more than the limit, itself at most 2^32
+-- samples, and there are no more than the limit, itself at most `most_samples`
 pub record IsSound (f : Format) (limit : ℕ) (samples : List ℤ) : Type 0 where
   pub some : 1 ≤ f.most
   pub few : f.most ≤ 262144
   pub held : AreHeld f samples
   pub count : length samples ≤ limit
-  pub bound : limit ≤ 2 ^ 32
+  pub bound : limit ≤ most_samples
 
 -- The most room that the lists of an edit keep for the next one, where an interval has n samples:
 -- for 2n samples before the change and n after it, for 256n bits of code (128 for each of 2n

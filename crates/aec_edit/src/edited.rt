@@ -1,7 +1,7 @@
 //! Applies edits, beginning with no samples, writes the resulting stream, and reads its samples
 //! back.
 
-ghost use Rattle.std.specs.Prelude.{◌≡◌, ◌≢◌, ◌<◌, ◌≤◌, ◌^◌, ◌⊎◌, ℕ, List, [], length, vec_capacity, Err, IfOk, OnOk, IfErr, OnErr};
+ghost use Rattle.std.specs.Prelude.{◌≡◌, ◌≢◌, ◌<◌, ◌≤◌, ◌⊎◌, ℕ, List, [], length, vec_capacity, Err, IfOk, OnOk, IfErr, OnErr};
 ghost use Rattle.std.specs.Io.KnownBytes.{Appends, Keeps};
 ghost use Rattle.aec_params.specs.declared.fault.Fault.TheVariants.{Memory, Write as WriteFault};
 ghost use Rattle.aec_params.specs.Codewords.{bytes_of};
@@ -12,6 +12,7 @@ ghost use Rattle.aec_edit.specs.Workspace.{HasOneReading};
 ghost use Rattle.aec_edit.specs.Left.{IsLeftBy};
 ghost use Rattle.aec_edit.specs.Unchanged.{IsOnlyRead};
 ghost use Rattle.aec_params.specs.Edits.{touched_intervals};
+ghost use Rattle.aec_params.specs.Limits.{most_samples};
 ghost use Rattle.aec_edit.specs.declared.outcome.Outcome.{Outcome as OutcomeOf};
 
 use crate::outcome::Outcome;
@@ -48,7 +49,7 @@ pub fn write_edited<C: Codec + Drop, W: Sink>(
     edits: &[Edit],
     sink: &mut W,
 ) -> Result<Edited<C>, Fault>
-    requires { limit ≤ 2 ^ 32 }
+    requires { limit ≤ most_samples }
     ensures answers { IfOk result (λ edited. AnswersAll (C.format codec) limit [] (C.called codec)
         edits.now edited.outcomes.items (C.called edited.codec)) }
     ensures format { IfOk result (λ edited. C.format edited.codec ≡ C.format codec) }
@@ -96,7 +97,7 @@ fn edit_from_nothing<C: Codec + Drop>(
     edits: &[Edit],
     outcomes: &mut Vec<Outcome>,
 ) -> Result<Workspace<C>, Fault>
-    requires limit { limit ≤ 2 ^ 32 }
+    requires limit { limit ≤ most_samples }
     requires none { outcomes.old.items ≡ [] }
     ensures ok { IfOk result
         (IsLeftBy C.format C.called codec limit edits.now outcomes.new.items) }

@@ -27,6 +27,7 @@ pub struct Workspace<C: Codec> {
 
 impl<C: Codec> Model for Workspace<C> {
     ghost use Rattle.std.specs.Prelude.{◌^◌, ◌-◌, ◌≤◌, vec_len, vec_capacity};
+    ghost use Rattle.aec_params.specs.Limits.{most_samples};
     ghost use Rattle.aec_edit.specs.Workspace.{Contents, IsScratchRoom};
     ghost use Rattle.aec_edit.specs.Index.{kept_samples};
 
@@ -43,17 +44,18 @@ impl<C: Codec> Model for Workspace<C> {
     } };
 
     ghost invariant = { λ w.
-        (w.coded.count ≤ w.limit) × (w.limit ≤ 2 ^ 32) × (C.read w.codec ≤ 2 ^ 64 - 1)
+        (w.coded.count ≤ w.limit) × (w.limit ≤ most_samples) × (C.read w.codec ≤ 2 ^ 64 - 1)
         × IsScratchRoom (C.format w.codec).most (vec_capacity w.scratch.front)
         (vec_capacity w.scratch.back) w.scratch.coded.bits.room
         (vec_capacity w.scratch.coded.starts) };
 }
 
 impl<C: Codec> Workspace<C> {
-    ghost use Rattle.std.specs.Prelude.{◌≡◌, ◌+◌, ◌<◌, ◌≤◌, ◌^◌, ◌⊎◌, [], length, MatchOption, OnOk, OnErr, IfErr, ◌*◌, ◌++◌, take, drop, ℤ, List};
+    ghost use Rattle.std.specs.Prelude.{◌≡◌, ◌+◌, ◌<◌, ◌≤◌, ◌⊎◌, [], length, MatchOption, OnOk, OnErr, IfErr, ◌*◌, ◌++◌, take, drop, ℤ, List};
     ghost use Rattle.std.specs.Io.KnownBytes.{Appends};
     ghost use Rattle.aec_params.specs.declared.fault.Fault.TheVariants.{Memory, Write as WriteFault};
     ghost use Rattle.aec_params.specs.Codewords.{bytes_of};
+    ghost use Rattle.aec_params.specs.Limits.{most_samples};
     ghost use Rattle.aec_bits.specs.Codec.{AreHeld, code_of};
     ghost use Rattle.aec_bits.specs.Devices.{AppendsFront};
     ghost use Rattle.aec_edit.specs.Workspace.{interval_count, start_of, IsSound};
@@ -65,7 +67,7 @@ impl<C: Codec> Workspace<C> {
     // bare: a new workspace that is not empty would break clauses of each later append
     /// Returns an empty workspace for at most `limit` samples. Allocates nothing.
     pub fn new(alloc: Global, codec: C, limit: u64) -> Workspace<C>
-        requires { limit ≤ 2 ^ 32 }
+        requires { limit ≤ most_samples }
         ensures samples { result.samples ≡ [] }
         ensures limit { result.limit ≡ limit }
         ensures codec { result.codec ≡ codec }
@@ -105,7 +107,7 @@ impl<C: Codec> Workspace<C> {
     pub fn count(&self) -> u64
         ensures value { result ≡ length self.now.samples }
         ensures few { length self.now.samples ≤ self.now.limit }
-        ensures bound { self.now.limit ≤ 2 ^ 32 }
+        ensures bound { self.now.limit ≤ most_samples }
         ensures held { AreHeld (C.format self.now.codec) self.now.samples }
     {
         self.coded.count
