@@ -15,8 +15,9 @@ number=0
 # A line for each part: its name, and its command. Before the gate: that each public function has a
 # contract, a doc comment and a must-fail edit; that each definition in a public contract has a
 # sentence; that generated pages are current; that files keep the limits of the house; that each
-# must-fail edit can be applied; that each lemma is cited; that the crates export what docs/SURFACE.md
-# lists. After it: scripts that run the programs which the gate has built, but for `pictures`.
+# must-fail edit can be applied; that each lemma is cited; that each copy of a large function has a
+# number of its own; that the crates export what docs/SURFACE.md lists. After it: scripts that run
+# the programs which the gate has built, but for `pictures`.
 parts='contracts python3 checks/contracts.py --check
 definitions python3 checks/definitions.py
 modules python3 tools/modules.py --check
@@ -26,6 +27,7 @@ completions python3 tools/completions.py --check
 limits python3 checks/limits.py
 edits python3 checks/edits_apply.py
 cited python3 checks/cited.py
+copies python3 checks/copies.py
 surface python3 checks/surface.py
 gate gate
 kept-program keep_gate

@@ -1,10 +1,11 @@
 -- Places that a reader reaches: coded data sets lead there from the first bit on.
-use Rattle.std.proofs.Common.{◌≡◌, ℕ, ◌+◌, ◌%◌, ◌<◌, ◌≤◌, ◌^◌, min, Bool, true, false, ◌&&◌, ◌==◌, if◌then◌else◌, Option, List, [], ◌∷◌, ◌++◌, length, drop, sym, ap, subst, arith}
+use Rattle.std.proofs.Common.{◌≡◌, ℕ, ◌+◌, ◌%◌, ◌<◌, ◌≤◌, min, Bool, true, false, ◌&&◌, ◌==◌, if◌then◌else◌, Option, List, [], ◌∷◌, ◌++◌, length, drop, sym, ap, subst, arith}
 use Rattle.std.proofs.lemmas.List.{length-append, length-drop}
 use Rattle.std.specs.Int.{next_multiple_of}
 use Rattle.aec_params.specs.declared.settings.Settings.{Settings}
 use Rattle.aec_params.specs.CodedDataSets.{CodedDataSet, cds_bits}
 use Rattle.aec_params.specs.Reading.{is_wanted, StandsAt, LeadsTo, begin_of, next_block, next_begin}
+use Rattle.aec_params.specs.Limits.{most_blocks}
 use Rattle.aec_interval.specs.Pieces.{place_at, IsPlace}
 use Rattle.aec_interval.proofs.PlaceLemmas.{LeadsTo-append}
 
@@ -41,7 +42,7 @@ place-within s count limit bits i b is = LeadsTo-within s count limit bits 0 0 i
 
 pub place-further : (s : Settings) (count : Option ℕ) (limit : ℕ) (list bits : List Bool) (first bit start i b : ℕ) (sets : List CodedDataSet)
     → IsPlace (place_at s count limit list first bit) → start ≡ bit → bits ≡ list → LeadsTo s count limit bits first start sets i b
-    → i < 2 ^ 34 → (is_wanted s count bits i b ≡ true → i % s.interval ≡ 0) → IsPlace (place_at s count limit bits i b)
+    → i < most_blocks → (is_wanted s count bits i b ≡ true → i % s.interval ≡ 0) → IsPlace (place_at s count limit bits i b)
 place-further s count limit list bits first bit start i b sets is begins same leads few ends = record {
   few = few;
   limit = is.limit;

@@ -1,5 +1,5 @@
 -- One interval read from its start: how far the reading comes, and how much room its samples take.
-use Rattle.std.proofs.Common.{max, ◌≡◌, ℕ, Bool, true, false, Option, ◌&&◌, nat_lt, List, refl, ◌+◌, ◌-◌, ◌*◌, ◌/◌, ◌%◌, ◌<◌, ◌≤◌, ◌^◌, sym, ap, ◌∙◌, subst, arith, Result, IfErr}
+use Rattle.std.proofs.Common.{max, ◌≡◌, ℕ, Bool, true, false, Option, ◌&&◌, nat_lt, List, refl, ◌+◌, ◌-◌, ◌*◌, ◌/◌, ◌%◌, ◌<◌, ◌≤◌, sym, ap, ◌∙◌, subst, arith, Result, IfErr}
 use Rattle.std.proofs.Math.Nat.{mul-le-mul_right, add-mul-mod_self_right}
 use Rattle.std.proofs.lemmas.Nat.{div-add-mod', mod-mul-add}
 use Rattle.std.proofs.lemmas.Bool.{ltb-false}
@@ -10,6 +10,7 @@ use Rattle.aec_params.specs.declared.fault.Fault.TheVariants.{Memory}
 use Rattle.aec_params.specs.Params.{IsAllowed, interval_len}
 use Rattle.aec_params.specs.Reading.{is_wanted}
 use Rattle.aec_params.proofs.SettingLaws.{interval-positive}
+use Rattle.aec_params.specs.Limits.{most_blocks}
 use Rattle.aec_interval.specs.NextSet.{blocks_before_end}
 use Rattle.aec_interval.specs.Steps.{IsWantedNext, ComesNext, IsGoneOver}
 use Rattle.aec_interval.proofs.RefusalLemmas.{of_refusal}
@@ -77,7 +78,7 @@ module _ (s : Settings) (count : Option ℕ) (limit : ℕ) (bits : List Bool) (f
 
   -- blocks that are read after a coded data set don't go past the end of the interval
   module _ (behind next : ℕ) (to : ComesNext s i behind) (after : behind ≤ next) (most : next ≤ max behind end) where
-    pub comes-further : next < 2 ^ 34 → ComesNext s i next
+    pub comes-further : next < most_blocks → ComesNext s i next
     comes-further few = record {
       forward = omega (arith, to.forward, after);
       within = omega (arith, place, inside.after, before_end, inside.end_is, to.within, most);

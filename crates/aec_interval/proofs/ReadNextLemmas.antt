@@ -23,7 +23,8 @@ use Rattle.aec_interval.specs.NextBlock.{FillsNext}
 use Rattle.aec_interval.specs.NextSet.{run_count, block_behind, kept_count, blocks_before_end, IsNextCds, cds_front}
 use Rattle.aec_interval.specs.Reached.{AreFilled, IsReached, IsReadFrom, LeadsBehindOne, RefusesReading, RefusesUpTo, no_room, wrong_before, count_refusal, RefusesDecoding, above_limit, unread}
 use Rattle.aec_params.proofs.SettingLaws.{interval-positive}
-use Rattle.std.proofs.Common.{◌*◌, ◌/◌, ◌^◌}
+use Rattle.std.proofs.Common.{◌*◌, ◌/◌}
+use Rattle.aec_params.specs.Limits.{most_samples}
 use Rattle.aec_interval.proofs.ReachedLemmas.{length-stream_blocks, AreFilled-reached, IsReached-more}
 use Rattle.aec_block.specs.declared.cds.RunLen.{RunLen}
 use Rattle.aec_block.specs.SkipCds.{body_len, read_len, IsSkippedAs}
@@ -108,7 +109,7 @@ module _ (s : Settings) (count : Option ℕ) (limit : ℕ) (first start : ℕ) (
     forward-next : i < next
     forward-next = forward s count limit first start old new i allowed led wanted due len due_is found_there bit next placed
 
-    pub comes-next : next ≤ i + blocks_before_end s i → limit ≤ 2 ^ 32 → IfSome count (λ n. n ≤ 2 ^ 32) → ComesNext s i next
+    pub comes-next : next ≤ i + blocks_before_end s i → limit ≤ most_samples → IfSome count (λ n. n ≤ most_samples) → ComesNext s i next
     comes-next = behind s count limit first start old new i allowed led wanted due len due_is found_there bit next placed
 
     pub memory-refuses : (fault : Fault) → next ≤ i + blocks_before_end s i → fault ≡ Memory

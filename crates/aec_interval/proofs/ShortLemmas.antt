@@ -1,5 +1,5 @@
 -- Whole intervals of blocks, of which none needs a test of its place.
-use Rattle.std.proofs.Common.{◌≡◌, ℕ, ◌+◌, ◌-◌, ◌*◌, ◌/◌, ◌%◌, ◌<◌, ◌≤◌, ◌^◌, ◌==◌, ◌&&◌, Bool, true, false, if◌then◌else◌, Option, Some, None, Ok, ℤ, pos, List, [], ◌∷◌, ◌++◌, length, take, drop, ⊎_elim, refl, sym, ap, ◌∙◌, subst, arith}
+use Rattle.std.proofs.Common.{◌≡◌, ℕ, ◌+◌, ◌-◌, ◌*◌, ◌/◌, ◌%◌, ◌<◌, ◌≤◌, ◌==◌, ◌&&◌, Bool, true, false, if◌then◌else◌, Option, Some, None, Ok, ℤ, pos, List, [], ◌∷◌, ◌++◌, length, take, drop, ⊎_elim, refl, sym, ap, ◌∙◌, subst, arith}
 use Rattle.std.proofs.Math.Nat.{one-mul, mul_comm, mul-le-mul_right, add-mul-mod_self_right, add-mul, div-mul-le_self, le-mul_of_pos_right}
 use Rattle.std.proofs.lemmas.Bool.{cases_lt}
 use Rattle.std.proofs.Math.Seq.{take-append-add}
@@ -13,6 +13,7 @@ use Rattle.aec_params.specs.Places.{segment_left, is_reference_block, block_of_v
 use Rattle.aec_params.specs.CodedDataSets.{CodedDataSet}
 use Rattle.aec_params.specs.Reading.{is_wanted, LeadsTo, stream_blocks, kept_blocks, FillBlocks}
 use Rattle.aec_params.proofs.SettingLaws.{block_size-positive, interval-positive}
+use Rattle.aec_params.specs.Limits.{most_blocks}
 use Rattle.aec_bits.specs.BitReader.{Cursor, has_one}
 use Rattle.aec_block.specs.declared.cds.RunLen.{RunLen}
 use Rattle.aec_block.specs.declared.cds.RunLen.TheVariants.{Blocks}
@@ -321,17 +322,17 @@ parts_within k q total len interval most fewer is same within =
     let all : k * len ≤ q * len = mul-le-mul_right len fewer in
     omega (arith, all, ap (λ q. q * len) is, div-mul-le_self total len, ap (λ n. k * n) same, within)
 
-pub within_few : (s : Settings) (count : Option ℕ) (limit first n : ℕ) → IsAllowed s → first < 2 ^ 34
-    → (0 < n → AreWithin s count limit (first + n * s.interval)) → first + n * s.interval < 2 ^ 34
+pub within_few : (s : Settings) (count : Option ℕ) (limit first n : ℕ) → IsAllowed s → first < most_blocks
+    → (0 < n → AreWithin s count limit (first + n * s.interval)) → first + n * s.interval < most_blocks
 within_few s count limit first n allowed few within = ⊎_elim some none (cases_lt 0 n)
   where
-    some : 0 < n → first + n * s.interval < 2 ^ 34
+    some : 0 < n → first + n * s.interval < most_blocks
     some there =
         let last : ℕ = first + n * s.interval in
         let is = within there in
         omega (arith, is.samples, few_samples count limit is.low is.counted, le-mul_of_pos_right last (block_size-positive s allowed))
 
-    none : n ≤ 0 → first + n * s.interval < 2 ^ 34
+    none : n ≤ 0 → first + n * s.interval < most_blocks
     none least = let nothing : n ≡ 0 = omega (arith, least) in omega (arith, ap (λ n. n * s.interval) nothing, few)
 
 -- ---- by places

@@ -1,6 +1,6 @@
 -- Blocks that are skipped one after the other, of which none needs a test of its place, in one
 -- interval or in several.
-use Rattle.std.proofs.Common.{◌≡◌, ℕ, ◌+◌, ◌-◌, ◌*◌, ◌/◌, ◌%◌, ◌<◌, ◌≤◌, ◌^◌, Bool, true, false, if◌then◌else◌, Option, IfSome, unwrap_or, refl, sym, ap, ◌∙◌, subst, arith, ⊎_elim}
+use Rattle.std.proofs.Common.{◌≡◌, ℕ, ◌+◌, ◌-◌, ◌*◌, ◌/◌, ◌%◌, ◌<◌, ◌≤◌, Bool, true, false, if◌then◌else◌, Option, IfSome, unwrap_or, refl, sym, ap, ◌∙◌, subst, arith, ⊎_elim}
 use Rattle.std.proofs.Math.Nat.{mod-lt, mod-eq_of_lt, mul-mod_left, mod-add-mod, mul-le-mul_right, le-mul_of_pos_right}
 use Rattle.std.proofs.lemmas.Nat.{div-add-mod'}
 use Rattle.std.proofs.lemmas.Bool.{cases_lt}
@@ -9,6 +9,7 @@ use Rattle.aec_params.specs.Params.{IsAllowed}
 use Rattle.aec_params.specs.CodedDataSets.{CodedDataSet}
 use Rattle.aec_params.specs.Places.{is_reference_block}
 use Rattle.aec_params.proofs.SettingLaws.{block_size-positive, interval-positive}
+use Rattle.aec_params.specs.Limits.{most_blocks, most_samples}
 use Rattle.aec_bits.specs.BitReader.{Cursor, has_one}
 use Rattle.aec_block.specs.declared.cds.RunLen.TheVariants.{Blocks}
 use Rattle.aec_block.specs.Gathering.{bits_at}
@@ -48,8 +49,9 @@ module _ (s : Settings) (place most n at : ℕ) (old mid new : Cursor) (allowed 
     (before : SkipsBlocks s place most old n mid) (at_is : at ≡ (place + n) % s.interval) (one : has_one (bits_at mid) ≡ true)
     (due : Bool) (due_is : due ≡ is_reference_block s at) (found : (c : CodedDataSet) × IsSkippedAs s due mid new c (Blocks 1))
     (same : new.list ≡ mid.list) where
-  module _ (count : Option ℕ) (limit first start i : ℕ) (there : i % s.interval ≡ place) (low : limit ≤ 2 ^ 32) (counted : IfSome count (λ m. m ≤ 2 ^ 32))
-      (within : (i + (n + 1)) * s.block_size ≤ unwrap_or count limit) (led : IsLedTo s count limit old.list first start i old.pos) where
+  module _ (count : Option ℕ) (limit first start i : ℕ) (there : i % s.interval ≡ place) (low : limit ≤ most_samples)
+      (counted : IfSome count (λ m. m ≤ most_samples)) (within : (i + (n + 1)) * s.block_size ≤ unwrap_or count limit)
+      (led : IsLedTo s count limit old.list first start i old.pos) where
     abbrev pub j : ℕ
     j = i + n
 
@@ -113,11 +115,11 @@ fewer_samples s count limit i n u few within some =
     let less : (i + n) * s.block_size ≤ (i + u) * s.block_size = mul-le-mul_right s.block_size (omega (arith, few)) in
     omega (arith, less, within (omega (arith, some, few)))
 
-pub fewer_blocks : (s : Settings) (count : Option ℕ) (limit i n u : ℕ) → IsAllowed s → i < 2 ^ 34 → limit ≤ 2 ^ 32 → IfSome count (λ m. m ≤ 2 ^ 32)
-    → n ≤ u → (0 < u → (i + u) * s.block_size ≤ unwrap_or count limit) → i + n < 2 ^ 34
+pub fewer_blocks : (s : Settings) (count : Option ℕ) (limit i n u : ℕ) → IsAllowed s → i < most_blocks → limit ≤ most_samples
+    → IfSome count (λ m. m ≤ most_samples) → n ≤ u → (0 < u → (i + u) * s.block_size ≤ unwrap_or count limit) → i + n < most_blocks
 fewer_blocks s count limit i n u allowed low_block low counted few within = ⊎_elim more none (cases_lt 0 n)
   where
-    more : 0 < n → i + n < 2 ^ 34
+    more : 0 < n → i + n < most_blocks
     more some = omega (
       arith,
       fewer_samples s count limit i n u few within some,
@@ -125,5 +127,5 @@ fewer_blocks s count limit i n u allowed low_block low counted few within = ⊎_
       le-mul_of_pos_right (i + n) (block_size-positive s allowed),
     )
 
-    none : n ≤ 0 → i + n < 2 ^ 34
+    none : n ≤ 0 → i + n < most_blocks
     none zero = omega (arith, zero, low_block)

@@ -1,5 +1,5 @@
 -- Blocks of coded data sets without a reference sample, of which none needs a test of its place.
-use Rattle.std.proofs.Common.{length, take, ◌≡◌, ℕ, ◌+◌, ◌-◌, ◌*◌, ◌/◌, ◌%◌, ◌<◌, ◌≤◌, ◌==◌, ◌&&◌, Bool, true, false, if◌then◌else◌, min, Option, Some, None, IfSome, unwrap_or, ⊎_elim, ◌^◌, Ok, Err, ℤ, List, [], ◌∷◌, ◌++◌, refl, sym, ap, ◌∙◌, subst, arith}
+use Rattle.std.proofs.Common.{length, take, ◌≡◌, ℕ, ◌+◌, ◌-◌, ◌*◌, ◌/◌, ◌%◌, ◌<◌, ◌≤◌, ◌==◌, ◌&&◌, Bool, true, false, if◌then◌else◌, min, Option, Some, None, IfSome, unwrap_or, ⊎_elim, Ok, Err, ℤ, List, [], ◌∷◌, ◌++◌, refl, sym, ap, ◌∙◌, subst, arith}
 use Rattle.std.proofs.Math.Nat.{mod-lt, mul-le-mul_right, le-mul_of_pos_right, div-mul-le_self, add-mul}
 use Rattle.std.proofs.lemmas.Grind.{div_ceil_times}
 use Rattle.std.proofs.lemmas.Bool.{cases_lt, and_right, ne_eqb, lt-ltb, le-ltb, le-leb, leb-true}
@@ -17,6 +17,7 @@ use Rattle.aec_params.specs.Params.{IsAllowed, IsHeld}
 use Rattle.aec_params.specs.Places.{segment_left, is_reference_block, block_of_values}
 use Rattle.aec_params.specs.Reading.{is_wanted, keeps_limit, begin_of, LeadsTo}
 use Rattle.aec_params.proofs.SettingLaws.{block_size-positive, interval-positive}
+use Rattle.aec_params.specs.Limits.{most_blocks, most_samples}
 use Rattle.aec_bits.specs.BitReader.{Cursor, has_one}
 use Rattle.aec_block.specs.declared.cds.RunLen.TheVariants.{Blocks}
 use Rattle.aec_block.specs.declared.cds.RunLen.{RunLen}
@@ -42,8 +43,9 @@ use Rattle.aec_interval.proofs.ReadNextLemmas.{next-cds, reached-next}
 
 -- no block before `last` needs a test: `last` is within the interval, and before its end if padding
 -- follows; the count, or else the limit, allows the samples up to it
-pub untested-within : (s : Settings) (count : Option ℕ) (limit first end pad last : ℕ) → IsAllowed s → limit ≤ 2 ^ 32 → IfSome count (λ n. n ≤ 2 ^ 32)
-    → end ≡ first + s.interval → pad ≡ (if s.pad then 1 else 0) → last ≤ end - pad → last * s.block_size ≤ unwrap_or count limit
+pub untested-within : (s : Settings) (count : Option ℕ) (limit first end pad last : ℕ) → IsAllowed s → limit ≤ most_samples
+    → IfSome count (λ n. n ≤ most_samples) → end ≡ first + s.interval → pad ≡ (if s.pad then 1 else 0) → last ≤ end - pad
+    → last * s.block_size ≤ unwrap_or count limit
     → IsUntestedEnd s count limit first last
 untested-within s count limit first end pad last allowed low counted end_is pad_is within samples = record {
   within = omega (arith, within, end_is);
@@ -69,11 +71,11 @@ untested-within s count limit first end pad last allowed low counted end_is pad_
     keeps_by None few = le-leb (last * s.block_size) limit few
     keeps_by (Some n) few = refl
 
-    few_by : (count : Option ℕ) → IfSome count (λ n. n ≤ 2 ^ 32) → last * s.block_size ≤ unwrap_or count limit → last < 2 ^ 34
+    few_by : (count : Option ℕ) → IfSome count (λ n. n ≤ most_samples) → last * s.block_size ≤ unwrap_or count limit → last < most_blocks
     few_by None counted few = omega (arith, low, few, le-mul_of_pos_right last positive)
     few_by (Some n) counted few = omega (arith, counted, few, le-mul_of_pos_right last positive)
 
-pub few_samples : (count : Option ℕ) (limit : ℕ) → limit ≤ 2 ^ 32 → IfSome count (λ n. n ≤ 2 ^ 32) → unwrap_or count limit ≤ 2 ^ 32
+pub few_samples : (count : Option ℕ) (limit : ℕ) → limit ≤ most_samples → IfSome count (λ n. n ≤ most_samples) → unwrap_or count limit ≤ most_samples
 few_samples None limit low counted = low
 few_samples (Some n) limit low counted = counted
 

@@ -1,5 +1,5 @@
 -- A coded data set that is wanted and was found: the block after it, or its fault.
-use Rattle.std.proofs.Common.{◌≡◌, ◌+◌, ◌*◌, ◌%◌, ◌^◌, ◌<◌, ◌≤◌, ◌∷◌, ◌++◌, ◌∙◌, if◌then◌else◌}
+use Rattle.std.proofs.Common.{◌≡◌, ◌+◌, ◌*◌, ◌%◌, ◌<◌, ◌≤◌, ◌∷◌, ◌++◌, ◌∙◌, if◌then◌else◌}
 use Rattle.std.proofs.Common.{ℕ, lit≤, Bool, true, false, Option, Some, None, List, [], refl, sym, ap, subst, arith, Ok, Err, IfSome, nat_lt}
 use Rattle.std.proofs.Math.Nat.{mod-lt, le-mul_of_pos_right}
 use Rattle.std.proofs.lemmas.Grind.{div_ceil_times}
@@ -15,6 +15,7 @@ use Rattle.aec_params.specs.Reading.{next_block, next_begin, begin_of, is_wanted
 use Rattle.aec_params.specs.Faults.{IsNotRead, IsWrongAt, not_read, too_long, too_many}
 use Rattle.aec_params.proofs.SettingLaws.{block_size-positive, block_size-most, interval-positive}
 use Rattle.aec_params.proofs.StreamLaws.{run_len-some}
+use Rattle.aec_params.specs.Limits.{most_blocks, most_samples}
 use Rattle.aec_bits.specs.BitReader.{Cursor}
 use Rattle.aec_block.specs.declared.cds.RunLen.{RunLen}
 use Rattle.aec_block.specs.SkipCds.{body_len, IsSkippedAs}
@@ -175,14 +176,14 @@ module _ (s : Settings) (count : Option ℕ) (limit : ℕ) (first start : ℕ) (
           (subst (λ e. IsLedTo s count limit old.list first start (next_block s i c) e) (sym (begin-is e begins))
           (record { sets = led.sets ++ c ∷ []; leads = leads-next })))
 
-      few : limit ≤ 2 ^ 32 → IfSome count (λ n. n ≤ 2 ^ 32) → next < 2 ^ 34
+      few : limit ≤ most_samples → IfSome count (λ n. n ≤ most_samples) → next < most_blocks
       few low counted = by_count count wanted stand.keeps counted
         where
           positive : 0 < s.block_size
           positive = block_size-positive s allowed
 
           by_count : (count : Option ℕ) → is_wanted s count old.list i old.pos ≡ true → keeps_limit s count limit (i + blocks) ≡ true
-              → IfSome count (λ n. n ≤ 2 ^ 32) → next < 2 ^ 34
+              → IfSome count (λ n. n ≤ most_samples) → next < most_blocks
           by_count None wanted keeps counted =
               let kept = leb-true ((i + blocks) * s.block_size) limit keeps in
               omega (arith, kept, low, stand.next_is, le-mul_of_pos_right (i + blocks) positive)
@@ -199,5 +200,5 @@ module _ (s : Settings) (count : Option ℕ) (limit : ℕ) (first start : ℕ) (
                 block_size-most s allowed,
               )
 
-      pub comes-next : next ≤ i + blocks_before_end s i → limit ≤ 2 ^ 32 → IfSome count (λ n. n ≤ 2 ^ 32) → ComesNext s i next
+      pub comes-next : next ≤ i + blocks_before_end s i → limit ≤ most_samples → IfSome count (λ n. n ≤ most_samples) → ComesNext s i next
       comes-next within low counted = record { forward = forward; within = within; few = few low counted }

@@ -1,11 +1,12 @@
 -- A reading that goes interval by interval: where it is, what one step reads, and what the steps
 -- were so far.
-use Rattle.std.specs.Prelude.{◌≡◌, ℕ, ◌+◌, ◌-◌, ◌*◌, ◌%◌, ◌<◌, ◌≤◌, ◌^◌, Bool, true, Option, Some, None, IfSome, ℤ, List, length, take}
+use Rattle.std.specs.Prelude.{◌≡◌, ℕ, ◌+◌, ◌-◌, ◌*◌, ◌%◌, ◌<◌, ◌≤◌, Bool, true, Option, Some, None, IfSome, ℤ, List, length, take}
 use Rattle.aec_params.specs.declared.settings.Settings.{Settings}
 use Rattle.aec_params.specs.declared.fault.Fault.{Fault}
 use Rattle.aec_params.specs.Params.{interval_len}
 use Rattle.aec_params.specs.CodedDataSets.{CodedDataSet}
 use Rattle.aec_params.specs.Reading.{is_wanted, LeadsTo, stream_blocks, kept_blocks, FillBlocks}
+use Rattle.aec_params.specs.Limits.{most_blocks, most_samples}
 use Rattle.aec_interval.specs.Reached.{RefusesUpTo}
 
 -- what is read and under which terms, the block that comes next, and the bit where its coded data
@@ -71,12 +72,12 @@ abbrev pub RefusesAt : Place → Fault → Type 0
 RefusesAt p fault = RefusesUpTo p.settings p.count p.limit p.bits p.block p.bit (p.block + p.settings.interval) fault
 
 -- a place between two steps, or where all is read: coded data sets lead there from the first bit
--- on, and where more is wanted an interval begins. Fewer than `2^34` blocks were read: `2^32`
--- samples have far fewer (`place` proves it of each place of a reader, `seek` requires it)
+-- on, and where more is wanted an interval begins. Fewer than `most_blocks` blocks were read
+-- (`place` proves it of each place of a reader, `seek` requires it)
 pub record IsPlace (p : Place) : Type 0 where
-  pub few : p.block < 2 ^ 34
-  pub limit : p.limit ≤ 2 ^ 32
-  pub counted : IfSome p.count (λ count. count ≤ 2 ^ 32)
+  pub few : p.block < most_blocks
+  pub limit : p.limit ≤ most_samples
+  pub counted : IfSome p.count (λ count. count ≤ most_samples)
   pub begins : is_wanted_at p ≡ true → p.block % p.settings.interval ≡ 0
   pub sets : List CodedDataSet
   pub leads : LeadsTo p.settings p.count p.limit p.bits 0 0 sets p.block p.bit

@@ -2,10 +2,11 @@
 -- Whole intervals read one after the other: what the private functions of `reading::short` and
 -- `reading::short_interval` do for every reading in which none of their blocks needs a test of its
 -- place.
-use Rattle.std.specs.Prelude.{◌≡◌, ◌<◌, ◌≤◌, ◌^◌, ℕ, ◌+◌, ◌*◌, ◌%◌, Bool, true, false, Option, IfSome, ℤ, List, length, take, unwrap_or}
+use Rattle.std.specs.Prelude.{◌≡◌, ◌<◌, ◌≤◌, ℕ, ◌+◌, ◌*◌, ◌%◌, Bool, true, false, Option, IfSome, ℤ, List, length, take, unwrap_or}
 use Rattle.std.specs.List.{AllByRecursion}
 use Rattle.aec_params.specs.declared.settings.Settings.{Settings}
 use Rattle.aec_params.specs.Params.{IsHeld, interval_len}
+use Rattle.aec_params.specs.Limits.{most_samples}
 use Rattle.aec_bits.specs.BitReader.{Cursor}
 use Rattle.aec_interval.specs.declared.reading.Wanted.{Wanted}
 use Rattle.aec_interval.specs.Reached.{IsReached}
@@ -13,11 +14,11 @@ use Rattle.aec_interval.specs.Steps.{IsUntestedEnd}
 use Rattle.aec_interval.specs.UntestedBlocks.{IsUntestedAt}
 
 -- the samples of all blocks before block `last` are asked for, if a count is given, and else keep
--- the limit; count and limit are at most 2^32, and no interval is padded
+-- the limit; count and limit are at most `most_samples`, and no interval is padded
 pub record AreWithin (s : Settings) (count : Option ℕ) (limit last : ℕ) : Type 0 where
   pub unpadded : s.pad ≡ false
-  pub low : limit ≤ 2 ^ 32
-  pub counted : IfSome count (λ n. n ≤ 2 ^ 32)
+  pub low : limit ≤ most_samples
+  pub counted : IfSome count (λ n. n ≤ most_samples)
   pub samples : last * s.block_size ≤ unwrap_or count limit
 
 -- a reading that begins at block `first` and position `start`

@@ -1,6 +1,7 @@
 //! Finds the bits where the intervals of coded bits begin.
 
-ghost use Rattle.std.specs.Prelude.{◌≡◌, ◌≤◌, ◌^◌, None, [], IfOk, IfErr, OnOk};
+ghost use Rattle.std.specs.Prelude.{◌≡◌, ◌≤◌, None, [], IfOk, IfErr, OnOk};
+ghost use Rattle.aec_params.specs.Limits.{most_samples};
 ghost use Rattle.aec_interval.specs.Reached.{count_refusal, RefusesDecoding};
 ghost use Rattle.aec_interval.specs.Pieces.{place_at};
 ghost use Rattle.aec_interval.specs.Offsets.{AreOffsets};
@@ -51,7 +52,7 @@ pub fn interval_offsets(
     count: Option<u64>,
     limit: u64,
 ) -> Result<Vec<u64>, Fault>
-    requires { limit ≤ 2 ^ 32 }
+    requires { limit ≤ most_samples }
     ensures ok { IfOk result (λ offsets. (count_refusal limit count ≡ None)
         × AreOffsets params.now count limit bits.now.list offsets.items) }
     ensures refuses { IfErr result

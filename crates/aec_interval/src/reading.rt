@@ -8,7 +8,7 @@ mod untested_blocks;
 pub(crate) mod whole;
 mod zero_runs;
 
-ghost use Rattle.std.specs.Prelude.{◌≡◌, ◌≤◌, ◌<◌, ◌+◌, ◌-◌, ◌*◌, ◌%◌, ◌^◌, ◌&&◌, nat_lt, min, [], length, vec_len, vec_capacity};
+ghost use Rattle.std.specs.Prelude.{◌≡◌, ◌≤◌, ◌<◌, ◌+◌, ◌-◌, ◌*◌, ◌%◌, ◌&&◌, nat_lt, min, [], length, vec_len, vec_capacity};
 ghost use Rattle.std.specs.Prelude.{Some, None, OnOk, OnErr, IfSome, IfOk, IfErr};
 ghost use Rattle.std.specs.Int.{div_ceil};
 ghost use Rattle.aec_params.specs.declared.fault.Fault.TheVariants.{Memory};
@@ -16,6 +16,7 @@ ghost use Rattle.aec_params.specs.Params.{IsAllowed, interval_len};
 ghost use Rattle.aec_params.specs.Places.{segment_left, is_reference_block};
 ghost use Rattle.aec_params.specs.Reading.{is_wanted, keeps_limit, begin_of};
 ghost use Rattle.aec_params.specs.Blocks.{Block as Values};
+ghost use Rattle.aec_params.specs.Limits.{most_blocks, most_samples};
 ghost use Rattle.aec_block.specs.ReadCds.{as_cds};
 ghost use Rattle.aec_interval.specs.NextBlock.{FillsNext};
 ghost use Rattle.aec_interval.specs.NextSet.{run_count, block_behind, kept_count, IsNextCds, cds_front, blocks_before_end};
@@ -111,7 +112,7 @@ pub(crate) fn has_reference(params: &Params, place: u64) -> bool
 /// Returns whether `blocks` blocks keep the limit of samples. With a count, always true: the count
 /// was tested before.
 fn within_limit(params: &Params, wanted: Wanted, blocks: u64) -> bool
-    requires { blocks < 2 ^ 40 }
+    requires { blocks < 64 * most_blocks }
     ensures { result ≡ keeps_limit params.now wanted.count wanted.limit blocks }
 {
     wanted.count.is_some() || blocks * u64::from(params.block_size()) <= wanted.limit
@@ -151,7 +152,7 @@ pub(crate) fn block_after_set(
     len: RunLen,
     bit: u64,
 ) -> Result<u64, Fault>
-    requires few { block < 2 ^ 34 }
+    requires few { block < most_blocks }
     requires place { place ≡ block % params.now.interval }
     ensures value { result
         ≡ block_behind params.now wanted.count wanted.limit block
@@ -320,7 +321,7 @@ pub(crate) fn read_interval(
 
 /// Keeps those samples that are asked for; the first is that of block `wanted.first`.
 pub(crate) fn cut_to_count(params: &Params, wanted: Wanted, samples: &mut Vec<i64>)
-    requires { wanted.first < 2 ^ 34 }
+    requires { wanted.first < most_blocks }
     ensures items { samples.new.items
         ≡ counted_from params.now wanted.count wanted.first samples.old.items }
     ensures capacity { vec_capacity samples.new ≡ vec_capacity samples.old }
@@ -341,8 +342,8 @@ fn decode_list(
     samples: &mut Vec<i64>,
 ) -> Result<(), Fault>
     requires within { wanted.start ≤ length bits.now.list }
-    requires limit { wanted.limit ≤ 2 ^ 32 }
-    requires counted { IfSome wanted.count (λ count. count ≤ 2 ^ 32) }
+    requires limit { wanted.limit ≤ most_samples }
+    requires counted { IfSome wanted.count (λ count. count ≤ most_samples) }
     requires first { wanted.first ≡ 0 }
     requires empty { samples.old.items ≡ [] }
     ensures ok { OnOk result (IsReadFrom params.now wanted.count wanted.limit bits.now.list
@@ -380,8 +381,8 @@ pub(crate) fn decode_from(
     wanted: Wanted,
 ) -> Result<Vec<i64>, Fault>
     requires within { wanted.start ≤ length bits.now.list }
-    requires limit { wanted.limit ≤ 2 ^ 32 }
-    requires counted { IfSome wanted.count (λ count. count ≤ 2 ^ 32) }
+    requires limit { wanted.limit ≤ most_samples }
+    requires counted { IfSome wanted.count (λ count. count ≤ most_samples) }
     requires first { wanted.first ≡ 0 }
     ensures ok { IfOk result (λ samples. IsReadFrom params.now wanted.count wanted.limit
         bits.now.list wanted.start samples.items) }

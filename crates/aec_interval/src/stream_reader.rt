@@ -35,12 +35,13 @@ impl<'a> Model for StreamReader<'a> {
 }
 
 impl<'a> StreamReader<'a> {
-    ghost use Rattle.std.specs.Prelude.{◌≡◌, ◌<◌, ◌≤◌, ◌%◌, ◌^◌, max, true, false, [], vec_len, vec_capacity, IfSome, IfOk, IfErr, OnErr};
+    ghost use Rattle.std.specs.Prelude.{◌≡◌, ◌<◌, ◌≤◌, ◌%◌, max, true, false, [], vec_len, vec_capacity, IfSome, IfOk, IfErr, OnErr};
     ghost use Rattle.std.specs.Option.{is_some};
     ghost use Rattle.std.specs.Result.{result_err};
     ghost use Rattle.aec_params.specs.declared.fault.Fault.TheVariants.{Memory};
     ghost use Rattle.aec_params.specs.Params.{interval_len};
     ghost use Rattle.aec_params.specs.Faults.{IsFault};
+    ghost use Rattle.aec_params.specs.Limits.{most_blocks, most_samples};
     ghost use Rattle.aec_interval.specs.Reached.{count_refusal};
     ghost use Rattle.aec_interval.specs.Pieces.{place_at, is_wanted_at, IsPlace, ReadsInterval, ReadsIntervals, RefusesAt};
     ghost use Rattle.aec_interval.specs.Skipping.{HasInterval, HasIntervals, IsFaultAt};
@@ -55,7 +56,7 @@ impl<'a> StreamReader<'a> {
         count: Option<u64>,
         limit: u64,
     ) -> Result<StreamReader<'a>, Fault>
-        requires { limit ≤ 2 ^ 32 }
+        requires { limit ≤ most_samples }
         ensures ok { IfOk result (λ reader. reader
             ≡ place_at params count limit bits.now.list 0 0) }
         ensures refuses { result_err result ≡ count_refusal limit count }
@@ -124,7 +125,7 @@ impl<'a> StreamReader<'a> {
         ensures full { IfErr result
             (λ fault. fault ≡ Memory → vec_capacity samples.old < interval_len self.old.settings) }
         ensures capacity { vec_capacity samples.old ≤ vec_capacity samples.new }
-        ensures few { self.new.block < 2 ^ 34 }
+        ensures few { self.new.block < most_blocks }
         ensures ends { is_wanted_at self.new ≡ true
             → self.new.block % self.new.settings.interval ≡ 0 }
     {
@@ -168,7 +169,7 @@ impl<'a> StreamReader<'a> {
         ensures read { result ≡ true → ReadsIntervals self.old samples.new.items self.new }
         ensures at_most { result ≡ true → vec_len samples.new ≤ most }
         ensures stays { result ≡ false → self.new ≡ self.old }
-        ensures few { self.new.block < 2 ^ 34 }
+        ensures few { self.new.block < most_blocks }
         ensures ends { is_wanted_at self.new ≡ true
             → self.new.block % self.new.settings.interval ≡ 0 }
         ensures capacity { vec_capacity samples.old ≤ vec_capacity samples.new }
@@ -208,7 +209,7 @@ impl<'a> StreamReader<'a> {
         ensures full { IfErr result
             (λ fault. fault ≡ Memory → vec_capacity samples.old < interval_len self.old.settings) }
         ensures capacity { vec_capacity samples.old ≤ vec_capacity samples.new }
-        ensures few { self.new.block < 2 ^ 34 }
+        ensures few { self.new.block < most_blocks }
         ensures ends { is_wanted_at self.new ≡ true
             → self.new.block % self.new.settings.interval ≡ 0 }
     {
@@ -228,7 +229,7 @@ impl<'a> StreamReader<'a> {
         ensures done { IfOk result (λ len. is_some len ≡ false → self.new ≡ self.old) }
         ensures refuses { IfErr result (λ fault. IsFaultAt self.old fault) }
         ensures err { OnErr result (self.new ≡ self.old) }
-        ensures few { self.new.block < 2 ^ 34 }
+        ensures few { self.new.block < most_blocks }
         ensures ends { is_wanted_at self.new ≡ true
             → self.new.block % self.new.settings.interval ≡ 0 }
     {
@@ -266,7 +267,7 @@ impl<'a> StreamReader<'a> {
         ensures refuses { IfErr result (λ fault. let old = self.old in
             IsFault old.settings old.count old.limit old.bits old.block old.bit fault) }
         ensures err { OnErr result (self.new ≡ self.old) }
-        ensures few { self.new.block < 2 ^ 34 }
+        ensures few { self.new.block < most_blocks }
         ensures ends { is_wanted_at self.new ≡ true
             → self.new.block % self.new.settings.interval ≡ 0 }
     {

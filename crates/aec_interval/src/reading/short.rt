@@ -2,18 +2,18 @@
 //! sets the greatest number. `fill_several_intervals` reads intervals of one kind after the other,
 //! `fill_intervals` those of one kind while `fill_interval` reads one more.
 
-ghost use Rattle.std.specs.Prelude.{◌≡◌, ◌≤◌, ◌<◌, ◌+◌, ◌-◌, ◌*◌, ◌%◌, ◌^◌, ℕ, false, max, length, vec_len, vec_capacity, IfSome};
+ghost use Rattle.std.specs.Prelude.{◌≡◌, ◌≤◌, ◌<◌, ◌+◌, ◌-◌, ◌*◌, ◌%◌, ℕ, false, max, length, vec_len, vec_capacity, IfSome};
 ghost use Rattle.std.specs.Option.{is_some};
 ghost use Rattle.aec_params.specs.Params.{interval_len};
+ghost use Rattle.aec_params.specs.Limits.{most_blocks, most_samples};
 ghost use Rattle.aec_block.specs.BlockShape.{most_values};
 ghost use Rattle.aec_interval.specs.Reached.{IsReached};
 ghost use Rattle.aec_interval.specs.ShortIntervals.{AreWithin, FillsIntervals};
 
 use crate::reading::Wanted;
-use crate::reading::short_interval::{
-    PREDICTED, UNPREDICTED, WholeRuns, ZEROS, fill_interval, is_whole_run_next,
-};
+use crate::reading::short_interval::{WholeRuns, fill_interval, is_whole_run_next};
 use aec_bits::BitReader;
+use aec_block::copies::{PREDICTED, UNPREDICTED, ZEROS};
 use aec_block::is_single_next;
 use aec_params::Params;
 
@@ -158,9 +158,9 @@ fn fill_several_intervals(
 /// within the count or the limit.
 fn untested_intervals(params: &Params, wanted: Wanted) -> u64
     requires unpadded { params.now.pad ≡ false }
-    requires few { wanted.first < 2 ^ 34 }
-    requires limit { wanted.limit ≤ 2 ^ 32 }
-    requires counted { IfSome wanted.count (λ count. count ≤ 2 ^ 32) }
+    requires few { wanted.first < most_blocks }
+    requires limit { wanted.limit ≤ most_samples }
+    requires counted { IfSome wanted.count (λ count. count ≤ most_samples) }
     ensures { (n : ℕ) → 0 < n → n ≤ result → AreWithin params.now wanted.count wanted.limit
         (wanted.first + n * params.now.interval) }
 {
@@ -172,9 +172,9 @@ fn untested_intervals(params: &Params, wanted: Wanted) -> u64
 /// Returns how many intervals are read at a time: at most `most` samples, for which there is room.
 /// 0 if an interval has many blocks, or padding.
 fn intervals_at_once(params: &Params, wanted: Wanted, most: u64, capacity: usize) -> u64
-    requires few { wanted.first < 2 ^ 34 }
-    requires limit { wanted.limit ≤ 2 ^ 32 }
-    requires counted { IfSome wanted.count (λ count. count ≤ 2 ^ 32) }
+    requires few { wanted.first < most_blocks }
+    requires limit { wanted.limit ≤ most_samples }
+    requires counted { IfSome wanted.count (λ count. count ≤ most_samples) }
     ensures within { (n : ℕ) → 0 < n → n ≤ result → AreWithin params.now wanted.count wanted.limit
         (wanted.first + n * params.now.interval) }
     ensures short { 0 < result → params.now.interval ≤ 8 }
@@ -216,15 +216,15 @@ pub(crate) fn read_short(
 ) -> u64
     requires begins { reader.old.pos ≡ wanted.start }
     requires aligned { wanted.first % params.now.interval ≡ 0 }
-    requires few { wanted.first < 2 ^ 34 }
-    requires limit { wanted.limit ≤ 2 ^ 32 }
-    requires counted { IfSome wanted.count (λ count. count ≤ 2 ^ 32) }
+    requires few { wanted.first < most_blocks }
+    requires limit { wanted.limit ≤ most_samples }
+    requires counted { IfSome wanted.count (λ count. count ≤ most_samples) }
     ensures reached { wanted.first < result → IsReached params.now wanted.count wanted.limit
         reader.new.list wanted.first wanted.start result reader.new.pos samples.new.items }
     ensures stays { result ≡ wanted.first → reader.new ≡ reader.old }
     ensures list { reader.new.list ≡ reader.old.list }
     ensures forward { wanted.first ≤ result }
-    ensures few { result < 2 ^ 34 }
+    ensures few { result < most_blocks }
     ensures ends { result % params.now.interval ≡ 0 }
     ensures len { wanted.first < result → vec_len samples.new ≤ most }
     ensures capacity { vec_capacity samples.old ≤ vec_capacity samples.new }

@@ -8,24 +8,13 @@ ghost use Rattle.aec_params.specs.Params.{IsHeld, interval_len};
 ghost use Rattle.aec_interval.specs.UntestedBlocks.{ReadsBlocks};
 ghost use Rattle.aec_interval.specs.ShortIntervals.{ReadsFirst, ReadsWhole, FillsFirst, FillsInterval};
 
-use crate::block_sizes::FIRST_UNPREDICTED;
 use crate::reading::block_count;
 use crate::reading::untested_blocks::fill_blocks;
 use crate::reading::zero_runs::repeated_sample;
 use aec_bits::BitReader;
+use aec_block::copies::{FILL_UNPREDICTED_BLOCK, PREDICTED, UNPREDICTED, ZEROS};
 use aec_block::{read_run, read_single, read_single_first, unmap_into};
 use aec_params::Params;
-
-/// The kind of an interval that is one run of zero blocks.
-pub(crate) const ZEROS: usize = 10;
-
-/// The kind of an interval of single blocks and runs whose samples are predicted. It is also the
-/// number of the copy of `read_single` for the blocks after the first coded data set.
-pub(crate) const PREDICTED: usize = 11;
-
-/// The kind of an interval of single blocks and runs whose samples aren't predicted. It is also the
-/// number of the copy of `read_single` for the blocks after the first coded data set.
-pub(crate) const UNPREDICTED: usize = 12;
 
 /// Reads the next block as the first of its interval, with a reference sample, if it is a single
 /// one, and writes its samples to the front of `samples`. Returns how many blocks it read: 1, or 0
@@ -73,7 +62,7 @@ fn fill_unpredicted_block<const N: usize>(
     ensures count { length values.new ≡ length values.old }
 {
     params.known_allowed();
-    if !read_single::<N, FIRST_UNPREDICTED>(params, reader, values) {
+    if !read_single::<N, FILL_UNPREDICTED_BLOCK>(params, reader, values) {
         return 0;
     }
     let len = values.len();

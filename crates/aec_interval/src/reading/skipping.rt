@@ -1,9 +1,10 @@
 //! Skips coded data sets from the start of an interval, without making their samples.
 
-ghost use Rattle.std.specs.Prelude.{◌≡◌, ◌≤◌, ◌<◌, ◌+◌, ◌*◌, ◌%◌, ◌^◌, true, false, unwrap_or, IfSome, IfOk, IfErr};
+ghost use Rattle.std.specs.Prelude.{◌≡◌, ◌≤◌, ◌<◌, ◌+◌, ◌*◌, ◌%◌, true, false, unwrap_or, IfSome, IfOk, IfErr};
 ghost use Rattle.aec_params.specs.Params.{IsAllowed};
 ghost use Rattle.aec_params.specs.Reading.{is_wanted};
 ghost use Rattle.aec_params.specs.Faults.{IsFault};
+ghost use Rattle.aec_params.specs.Limits.{most_blocks, most_samples};
 ghost use Rattle.aec_interval.specs.NextSet.{blocks_before_end};
 ghost use Rattle.aec_interval.specs.Steps.{IsWantedNext, ComesNext, IsGoneOver, SkipsBlocks};
 ghost use Rattle.aec_interval.specs.Skipping.{IsLedTo, IsFaultBefore, asked_len};
@@ -84,7 +85,7 @@ pub(crate) fn skip_interval(
 /// Returns how many samples of the blocks from `wanted.first` up to `next` are asked for.
 pub(crate) fn count_asked(params: &Params, wanted: Wanted, next: u64) -> u64
     requires after { wanted.first ≤ next }
-    requires few { next < 2 ^ 34 }
+    requires few { next < most_blocks }
     ensures { result ≡ asked_len params.now wanted.count wanted.first next }
 {
     let block_size = u64::from(params.block_size());
@@ -132,13 +133,13 @@ fn next_place(at: u64, interval: u64) -> u64
 /// Returns how many blocks from `block` on need no test of their place: their samples are within
 /// the count or the limit. 0 if intervals are padded.
 fn untested_blocks(params: &Params, wanted: Wanted, block: u64) -> u64
-    requires few { block < 2 ^ 34 }
-    requires limit { wanted.limit ≤ 2 ^ 32 }
-    requires counted { IfSome wanted.count (λ count. count ≤ 2 ^ 32) }
+    requires few { block < most_blocks }
+    requires limit { wanted.limit ≤ most_samples }
+    requires counted { IfSome wanted.count (λ count. count ≤ most_samples) }
     ensures within { 0 < result
         → (block + result) * params.now.block_size ≤ unwrap_or wanted.count wanted.limit }
     ensures unpadded { 0 < result → params.now.pad ≡ false }
-    ensures few { result ≤ 2 ^ 32 }
+    ensures few { result ≤ most_samples }
 {
     if params.pad() {
         return 0;
@@ -156,16 +157,16 @@ fn skip_untested(
     block: u64,
     most: u64,
 ) -> u64
-    requires few { block < 2 ^ 34 }
-    requires limit { wanted.limit ≤ 2 ^ 32 }
-    requires counted { IfSome wanted.count (λ count. count ≤ 2 ^ 32) }
+    requires few { block < most_blocks }
+    requires limit { wanted.limit ≤ most_samples }
+    requires counted { IfSome wanted.count (λ count. count ≤ most_samples) }
     requires led { IsLedTo params.now wanted.count wanted.limit reader.old.list wanted.first
         wanted.start block reader.old.pos }
     ensures led { IsLedTo params.now wanted.count wanted.limit reader.new.list wanted.first
         wanted.start result reader.new.pos }
     ensures list { reader.new.list ≡ reader.old.list }
     ensures forward { block ≤ result }
-    ensures few { result < 2 ^ 34 }
+    ensures few { result < most_blocks }
     ensures stays { result ≡ block → reader.new ≡ reader.old }
 {
     let place = block % u64::from(params.interval());
@@ -210,7 +211,7 @@ pub(crate) fn skip_intervals(
     ensures allowed { IsAllowed params.now }
     ensures list { reader.new.list ≡ reader.old.list }
     ensures forward { IfOk result (λ next. wanted.first < next) }
-    ensures few { IfOk result (λ next. next < 2 ^ 34) }
+    ensures few { IfOk result (λ next. next < most_blocks) }
     ensures ends { IfOk result (λ next. is_wanted params.now wanted.count reader.new.list next
         reader.new.pos ≡ true → next % params.now.interval ≡ 0) }
 {

@@ -3,19 +3,21 @@
 //! blocks to try, appends places for them and cuts off the unfilled ones; `fill_blocks` calls
 //! `fill_next` until that reads nothing.
 
-ghost use Rattle.std.specs.Prelude.{◌≡◌, ◌≤◌, ◌<◌, ◌+◌, ◌-◌, ◌*◌, ◌%◌, ◌^◌, false, max, length, take, vec_len, vec_capacity, IfSome, IfOk, IfErr, OnErr};
+ghost use Rattle.std.specs.Prelude.{◌≡◌, ◌≤◌, ◌<◌, ◌+◌, ◌-◌, ◌*◌, ◌%◌, false, max, length, take, vec_len, vec_capacity, IfSome, IfOk, IfErr, OnErr};
 ghost use Rattle.std.specs.List.{AllByRecursion};
 ghost use Rattle.aec_params.specs.Params.{IsHeld};
+ghost use Rattle.aec_params.specs.Limits.{most_blocks, most_samples};
 ghost use Rattle.aec_block.specs.BlockShape.{most_values};
 ghost use Rattle.aec_interval.specs.Reached.{IsReached, RefusesUpTo};
 ghost use Rattle.aec_interval.specs.Steps.{IsUntestedEnd};
 ghost use Rattle.aec_interval.specs.UntestedBlocks.{FillsBlocks};
 
-use crate::block_sizes::{IN_LONG_INTERVALS, by_block_size};
+use crate::block_sizes::by_block_size;
 use crate::reading::zero_runs::repeated_sample;
 use crate::reading::{Wanted, block_count, blocks_left};
 use crate::segment::previous_of;
 use aec_bits::BitReader;
+use aec_block::copies::{FILL_ANY_BLOCKS, FILL_KNOWN_BLOCKS};
 use aec_block::{MOST_VALUES, is_single_next, read_run, read_single, unmap_into};
 use aec_params::{Fault, Params};
 
@@ -34,8 +36,8 @@ static ZEROS: [i64; 256] = [0; 256];
 /// Returns a block before which no block of the interval that ends at block `end` needs a test of
 /// its place: each keeps the limit and is needed, and no padding follows it.
 fn untested_end(params: &Params, wanted: Wanted, end: u64) -> u64
-    requires limit { wanted.limit ≤ 2 ^ 32 }
-    requires counted { IfSome wanted.count (λ count. count ≤ 2 ^ 32) }
+    requires limit { wanted.limit ≤ most_samples }
+    requires counted { IfSome wanted.count (λ count. count ≤ most_samples) }
     requires end { end ≡ wanted.first + params.now.interval }
     ensures { IsUntestedEnd params.now wanted.count wanted.limit wanted.first result }
 {
@@ -117,8 +119,8 @@ fn fill_next<const N: usize, const COPY: usize>(
 }
 
 /// Reads the next blocks, from place `place` of an interval on, at most `most`, and writes their
-/// samples after the first `from` samples. Returns how many blocks it read. Each `COPY` has one
-/// caller for each `N`.
+/// samples after the first `from` samples. Returns how many blocks it read. Each caller
+/// passes a `COPY` of its own, as `copies` of `aec_block` says.
 #[inline(always)]
 pub(crate) fn fill_blocks<const N: usize, const COPY: usize>(
     params: &Params,
@@ -174,7 +176,7 @@ fn fill_known_blocks<const N: usize>(
     // A copy that no other call can see stays in registers.
     let own = *params;
     let mut values = [0u32; N];
-    fill_blocks::<N, IN_LONG_INTERVALS>(&own, reader, place, most, &mut values, samples, from)
+    fill_blocks::<N, FILL_KNOWN_BLOCKS>(&own, reader, place, most, &mut values, samples, from)
 }
 
 /// `fill_blocks` for blocks of any size, out of line.
@@ -197,7 +199,7 @@ fn fill_any_blocks(
     let own = *params;
     let mut scratch = [0u32; MOST_VALUES];
     let values = &mut scratch[..own.block_size() as usize];
-    fill_blocks::<0, IN_LONG_INTERVALS>(&own, reader, place, most, values, samples, from)
+    fill_blocks::<0, FILL_ANY_BLOCKS>(&own, reader, place, most, values, samples, from)
 }
 
 /// `fill_blocks`, with code of its own for each usual block size.
@@ -239,8 +241,8 @@ pub(crate) fn read_untested_blocks(
 ) -> Result<u64, Fault>
     requires reached { IsReached params.now wanted.count wanted.limit reader.old.list wanted.first
         wanted.start block reader.old.pos samples.old.items }
-    requires limit { wanted.limit ≤ 2 ^ 32 }
-    requires counted { IfSome wanted.count (λ count. count ≤ 2 ^ 32) }
+    requires limit { wanted.limit ≤ most_samples }
+    requires counted { IfSome wanted.count (λ count. count ≤ most_samples) }
     requires end { end ≡ wanted.first + params.now.interval }
     requires aligned { wanted.first % params.now.interval ≡ 0 }
     requires after { wanted.first < block }
@@ -248,7 +250,7 @@ pub(crate) fn read_untested_blocks(
         reader.new.list wanted.first wanted.start next reader.new.pos samples.new.items) }
     ensures forward { IfOk result (λ next. block ≤ next) }
     ensures within { IfOk result (λ next. next ≤ max block end) }
-    ensures few { IfOk result (λ next. block < 2 ^ 34 → next < 2 ^ 34) }
+    ensures few { IfOk result (λ next. block < most_blocks → next < most_blocks) }
     ensures refuses { IfErr result (λ fault. RefusesUpTo params.now wanted.count wanted.limit
         reader.new.list wanted.first wanted.start end fault) }
     ensures list { reader.new.list ≡ reader.old.list }

@@ -1,8 +1,9 @@
 //! Reads a whole stream back, or what is left of it from a bit on.
 
-ghost use Rattle.std.specs.Prelude.{◌≡◌, ◌≤◌, ◌%◌, ◌^◌, true, None, length, drop, IfOk, IfErr};
+ghost use Rattle.std.specs.Prelude.{◌≡◌, ◌≤◌, ◌%◌, true, None, length, drop, IfOk, IfErr};
 ghost use Rattle.std.specs.Result.{result_err};
 ghost use Rattle.aec_params.specs.Reading.{IsReading};
+ghost use Rattle.aec_params.specs.Limits.{most_samples};
 ghost use Rattle.aec_interval.specs.Reached.{count_refusal, RefusesDecoding};
 ghost use Rattle.aec_interval.specs.Offsets.{RefusesDecodingAt};
 
@@ -39,7 +40,7 @@ pub fn decode_all(
     count: Option<u64>,
     limit: u64,
 ) -> Result<Vec<i64>, Fault>
-    requires { limit ≤ 2 ^ 32 }
+    requires { limit ≤ most_samples }
     ensures ok { IfOk result (λ samples. (count_refusal limit count ≡ None)
         × IsReading params.now count limit bits.now.list samples.items) }
     ensures refuses { IfErr result
@@ -78,7 +79,7 @@ pub fn decode_at(
 ) -> Result<Vec<i64>, Fault>
     requires within { start ≤ length bits.now.list }
     requires whole_bytes { params.now.pad ≡ true → start % 8 ≡ 0 }
-    requires limit { limit ≤ 2 ^ 32 }
+    requires limit { limit ≤ most_samples }
     ensures ok { IfOk result (λ samples. (count_refusal limit count ≡ None)
         × IsReading params.now count limit (drop start bits.now.list) samples.items) }
     ensures refuses { IfErr result

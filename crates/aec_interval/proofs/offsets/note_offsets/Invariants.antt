@@ -1,4 +1,5 @@
-use Rattle.std.proofs.Common.{◌-◌, ◌^◌}
+use Rattle.std.proofs.Common.{◌-◌}
+use Rattle.aec_params.specs.Limits.{most_blocks}
 use Rattle.aec_interval.proofs.NotingLemmas.{HasNoted}
 use Rattle.aec_interval.proofs.offsets.note_offsets.Given as goal
 
@@ -8,4 +9,4 @@ invariant-loop-offsets l = record {
 }
 
 abbrev pub decreases-loop-offsets : goal.decreases-loop-offsets
-decreases-loop-offsets l = 2 ^ 34 - l.reader.block
+decreases-loop-offsets l = most_blocks - l.reader.block

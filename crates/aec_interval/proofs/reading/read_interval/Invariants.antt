@@ -1,4 +1,5 @@
-use Rattle.std.proofs.Common.{◌≡◌, ◌≤◌, ◌-◌, ◌*◌, ◌^◌, vec_len, vec_capacity}
+use Rattle.std.proofs.Common.{◌≡◌, ◌≤◌, ◌-◌, ◌*◌, vec_len, vec_capacity}
+use Rattle.aec_params.specs.Limits.{most_blocks}
 use Rattle.aec_interval.specs.Reached.{IsReached}
 use Rattle.aec_interval.proofs.ReadIntervalLemmas.{IsInside}
 use Rattle.aec_interval.proofs.reading.read_interval.Given as goal
@@ -13,4 +14,4 @@ invariant-loop-behind l = record {
 }
 
 abbrev pub decreases-loop-behind : goal.decreases-loop-behind
-decreases-loop-behind l = 2 ^ 34 - l.block
+decreases-loop-behind l = most_blocks - l.block

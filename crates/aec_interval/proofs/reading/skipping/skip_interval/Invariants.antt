@@ -1,4 +1,5 @@
-use Rattle.std.proofs.Common.{◌≡◌, ◌-◌, ◌^◌}
+use Rattle.std.proofs.Common.{◌≡◌, ◌-◌}
+use Rattle.aec_params.specs.Limits.{most_blocks}
 use Rattle.aec_interval.specs.Skipping.{IsLedTo}
 use Rattle.aec_interval.proofs.ReadIntervalLemmas.{IsInside}
 use Rattle.aec_interval.proofs.reading.skipping.skip_interval.Given as goal
@@ -11,4 +12,4 @@ invariant-loop-block l = record {
 }
 
 abbrev pub decreases-loop-block : goal.decreases-loop-block
-decreases-loop-block l = 2 ^ 34 - l.block
+decreases-loop-block l = most_blocks - l.block
