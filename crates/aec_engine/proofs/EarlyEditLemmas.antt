@@ -8,6 +8,7 @@ use Rattle.aec_params.specs.declared.fault.Fault.TheVariants.{Spent}
 use Rattle.aec_params.specs.declared.edit.Edit.{Edit}
 use Rattle.aec_params.specs.declared.edit.Edit.TheVariants.{Overwrite, Append, Truncate, Insert, Remove}
 use Rattle.aec_params.specs.Edits.{samples_after, needed_calls}
+use Rattle.aec_params.specs.Limits.{most_samples}
 use Rattle.aec_bits.specs.Codec.{Format}
 use Rattle.aec_bits.specs.Refusals.{refusal_of}
 use Rattle.aec_edit.specs.Calls.{due_refusal, want_of_calls}
@@ -79,7 +80,7 @@ due-here f limit calls s e few = ap (option_or (refusal_of f limit s e)) (enough
 -- one more overwrite inside the loaded samples was made, and the coder had been called fewer than
 -- 2^62 times before
 pub early-made : (f g : Format) (limit most : ℕ) (script ahead rest : Listing) (s reached left : List ℤ) (before calls coded after : ℕ)
-    (e : Edit) (n : ℕ) → g ≡ f → most ≡ limit → ahead ≡ listed n (change e) rest → 0 < f.most → calls < 2 ^ 62 → length s ≤ 2 ^ 32
+    (e : Edit) (n : ℕ) → g ≡ f → most ≡ limit → ahead ≡ listed n (change e) rest → 0 < f.most → calls < 2 ^ 62 → length s ≤ most_samples
     → IsInside (length reached) e → IsAccepted g most reached calls e coded after → left ≡ samples_after reached e
     → CarriesEarly f limit script s before ahead reached calls → CarriesEarly f limit script s before rest left after
 early-made f g limit most script ahead rest s reached left before calls coded after e n format limited next some far small inside made is so_far = record {
@@ -98,7 +99,7 @@ early-made f g limit most script ahead rest s reached left before calls coded af
     needed : ℕ
     needed = needed_calls f.most (length reached) e
 
-    few : needed ≤ 2 ^ 32
+    few : needed ≤ most_samples
     few = omega (arith, needed-inside f.most (length reached) e some inside, so_far.len, small)
 
     fits : option_or (refusal_of f limit reached e) None ≡ None
@@ -116,7 +117,7 @@ early-made f g limit most script ahead rest s reached left before calls coded af
 -- the next overwrite inside the loaded samples was refused
 pub early-stops : (f g : Format) (limit most : ℕ) (script ahead rest : Listing) (s reached : List ℤ) (before calls after : ℕ)
     (e : Edit) (n : ℕ) (fault : Fault) → g ≡ f → most ≡ limit → ahead ≡ listed n (change e) rest → 0 < f.most → calls < 2 ^ 62
-    → length s ≤ 2 ^ 32 → IsInside (length reached) e → IsRefused g most reached calls e fault after
+    → length s ≤ most_samples → IsInside (length reached) e → IsRefused g most reached calls e fault after
     → CarriesEarly f limit script s before ahead reached calls → StopsEarly f limit script s (Line n fault)
 early-stops f g limit most script ahead rest s reached before calls after e n fault format limited next some far small inside not_made so_far more due low =
     leads-stop f limit (left_with (s ++ more) due) (left_with (reached ++ more) at) script ahead (Line n fault) (so_far.leads more due low)
@@ -133,7 +134,7 @@ early-stops f g limit most script ahead rest s reached before calls after e n fa
     needed : ℕ
     needed = needed_calls f.most (length reached) e
 
-    few : needed ≤ 2 ^ 32
+    few : needed ≤ most_samples
     few = omega (arith, needed-inside f.most (length reached) e some inside, so_far.len, small)
 
     lacking : (t : Option Fault) → MatchOption t (LacksMemory needed calls fault after) (λ due. (fault ≡ due) × (after ≡ calls))

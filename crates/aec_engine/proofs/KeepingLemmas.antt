@@ -1,5 +1,5 @@
 -- The front of a stream, whose bytes are kept, and the rest of it, which is written after them.
-use Rattle.std.proofs.Common.{◌≡◌, ℕ, ◌+◌, ◌*◌, ◌-◌, ◌%◌, ◌<◌, ◌≤◌, ◌^◌, max, Bool, true, false, Option, None, Some, Result, Ok, ℤ, List, [], ◌++◌, length, take, drop, refl, sym, ap, ap₂, ◌∙◌, subst, arith, ⊎_elim}
+use Rattle.std.proofs.Common.{◌≡◌, ℕ, ◌+◌, ◌*◌, ◌-◌, ◌%◌, ◌<◌, ◌≤◌, max, Bool, true, false, Option, None, Some, Result, Ok, ℤ, List, [], ◌++◌, length, take, drop, refl, sym, ap, ap₂, ◌∙◌, subst, arith, ⊎_elim}
 use Rattle.std.specs.List.{AllByRecursion}
 use Rattle.std.specs.Int.{div_ceil}
 use Rattle.std.proofs.Math.Nat.{zero-mod, add-mul, mul-le-mul_right}
@@ -11,6 +11,7 @@ use Rattle.aec_params.specs.declared.fault.Fault.{Fault}
 use Rattle.aec_params.specs.Params.{IsAllowed, IsHeld, interval_len}
 use Rattle.aec_params.specs.Reading.{is_wanted, IsReading}
 use Rattle.aec_params.proofs.SettingLaws.{block_size-positive}
+use Rattle.aec_params.specs.Limits.{most_blocks}
 use Rattle.aec_interval.specs.Reached.{count_refusal, RefusesReading, RefusesDecoding}
 use Rattle.aec_interval.specs.Pieces.{Place, place_at, is_wanted_at, ReadsIntervals}
 use Rattle.aec_interval.proofs.PieceReadingLemmas.{has_read_nothing, has_read_several, has_read_front, has_read_few, has_read_all, piece_is_held}
@@ -49,7 +50,7 @@ keeps_none start s bytes block bit none = subst (λ p. KeepsFront p s 0 bytes) (
     at_start = ap (λ i. place_from start i start.bit) block ∙ ap (λ b. place_from start 0 b) bit
 
 pub keeps_more : (start p q : Place) (s : Settings) (before len more : ℕ) (bytes room bytes_then : List ℕ) (ys part : List ℤ) → IsAllowed start.settings
-    → p ≡ place_from start p.block p.bit → KeepsFront p s before bytes → ReadsIntervals p ys q → q.block < 2 ^ 34
+    → p ≡ place_from start p.block p.bit → KeepsFront p s before bytes → ReadsIntervals p ys q → q.block < most_blocks
     → (is_wanted_at q ≡ true → q.block % q.settings.interval ≡ 0) → room ≡ bytes → bytes_then ≡ room ++ all_stored s part → part ≡ ys
     → len ≡ length ys → more ≡ before + len → KeepsFront q s more bytes_then
 keeps_more start p q s before len more bytes room bytes_then ys part a same keeps step few begins stays adds is counts adds_up = record {
@@ -69,7 +70,7 @@ module _ (start q : Place) (s : Settings) (more : Bool) (ys : List ℤ) (a : IsA
   allowed = subst IsAllowed (sym settings) a
 
   -- the bytes of the samples that are read first are kept
-  pub first_kept : (n : ℕ) → start.block ≡ 0 → start.bit ≡ 0 → q.block < 2 ^ 34 → (is_wanted_at q ≡ true → q.block % q.settings.interval ≡ 0)
+  pub first_kept : (n : ℕ) → start.block ≡ 0 → start.bit ≡ 0 → q.block < most_blocks → (is_wanted_at q ≡ true → q.block % q.settings.interval ≡ 0)
       → n ≡ length ys → KeepsFront q s n (all_stored s ys)
   first_kept n block bit few begins counts =
       ⊎_elim (λ (h : more ≡ true).

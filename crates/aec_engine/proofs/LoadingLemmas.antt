@@ -11,7 +11,7 @@ use Rattle.aec_params.specs.declared.settings.Settings.{Settings}
 use Rattle.aec_params.specs.declared.fault.Fault.{Fault}
 use Rattle.aec_params.specs.declared.fault.Fault.TheVariants.{Memory, Spent, TooManySamples}
 use Rattle.aec_params.specs.declared.edit.Edit.TheVariants.{Append}
-use Rattle.aec_params.specs.Limits.{Caps}
+use Rattle.aec_params.specs.Limits.{Caps, most_blocks, most_samples}
 use Rattle.aec_params.specs.Params.{IsAllowed, IsHeld, is_held, interval_len}
 use Rattle.aec_params.specs.Edits.{needed_calls}
 use Rattle.aec_params.specs.CodedDataSets.{CodedDataSet}
@@ -78,12 +78,12 @@ pub record LoadsSoFar (start p : Place) (f : Format) (limit : ℕ) (script ahead
   pub made : ℕ
   pub read : HasRead p front
   pub same : p ≡ place_from start p.block p.bit
-  pub few : p.block < 2 ^ 34
+  pub few : p.block < most_blocks
   pub begins : is_wanted_at p ≡ true → p.block % p.settings.interval ≡ 0
   pub len : length w ≡ length front
   pub counted : called ≡ first_calls f front + made
-  pub spare : made ≤ 2 ^ 62 + 2 ^ 32
-  pub leads : (xs rest : List ℤ) → xs ≡ front ++ rest → first_calls f xs ≤ 2 ^ 32
+  pub spare : made ≤ 2 ^ 62 + most_samples
+  pub leads : (xs rest : List ℤ) → xs ≡ front ++ rest → first_calls f xs ≤ most_samples
       → LeadsToEdits f limit (left_with xs (first_calls f xs)) script (left_with (w ++ rest) (first_calls f xs + made)) ahead
 
 pub loads_none : (start : Place) (f : Format) (limit : ℕ) (script : Listing) (w : List ℤ) (called : ℕ) → w ≡ [] → called ≡ 0
@@ -115,7 +115,7 @@ whole n k len is = ap (λ m. m % n) zero_more ∙ mul-mod_left k n
 -- the samples of more intervals were appended, and more edits made
 pub loads_more : (start p q : Place) (f g h : Format) (limit most more : ℕ) (script ahead last : Listing)
     (w ys zs mid left : List ℤ) (called coded between after : ℕ) → IsAllowed start.settings → g ≡ f → h ≡ f → more ≡ limit
-    → f ≡ interval_format start.settings → LoadsSoFar start p f limit script ahead w called → ReadsOn p ys q → q.block < 2 ^ 34
+    → f ≡ interval_format start.settings → LoadsSoFar start p f limit script ahead w called → ReadsOn p ys q → q.block < most_blocks
     → (is_wanted_at q ≡ true → q.block % q.settings.interval ≡ 0) → 0 < g.most → zs ≡ ys → mid ≡ w ++ zs
     → IsAccepted g most w called (Append zs) coded between → CarriesEarly h more ahead mid between last left after
     → LoadsSoFar start q f limit script last left after
@@ -175,13 +175,13 @@ loads_more start p q f g h limit most more script ahead last w ys zs mid left ca
       ap (λ n. needed_calls f.most n (Append ys)) zero_more,
     )
 
-    spare : (carried.made ≡ 0) ⊎ (after ≤ 2 ^ 62 + 2 ^ 32) → so_far.made + carried.made ≤ 2 ^ 62 + 2 ^ 32
+    spare : (carried.made ≡ 0) ⊎ (after ≤ 2 ^ 62 + most_samples) → so_far.made + carried.made ≤ 2 ^ 62 + most_samples
     spare (inl none) = omega (arith, none, so_far.spare)
     spare (inr far) = omega (arith, far, carried.counted, taken)
 
 -- all samples were appended
 pub loads_all : (start p : Place) (f : Format) (limit : ℕ) (script ahead : Listing) (w : List ℤ) (called : ℕ)
-    → IsAllowed start.settings → 0 < f.most → count_refusal start.limit start.count ≡ None → start.limit ≤ 2 ^ 32
+    → IsAllowed start.settings → 0 < f.most → count_refusal start.limit start.count ≡ None → start.limit ≤ most_samples
     → LoadsSoFar start p f limit script ahead w called → is_wanted_at p ≡ false → LoadsAll f limit script start ahead w called
 loads_all start p f limit script ahead w called a some counted low so_far done xs given =
     subst (λ to. LeadsToEdits f limit (left_with xs (first_calls f xs)) script to ahead)
@@ -201,7 +201,7 @@ loads_all start p f limit script ahead w called a some counted low so_far done x
 -- an edit was refused before all samples were appended
 pub loads_stops : (start p q : Place) (f g h : Format) (limit more : ℕ) (script ahead : Listing) (w ys zs mid xs : List ℤ)
     (called : ℕ) (fault : EditFault) → IsAllowed start.settings → g ≡ f → h ≡ f → more ≡ limit → 0 < f.most
-    → count_refusal start.limit start.count ≡ None → start.limit ≤ 2 ^ 32
+    → count_refusal start.limit start.count ≡ None → start.limit ≤ most_samples
     → LoadsSoFar start p f limit script ahead w called → ReadsOn p ys q → (is_wanted_at q ≡ true → q.block % q.settings.interval ≡ 0)
     → zs ≡ ys → mid ≡ w ++ zs → StopsEarly h more ahead mid fault → AreSamplesOf start xs
     → StopsEditing f limit (first_calls f xs) xs script.edits script.lines fault
@@ -223,7 +223,7 @@ loads_stops start p q f g h limit more script ahead w ys zs mid xs called fault 
     behind : w ++ (ys ++ rest.0) ≡ mid ++ rest.0
     behind = sym (append_assoc w ys rest.0) ∙ ap (λ l. l ++ rest.0) (sym (appended ∙ ap (λ zs. w ++ zs) same))
 
-    few : first_calls f xs ≤ 2 ^ 32
+    few : first_calls f xs ≤ most_samples
     few = omega (
       arith,
       append_calls-le f.most 0 xs some,
@@ -262,7 +262,7 @@ append_memory f limit s ys calls after fault some held few room refused =
 
 pub append_lacks : (start p q : Place) (f g : Format) (limit most : ℕ) (script ahead : Listing) (w ys zs xs : List ℤ)
     (called after : ℕ) (fault : Fault) → IsAllowed start.settings
-    → g ≡ f → f ≡ interval_format start.settings → most ≡ start.limit → most ≤ 2 ^ 32 → count_refusal start.limit start.count ≡ None
+    → g ≡ f → f ≡ interval_format start.settings → most ≡ start.limit → most ≤ most_samples → count_refusal start.limit start.count ≡ None
     → LoadsSoFar start p f limit script ahead w called → ReadsOn p ys q → (is_wanted_at q ≡ true → q.block % q.settings.interval ≡ 0)
     → AreSamplesOf start xs → zs ≡ ys → 0 < g.most → IsRefused g most w called (Append zs) fault after → fault ≡ Memory
 append_lacks start p q f g limit most script ahead w ys zs xs called after fault a format is limited low counted so_far step begins given same some refused =

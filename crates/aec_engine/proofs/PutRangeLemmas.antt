@@ -1,5 +1,5 @@
 -- The second reading: the bytes of a range of samples are passed to `put` piece by piece.
-use Rattle.std.proofs.Common.{◌≡◌, ℕ, zero, suc, ◌+◌, ◌-◌, ◌%◌, ◌<◌, ◌≤◌, ◌^◌, min, true, false, Option, Some, None, Result, Ok, Err, OnOk, OnErr, ℤ, List, [], ◌∷◌, ◌++◌, length, take, drop, refl, sym, ap, ap₂, ◌∙◌, subst, arith, append-nil, append_assoc, ◌⊎◌, ⊎_elim}
+use Rattle.std.proofs.Common.{◌≡◌, ℕ, zero, suc, ◌+◌, ◌-◌, ◌%◌, ◌<◌, ◌≤◌, min, true, false, Option, Some, None, Result, Ok, Err, OnOk, OnErr, ℤ, List, [], ◌∷◌, ◌++◌, length, take, drop, refl, sym, ap, ap₂, ◌∙◌, subst, arith, append-nil, append_assoc, ◌⊎◌, ⊎_elim}
 use Rattle.std.specs.Io.KnownBytes.{Appends, Keeps}
 use Rattle.std.proofs.KnownBytes.{Appends-nil, Appends-trans}
 use Rattle.std.proofs.lemmas.Bool.{cases_lt}
@@ -12,6 +12,7 @@ use Rattle.aec_params.specs.declared.fault.Fault.TheVariants.{Memory}
 use Rattle.aec_params.specs.Params.{IsAllowed, IsHeld, interval_len}
 use Rattle.aec_params.specs.Stored.{stored_bytes}
 use Rattle.aec_params.specs.Reading.{IsReading}
+use Rattle.aec_params.specs.Limits.{most_blocks}
 use Rattle.aec_bits.specs.Devices.{AppendsFront}
 use Rattle.aec_interval.specs.Pieces.{Place, is_wanted_at, ReadsPiece, ReadsIntervals, HasRead, RefusesAt}
 use Rattle.aec_interval.proofs.ReadingLemmas.{bits_are_read_in_one_way}
@@ -61,7 +62,7 @@ pub record PutsSoFar (start p : Place) (s : Settings) (first len skip left : ℕ
   pub samples : List ℤ
   pub read : HasRead p samples
   pub same : p ≡ place_from start p.block p.bit
-  pub few : p.block < 2 ^ 34
+  pub few : p.block < most_blocks
   pub begins : is_wanted_at p ≡ true → p.block % p.settings.interval ≡ 0
   pub put : List ℕ
   pub appended : Appends before after put
@@ -117,7 +118,7 @@ behind s put waiting put_then waiting_then first len xs ys part so_far next is =
 
 pub puts_more : (start p q : Place) (s : Settings) (first len skip left skip_then left_then : ℕ) (before mid after : Option (List ℕ))
     (waiting waiting_then : List ℕ)
-    (ys part : List ℤ) → IsAllowed start.settings → PutsSoFar start p s first len skip left before mid waiting → ReadsIntervals p ys q → q.block < 2 ^ 34
+    (ys part : List ℤ) → IsAllowed start.settings → PutsSoFar start p s first len skip left before mid waiting → ReadsIntervals p ys q → q.block < most_blocks
     → (is_wanted_at q ≡ true → q.block % q.settings.interval ≡ 0) → part ≡ samples_from skip left ys
     → PutsPart mid after waiting (all_stored s part) waiting_then → skip_then ≡ skip - length ys → left_then ≡ left - length part
     → PutsSoFar start q s first len skip_then left_then before after waiting_then

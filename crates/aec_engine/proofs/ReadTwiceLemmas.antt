@@ -1,5 +1,5 @@
 -- Bits that are read once to count their samples, and again to write the bytes of some of them.
-use Rattle.std.proofs.Common.{◌≡◌, ◌≢◌, ℕ, ◌+◌, ◌*◌, ◌<◌, ◌≤◌, ◌^◌, Bool, false, Option, Some, IfSome, Result, Err, IfErr, ℤ, List, [], ◌++◌, length, refl, sym, ap, ◌∙◌, subst, arith, ⊎_elim}
+use Rattle.std.proofs.Common.{◌≡◌, ◌≢◌, ℕ, ◌+◌, ◌*◌, ◌<◌, ◌≤◌, Bool, false, Option, Some, IfSome, Result, Err, IfErr, ℤ, List, [], ◌++◌, length, refl, sym, ap, ◌∙◌, subst, arith, ⊎_elim}
 use Rattle.std.proofs.Math.Nat.{mul-le-mul_right, zero-mod}
 use Rattle.std.proofs.lemmas.Bool.{cases_lt}
 use Rattle.std.proofs.lemmas.List.{length-append}
@@ -10,6 +10,7 @@ use Rattle.aec_params.specs.Params.{IsAllowed}
 use Rattle.aec_params.specs.Reading.{IsReading}
 use Rattle.aec_params.specs.Faults.{IsFault, IsWrongAt, not_read, cut_short, too_large, too_long, too_many}
 use Rattle.aec_params.proofs.SettingLaws.{block_size-most}
+use Rattle.aec_params.specs.Limits.{most_blocks}
 use Rattle.aec_interval.specs.Reached.{RefusesReading}
 use Rattle.aec_interval.specs.Pieces.{Place, place_at, is_wanted_at, IsPlace, ReadsIntervals, HasRead, RefusesAt}
 use Rattle.aec_interval.specs.Skipping.{HasInterval, HasIntervals}
@@ -26,7 +27,7 @@ pub record CountsSoFar (start p : Place) (total : ℕ) : Type 0 where
   pub read : HasRead p samples
   pub counted : length samples ≡ total
   pub same : p ≡ place_from start p.block p.bit
-  pub few : p.block < 2 ^ 34
+  pub few : p.block < most_blocks
 
 pub settings-same : (start p : Place) → p ≡ place_from start p.block p.bit → p.settings ≡ start.settings
 settings-same start p same = ap (λ (p : Place). p.settings) same
@@ -35,7 +36,7 @@ pub same_next : (start p q : Place) → p ≡ place_from start p.block p.bit →
 same_next start p q first second = second ∙ ap (λ (p : Place). place_from p q.block q.bit) first
 
 pub counts_more : (start p q : Place) (total more : ℕ) (ys : List ℤ) → IsAllowed start.settings → CountsSoFar start p total → ReadsIntervals p ys q
-    → more ≡ total + length ys → q.block < 2 ^ 34 → CountsSoFar start q more
+    → more ≡ total + length ys → q.block < most_blocks → CountsSoFar start q more
 counts_more start p q total more ys a so_far step is few = record {
   samples = so_far.samples ++ ys;
   read = has_read_several p q so_far.samples ys (subst IsAllowed (sym (settings-same start p so_far.same)) a) so_far.read step;
@@ -44,16 +45,16 @@ counts_more start p q total more ys a so_far step is few = record {
   few = few;
 }
 
--- the count of samples is at most 2^40
-pub counts_few : (start p : Place) (total : ℕ) → IsAllowed start.settings → CountsSoFar start p total → total ≤ 2 ^ 40
+-- the count of samples is at most 64 times `most_blocks`
+pub counts_few : (start p : Place) (total : ℕ) → IsAllowed start.settings → CountsSoFar start p total → total ≤ 64 * most_blocks
 counts_few start p total a so_far =
     let allowed = subst IsAllowed (sym (settings-same start p so_far.same)) a in
-    let most : p.block * p.settings.block_size ≤ 2 ^ 34 * 64 = product p.block p.settings.block_size so_far.few (block_size-most p.settings allowed) in
+    let most : p.block * p.settings.block_size ≤ 64 * most_blocks = product p.block p.settings.block_size so_far.few (block_size-most p.settings allowed) in
     omega (arith, so_far.counted, has_read_few p so_far.samples allowed so_far.read, most)
   where
-    product : (i j : ℕ) → i < 2 ^ 34 → j ≤ 64 → i * j ≤ 2 ^ 34 * 64
+    product : (i j : ℕ) → i < most_blocks → j ≤ 64 → i * j ≤ 64 * most_blocks
     product i j low few =
-        let x : i * j ≤ 2 ^ 34 * j = mul-le-mul_right j (omega (arith, low)) in
+        let x : i * j ≤ most_blocks * j = mul-le-mul_right j (omega (arith, low)) in
         omega (arith, x, few)
 
 pub counts_refused : {X : Type 0} (r : Result X Fault) (fault other : Fault) (start p : Place) (total : ℕ) → IsAllowed start.settings → r ≡ Err fault
@@ -85,13 +86,13 @@ ends_at start p total bit so_far done is = subst (EndsAt start) (sym is) (record
 -- ---- an interval that is skipped
 
 pub counts_interval : (start p q : Place) (total more len : ℕ) → IsAllowed start.settings → CountsSoFar start p total → HasInterval p len q → more ≡ total + len
-    → q.block < 2 ^ 34 → CountsSoFar start q more
+    → q.block < most_blocks → CountsSoFar start q more
 counts_interval start p q total more len a so_far has is few =
     counts_more start p q total more has.samples a so_far (several-of_one p q has.samples has.read) (omega (arith, is, has.counted)) few
 
--- with the samples of the interval, the count is at most 2^40 too
-pub counts_within : (start p q : Place) (total len : ℕ) → IsAllowed start.settings → CountsSoFar start p total → HasInterval p len q → q.block < 2 ^ 34
-    → total + len ≤ 2 ^ 40
+-- with the samples of the interval, the count is at most 64 times `most_blocks` too
+pub counts_within : (start p q : Place) (total len : ℕ) → IsAllowed start.settings → CountsSoFar start p total → HasInterval p len q → q.block < most_blocks
+    → total + len ≤ 64 * most_blocks
 counts_within start p q total len a so_far has few =
     counts_few start q (total + len) a (counts_interval start p q total (total + len) len a so_far has refl few)
 
@@ -101,13 +102,13 @@ some_interval p q found len has is = subst (λ found. IfSome found (λ len. HasI
 -- ---- several intervals that are skipped
 
 pub counts_several : (start p q : Place) (total more len : ℕ) → IsAllowed start.settings → CountsSoFar start p total → HasIntervals p len q
-    → more ≡ total + len → q.block < 2 ^ 34 → CountsSoFar start q more
+    → more ≡ total + len → q.block < most_blocks → CountsSoFar start q more
 counts_several start p q total more len a so_far has is few =
     counts_more start p q total more has.samples a so_far has.read (omega (arith, is, has.counted)) few
 
--- with their samples, the count is at most 2^40 too
+-- with their samples, the count is at most 64 times `most_blocks` too
 pub several_within : (start p q : Place) (total len : ℕ) → IsAllowed start.settings → CountsSoFar start p total → HasIntervals p len q
-    → q.block < 2 ^ 34 → total + len ≤ 2 ^ 40
+    → q.block < most_blocks → total + len ≤ 64 * most_blocks
 several_within start p q total len a so_far has few =
     counts_few start q (total + len) a (counts_several start p q total (total + len) len a so_far has refl few)
 

@@ -4,7 +4,7 @@ use Rattle.std.specs.Prelude.{◌≡◌, ℕ, ◌+◌, ◌^◌, ◌≤◌, ◌�
 use Rattle.aec_params.specs.declared.settings.Settings.{Settings}
 use Rattle.aec_params.specs.declared.fault.Fault.{Fault}
 use Rattle.aec_params.specs.declared.fault.Fault.TheVariants.{Memory}
-use Rattle.aec_params.specs.Limits.{Caps}
+use Rattle.aec_params.specs.Limits.{Caps, most_samples}
 use Rattle.aec_params.specs.Params.{IsAllowed}
 use Rattle.aec_params.specs.Reading.{IsReading}
 use Rattle.aec_bits.specs.Codec.{Format}
@@ -36,7 +36,7 @@ pub record CarriesEarly (f : Format) (limit : ℕ) (script : Listing) (s : List 
     (calls_after : ℕ) : Type 0 where
   pub made : ℕ
   pub counted : calls_after ≡ calls + made
-  pub few : (made ≡ 0) ⊎ (calls_after ≤ 2 ^ 62 + 2 ^ 32)
+  pub few : (made ≡ 0) ⊎ (calls_after ≤ 2 ^ 62 + most_samples)
   pub len : length left ≡ length s
   pub leads : (rest : List ℤ) (due : ℕ) → due ≤ 2 ^ 63
       → LeadsToEdits f limit (left_with (s ++ rest) due) script (left_with (left ++ rest) (due + made)) ahead
@@ -51,7 +51,7 @@ pub record IsEmptyFor (start : Place) (f : Format) (limit : ℕ) (samples : List
   pub allowed : IsAllowed start.settings
   pub format : f ≡ interval_format start.settings
   pub limit_is : limit ≡ start.limit
-  pub bound : limit ≤ 2 ^ 32
+  pub bound : limit ≤ most_samples
   pub empty : samples ≡ []
   pub fresh : called ≡ 0
 

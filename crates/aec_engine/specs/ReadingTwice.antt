@@ -1,6 +1,6 @@
 -- For proofs alone: no public contract cites this file.
 -- What the parts of decoding return: the bits of a source, and the results of their two readings.
-use Rattle.std.specs.Prelude.{◌≡◌, ℕ, ◌+◌, ◌%◌, ◌^◌, ◌<◌, ◌≤◌, Bool, true, false, Option, None, Result, Ok, Err, ℤ, List, Vec, ◌++◌, length, vec_len, vec_capacity}
+use Rattle.std.specs.Prelude.{◌≡◌, ℕ, ◌+◌, ◌%◌, ◌<◌, ◌≤◌, Bool, true, false, Option, None, Result, Ok, Err, ℤ, List, Vec, ◌++◌, length, vec_len, vec_capacity}
 use Rattle.std.specs.List.{AllByRecursion}
 use Rattle.aec_params.specs.declared.settings.Settings.{Settings}
 use Rattle.aec_params.specs.declared.fault.Fault.{Fault}
@@ -8,6 +8,7 @@ use Rattle.aec_params.specs.declared.fault.Fault.TheVariants.{OutOfRange, Memory
 use Rattle.aec_params.specs.Params.{IsHeld}
 use Rattle.aec_params.specs.Codewords.{bits_of_bytes}
 use Rattle.aec_params.specs.Reading.{IsReading}
+use Rattle.aec_params.specs.Limits.{most_blocks}
 use Rattle.aec_interval.specs.Reached.{count_refusal, RefusesDecoding}
 use Rattle.aec_interval.specs.Pieces.{Place, place_at, is_wanted_at, HasRead}
 use Rattle.aec_engine.specs.Transfers.{input_of, Taking, are_past, Gave, IsTakenWhole, Putting, Settles}
@@ -51,13 +52,13 @@ abbrev pub LacksMemoryAlone : Place → Fault → Type 0
 LacksMemoryAlone p fault = (front samples : List ℤ) → HasRead p front → AreSamplesOf p samples → fault ≡ Memory
 
 -- `before` samples, at most `first`, were read up to a place where an interval begins or all is
--- read, in fewer than `2^34` blocks
+-- read, in fewer than `most_blocks` blocks
 pub record IsBegun (p : Place) (before first : ℕ) : Type 0 where
   pub samples : List ℤ
   pub read : HasRead p samples
   pub counted : length samples ≡ before
   pub at_most : before ≤ first
-  pub few : p.block < 2 ^ 34
+  pub few : p.block < most_blocks
   pub begins : is_wanted_at p ≡ true → p.block % p.settings.interval ≡ 0
 
 -- samples can be read from a place after `before` samples, for a range from `first` on
@@ -72,7 +73,7 @@ pub record KeepsFront (p : Place) (s : Settings) (before : ℕ) (bytes : List �
   pub read : HasRead p samples
   pub counted : length samples ≡ before
   pub kept : bytes ≡ all_stored s samples
-  pub few : p.block < 2 ^ 34
+  pub few : p.block < most_blocks
   pub begins : is_wanted_at p ≡ true → p.block % p.settings.interval ≡ 0
 
 -- a vector has at most `more` more items, and no less room

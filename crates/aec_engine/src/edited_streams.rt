@@ -1,11 +1,12 @@
 //! Applies edits over the coder of intervals, beginning with no samples, and decodes the resulting
 //! stream.
 
-ghost use Rattle.std.specs.Prelude.{◌≡◌, ◌≤◌, ◌^◌, [], length, Some, IfOk, IfErr};
+ghost use Rattle.std.specs.Prelude.{◌≡◌, ◌≤◌, [], length, Some, IfOk, IfErr};
 ghost use Rattle.aec_params.specs.declared.fault.Fault.TheVariants.{Memory};
 ghost use Rattle.aec_params.specs.Codewords.{bytes_of, bits_of_bytes};
 ghost use Rattle.aec_params.specs.Reading.{IsReading};
 ghost use Rattle.aec_params.specs.Streams.{stream_of};
+ghost use Rattle.aec_params.specs.Limits.{most_samples};
 ghost use Rattle.aec_interval.specs.IntervalFormat.{interval_format};
 ghost use Rattle.aec_edit.specs.Runs.{AnswersAll, all_left};
 ghost use Rattle.aec_engine.specs.EditedStreams.{IsWritten};
@@ -50,7 +51,7 @@ fn write_stream(
     limit: u64,
     edits: &[Edit],
 ) -> Result<Written, Fault>
-    requires { limit ≤ 2 ^ 32 }
+    requires { limit ≤ most_samples }
     ensures written { IfOk result
         (λ w. IsWritten params.now limit edits.now w.outcomes.items w.codec.calls w.bits.list
         w.count) }
@@ -92,7 +93,7 @@ pub fn decode_edited(
     limit: u64,
     edits: &[Edit],
 ) -> Result<Decoded, Fault>
-    requires { limit ≤ 2 ^ 32 }
+    requires { limit ≤ most_samples }
     ensures answers { IfOk result (λ decoded. AnswersAll (interval_format params.now) limit [] 0
         edits.now decoded.outcomes.items decoded.codec.calls) }
     ensures format { IfOk result

@@ -9,6 +9,7 @@ ghost use Rattle.std.specs.List.{AllByRecursion};
 ghost use Rattle.aec_params.specs.declared.fault.Fault.TheVariants.{Memory, StreamTooLong};
 ghost use Rattle.aec_params.specs.Params.{IsHeld, interval_len, storage_len};
 ghost use Rattle.aec_params.specs.Codewords.{bits_of_bytes};
+ghost use Rattle.aec_params.specs.Limits.{most_samples};
 ghost use Rattle.aec_engine.specs.Transfers.{input_of, RefusesIntake};
 ghost use Rattle.aec_engine.specs.Output.{all_stored, samples_from, IsDecoded, IsRanged};
 ghost use Rattle.aec_interval.specs.Reached.{count_refusal, RefusesReading};
@@ -101,7 +102,7 @@ fn put_range_front(
     requires settings { reader.old.settings ≡ params.now }
     requires read { (xs : List ℤ) × AreSamplesOf reader.old xs
         × (length (samples_from part.first part.len xs) ≡ part.len) }
-    requires few { part.len ≤ 2 ^ 32 }
+    requires few { part.len ≤ most_samples }
     requires begun { IsBegun reader.old part.before part.first }
     ensures { (xs : List ℤ) → AreSamplesOf reader.old xs
         → FillsOne (StoresPart params.now part.first part.len xs) out.old out.new result }
@@ -129,7 +130,7 @@ fn put_kept(
     requires settings { reader.old.settings ≡ params.now }
     requires read { (xs : List ℤ) × AreSamplesOf reader.old xs
         × (length (samples_from rest.first rest.len xs) ≡ rest.len) }
-    requires few { rest.len ≤ 2 ^ 32 }
+    requires few { rest.len ≤ most_samples }
     requires begun { IsBegun reader.old rest.before rest.first }
     requires room { 0 < rest.len → interval_len params.now ≤ vec_capacity samples.old }
     ensures { (xs : List ℤ) → AreSamplesOf reader.old xs
@@ -282,7 +283,7 @@ fn decode_rest_into(
         (all_stored params.now samples.old.items) }
     requires held { AllByRecursion (IsHeld params.now) samples.old.items }
     requires most { vec_len samples.old ≤ max 4096 (interval_len params.now) }
-    requires limit { reader.old.limit ≤ 2 ^ 32 }
+    requires limit { reader.old.limit ≤ most_samples }
     ensures { FillsOne (DecodesBits params.now reader.old.count reader.old.limit reader.old.bits)
         out.old out.new result }
 {

@@ -6,6 +6,7 @@ ghost use Rattle.std.specs.Prelude.{◌≡◌, ◌≢◌, ◌+◌, ◌<◌, ◌�
 ghost use Rattle.std.specs.Int.{div_ceil};
 ghost use Rattle.aec_params.specs.declared.fault.Fault.TheVariants.{Memory};
 ghost use Rattle.aec_params.specs.Params.{IsAllowed, interval_len};
+ghost use Rattle.aec_params.specs.Limits.{most_blocks, most_samples};
 ghost use Rattle.aec_edit.specs.Early.{IsInside};
 ghost use Rattle.aec_edit.specs.Unchanged.{KeepsRules};
 ghost use Rattle.aec_interval.specs.Reached.{RefusesDecoding};
@@ -42,7 +43,7 @@ fn next_intervals(
         (λ more. more ≡ true → ReadsOn reader.old samples.new.items reader.new) }
     ensures done { IfOk result (λ more. more ≡ false → reader.new ≡ reader.old) }
     ensures refuses { IfErr result (λ fault. LacksMemoryAlone reader.old fault) }
-    ensures few { OnOk result (reader.new.block < 2 ^ 34) }
+    ensures few { OnOk result (reader.new.block < most_blocks) }
     ensures at_once { OnOk result
         (length samples.new.items ≤ max 2048 (interval_len params.now)) }
     ensures ends { OnOk result (is_wanted_at reader.new ≡ true
@@ -98,7 +99,7 @@ fn carry_early<C: Codec>(
     ahead: &mut EditsAhead,
 ) -> Result<(), EditFault>
     requires ahead { AreAhead ahead.old }
-    requires bound { workspace.old.limit ≤ 2 ^ 32 }
+    requires bound { workspace.old.limit ≤ most_samples }
     ensures ok { IfOk result (λ _. CarriesEarly (C.format workspace.old.codec) workspace.old.limit
         (left_in ahead.old) workspace.old.samples (C.called workspace.old.codec)
         (left_in ahead.new) workspace.new.samples (C.called workspace.new.codec)) }

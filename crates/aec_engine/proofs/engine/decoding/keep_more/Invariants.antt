@@ -1,4 +1,5 @@
-use Rattle.std.proofs.Common.{◌≡◌, ◌-◌, ◌≤◌, ◌^◌, vec_len, vec_capacity}
+use Rattle.std.proofs.Common.{◌≡◌, ◌-◌, ◌≤◌, vec_len, vec_capacity}
+use Rattle.aec_params.specs.Limits.{most_blocks}
 use Rattle.aec_engine.specs.ReadingTwice.{KeepsFront}
 use Rattle.aec_engine.proofs.ReadTwiceLemmas.{place_from}
 use Rattle.aec_engine.proofs.engine.decoding.keep_more.Given as goal
@@ -13,4 +14,4 @@ invariant-loop-reader l = record {
 }
 
 abbrev pub decreases-loop-reader : goal.decreases-loop-reader
-decreases-loop-reader l = 2 ^ 34 - l.reader.block
+decreases-loop-reader l = most_blocks - l.reader.block

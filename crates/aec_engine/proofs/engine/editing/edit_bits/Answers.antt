@@ -1,6 +1,7 @@
-use Rattle.std.proofs.Common.{◌≤◌, ◌^◌, ap, ◌∙◌, subst, sym}
+use Rattle.std.proofs.Common.{◌≤◌, ap, ◌∙◌, subst, sym}
 use Rattle.std.proofs.lemmas.Result.{err_from_is_err_and}
 use Rattle.aec_params.specs.Params.{IsAllowed}
+use Rattle.aec_params.specs.Limits.{most_samples}
 use Rattle.aec_interval.specs.IntervalFormat.{interval_format}
 use Rattle.aec_engine.specs.EarlyEdits.{not_read, lacks_room}
 use Rattle.aec_engine.proofs.ReorderedLemmas.{edits_planned}
@@ -17,7 +18,7 @@ edit_planned-requires-clause-empty g c =
       allowed = subst IsAllowed (sym judged.unread.start.settings) c.of-room.ensures.allowed;
       format = ap g.C.Codec.format c.in_ok-workspace.ensures.empty.codec_is ∙ c.requires.format ∙ ap interval_format (sym judged.unread.start.settings);
       limit_is = c.in_ok-workspace.ensures.empty.limit_is ∙ sym judged.limit;
-      bound = subst (λ n. n ≤ 2 ^ 32) (sym c.in_ok-workspace.ensures.empty.limit_is) judged.limits.samples;
+      bound = subst (λ n. n ≤ most_samples) (sym c.in_ok-workspace.ensures.empty.limit_is) judged.limits.samples;
       empty = c.in_ok-workspace.ensures.empty.samples;
       fresh = ap g.C.Codec.called c.in_ok-workspace.ensures.empty.codec_is ∙ c.requires.fresh;
     }

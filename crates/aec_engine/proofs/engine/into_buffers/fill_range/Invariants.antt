@@ -1,5 +1,6 @@
-use Rattle.std.proofs.Common.{◌≡◌, ◌-◌, ◌<◌, ◌≤◌, ◌^◌, Some, [], length, take, vec_capacity}
+use Rattle.std.proofs.Common.{◌≡◌, ◌-◌, ◌<◌, ◌≤◌, Some, [], length, take, vec_capacity}
 use Rattle.aec_params.specs.Params.{interval_len}
+use Rattle.aec_params.specs.Limits.{most_blocks}
 use Rattle.aec_engine.proofs.PutRangeLemmas.{PutsSoFar}
 use Rattle.aec_engine.proofs.engine.into_buffers.fill_range.Given as goal
 
@@ -13,4 +14,4 @@ invariant-loop-left l = record {
 }
 
 abbrev pub decreases-loop-left : goal.decreases-loop-left
-decreases-loop-left l = 2 ^ 34 - l.reader.block
+decreases-loop-left l = most_blocks - l.reader.block

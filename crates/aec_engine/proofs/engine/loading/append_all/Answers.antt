@@ -1,5 +1,6 @@
-use Rattle.std.proofs.Common.{arith, ◌<◌, ◌^◌, ◌≤◌, inl, ◌∙◌, ap, refl, sym, subst}
+use Rattle.std.proofs.Common.{arith, ◌<◌, ◌≤◌, inl, ◌∙◌, ap, refl, sym, subst}
 use Rattle.std.proofs.lemmas.Result.{err_from_is_err_and}
+use Rattle.aec_params.specs.Limits.{most_samples}
 use Rattle.aec_engine.specs.declared.scripts.EditFault.TheVariants.{Plain}
 use Rattle.aec_engine.specs.EditsAhead.{left_in}
 use Rattle.aec_engine.proofs.LoadingLemmas.{loads_none, loads_more, loads_all, loads_stops, loads_memory, append_lacks, early_stops}
@@ -31,7 +32,7 @@ returns-in_err-append-clause-refuses g c =
     (append_lacks c.args.reader.now c.loop-spare.reader c.next_intervals.new.reader _ _ _ _ (left_in c.args.ahead.now) (left_in c.loop-spare.ahead)
     c.loop-spare.workspace.samples _ c.deref.result.now
     c.requires.unread.read.0 _ _ _ allowed so_far.format c.requires.empty.format
-    (so_far.limit ∙ c.requires.empty.limit_is) (subst (λ n. n ≤ 2 ^ 32) (sym so_far.limit) c.requires.empty.bound) c.requires.unread.within so_far.loads
+    (so_far.limit ∙ c.requires.empty.limit_is) (subst (λ n. n ≤ most_samples) (sym so_far.limit) c.requires.empty.bound) c.requires.unread.within so_far.loads
     (c.in_ok-next_intervals.ensures.read c.if-branch.true) c.in_ok-next_intervals.ensures.ends c.requires.unread.read.1 c.deref.ensures.value
     (g.C.Codec.lawful c.loop-spare.workspace.codec).some c.in_err-append.ensures.applies.answer)))
 
@@ -46,7 +47,7 @@ returns-in_err-carry_early-clause-refuses g c =
     c.loop-spare.workspace.samples _ c.deref.result.now c.append.new.self.samples xs _ c.in_err-carry_early.field-0.0 allowed so_far.format
     (c.append.ensures.rules.format ∙ so_far.format) (c.append.ensures.rules.limit ∙ so_far.limit)
     (subst (λ f. 0 < f.most) so_far.format (g.C.Codec.lawful c.loop-spare.workspace.codec).some)
-    c.requires.unread.within (subst (λ n. n ≤ 2 ^ 32) c.requires.empty.limit_is c.requires.empty.bound) so_far.loads
+    c.requires.unread.within (subst (λ n. n ≤ most_samples) c.requires.empty.limit_is c.requires.empty.bound) so_far.loads
     (c.in_ok-next_intervals.ensures.read c.if-branch.true) c.in_ok-next_intervals.ensures.ends c.deref.ensures.value
     c.in_ok-append.ensures.applies.samples stops given))
 
@@ -74,7 +75,7 @@ returns-clause-ok g c =
     loads_all c.args.reader.now c.loop-spare.reader _ _ (left_in c.args.ahead.now) (left_in c.loop-spare.ahead) c.loop-spare.workspace.samples _
     c.requires.empty.allowed
     (subst (λ f. 0 < f.most) so_far.format (g.C.Codec.lawful c.loop-spare.workspace.codec).some) c.requires.unread.within
-    (subst (λ n. n ≤ 2 ^ 32) c.requires.empty.limit_is c.requires.empty.bound) so_far.loads (sym c.in_ok-next_intervals.ensures.more ∙ c.if-branch.false)
+    (subst (λ n. n ≤ most_samples) c.requires.empty.limit_is c.requires.empty.bound) so_far.loads (sym c.in_ok-next_intervals.ensures.more ∙ c.if-branch.false)
 
 pub loop-spare-smaller : goal.loop-spare-smaller
 loop-spare-smaller g c =

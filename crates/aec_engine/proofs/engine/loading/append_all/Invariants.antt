@@ -1,4 +1,5 @@
-use Rattle.std.proofs.Common.{◌≡◌, ◌-◌, ◌^◌}
+use Rattle.std.proofs.Common.{◌≡◌, ◌-◌}
+use Rattle.aec_params.specs.Limits.{most_blocks}
 use Rattle.aec_engine.specs.EditsAhead.{AreAhead, left_in}
 use Rattle.aec_engine.proofs.LoadingLemmas.{LoadsSoFar}
 use Rattle.aec_engine.proofs.engine.loading.append_all.Given as goal
@@ -13,4 +14,4 @@ invariant-loop-spare g l = record {
 }
 
 abbrev pub decreases-loop-spare : goal.decreases-loop-spare
-decreases-loop-spare g l = 2 ^ 34 - l.reader.block
+decreases-loop-spare g l = most_blocks - l.reader.block

@@ -1,4 +1,5 @@
-use Rattle.std.proofs.Common.{◌-◌, ◌^◌}
+use Rattle.std.proofs.Common.{◌-◌}
+use Rattle.aec_params.specs.Limits.{most_blocks}
 use Rattle.aec_engine.proofs.ReadTwiceLemmas.{CountsSoFar, IsNoted}
 use Rattle.aec_engine.proofs.engine.two_readings.judge_from.Given as goal
 
@@ -9,4 +10,4 @@ invariant-loop-len l = record {
 }
 
 abbrev pub decreases-loop-len : goal.decreases-loop-len
-decreases-loop-len l = 2 ^ 34 - l.reader.block
+decreases-loop-len l = most_blocks - l.reader.block

@@ -1,5 +1,6 @@
-use Rattle.std.proofs.Common.{◌≡◌, ◌+◌, ◌-◌, ◌*◌, ◌<◌, ◌≤◌, ◌^◌, vec_len, vec_capacity}
+use Rattle.std.proofs.Common.{◌≡◌, ◌+◌, ◌-◌, ◌*◌, ◌<◌, ◌≤◌, vec_len, vec_capacity}
 use Rattle.aec_params.specs.Params.{interval_len}
+use Rattle.aec_params.specs.Limits.{most_blocks}
 use Rattle.aec_engine.proofs.PutRangeLemmas.{PutsSoFar}
 use Rattle.aec_engine.proofs.engine.two_readings.put_range.Given as goal
 
@@ -15,4 +16,4 @@ invariant-loop-left g l = record {
 }
 
 abbrev pub decreases-loop-left : goal.decreases-loop-left
-decreases-loop-left g l = 2 ^ 34 - l.reader.block
+decreases-loop-left g l = most_blocks - l.reader.block
