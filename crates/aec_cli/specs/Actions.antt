@@ -3,7 +3,7 @@
 use Rattle.std.specs.Prelude.{ℕ, ◌^◌, Bool, Result, List}
 use Rattle.aec_params.specs.declared.settings.Settings.{Settings}
 use Rattle.aec_params.specs.declared.fault.Fault.{Fault}
-use Rattle.aec_params.specs.Limits.{Caps}
+use Rattle.aec_params.specs.Limits.{Caps, most_samples}
 use Rattle.aec_cli.specs.declared.job.Action.{Action}
 use Rattle.aec_cli.specs.declared.job.Action.TheVariants.{Encode, Decode, Range, Edit}
 use Rattle.aec_engine.specs.Transfers.{Input, are_past}
@@ -31,4 +31,4 @@ are_enough (Edit script count) s caps = are_past caps.bytes
 
 -- the limits of the program (COMMAND: Limits, time and memory)
 abbrev pub program_caps : Caps
-program_caps = record { samples = 2 ^ 32; bytes = 2 ^ 35 }
+program_caps = record { samples = most_samples; bytes = 2 ^ 35 }

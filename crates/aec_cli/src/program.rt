@@ -21,7 +21,7 @@ use crate::usage::Usage;
 use crate::words::parse;
 use aec_bits::{Sink, Source};
 use aec_engine::{EditFault, decode, edit, encode, range};
-use aec_params::{Fault, Limits, Params};
+use aec_params::{Fault, Limits, MAX_SAMPLES, Params};
 use clap::error::ErrorKind;
 use std::alloc::Global;
 use std::io::Write;
@@ -70,11 +70,11 @@ fn run_words<F: Files, O: Write, E: Write>(
     ended(run(rt, alloc, job), err)
 }
 
-/// The limits of the program: 2^32 samples, and 2^35 bytes of coded data.
+/// The limits of the program: `MAX_SAMPLES` samples, and 2^35 bytes of coded data.
 fn limits() -> Limits
     ensures { result ≡ program_caps }
 {
-    match Limits::new(1 << 32, 1 << 35) {
+    match Limits::new(MAX_SAMPLES, 1 << 35) {
         Some(limits) => limits,
         None => unreachable!(),
     }
