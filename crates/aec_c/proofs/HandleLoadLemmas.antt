@@ -1,5 +1,5 @@
 -- What loading a handle does, from the contracts of its steps.
-use Rattle.std.proofs.Common.{◌≡◌, ℕ, zero, suc, ◌+◌, ◌-◌, ◌/◌, ◌%◌, ◌==◌, min, Bool, true, false, if◌then◌else◌, ◌⊎◌, inl, inr, Option, None, Some, Ok, Err, List, [], ◌++◌, length, refl, ap, sym, ◌∙◌, ◌^◌, arith}
+use Rattle.std.proofs.Common.{◌≡◌, ℕ, zero, suc, ◌+◌, ◌-◌, ◌/◌, ◌%◌, ◌==◌, min, Bool, true, false, if◌then◌else◌, ◌⊎◌, inl, inr, Option, None, Some, Ok, Err, List, [], ◌++◌, length, refl, ap, sym, ◌∙◌, arith}
 use Rattle.std.specs.Prelude.{ℤ, MatchOption, is_some}
 use Rattle.std.specs.Int.{div_ceil}
 use Rattle.std.proofs.Math.Nat.{zero-div, zero-mod}
@@ -9,6 +9,7 @@ use Rattle.aec_params.specs.declared.fault.Fault.{Fault}
 use Rattle.aec_params.specs.declared.fault.Fault.TheVariants.{Memory}
 use Rattle.aec_params.specs.declared.edit.Edit.TheVariants.{Append}
 use Rattle.aec_params.specs.Edits.{needed_calls, opened_intervals}
+use Rattle.aec_params.specs.Limits.{most_samples}
 use Rattle.aec_bits.specs.Codec.{Format}
 use Rattle.aec_interval.specs.IntervalFormat.{interval_format}
 use Rattle.aec_edit.specs.Calls.{due_refusal, opened_at_most}
@@ -46,11 +47,11 @@ module _ (s : Settings) (w w' : OpenWorkspace) (xs : List ℤ) (fresh : IsFresh 
   abbrev due : Format → ℕ → List ℤ → ℕ → Option Fault
   due f limit samples calls = due_refusal f limit samples calls (Append xs)
 
-  due_is : due (format_of w) w.workspace.limit w.workspace.samples w.workspace.codec.calls ≡ due (interval_format s) (2 ^ 32) [] 0
+  due_is : due (format_of w) w.workspace.limit w.workspace.samples w.workspace.codec.calls ≡ due (interval_format s) most_samples [] 0
   due_is =
       ap (λ f. due f w.workspace.limit w.workspace.samples w.workspace.codec.calls) fresh.format
       ∙ (ap (λ l. due (interval_format s) l w.workspace.samples w.workspace.codec.calls) fresh.limit
-      ∙ (ap (λ l. due (interval_format s) (2 ^ 32) l w.workspace.codec.calls) fresh.samples ∙ ap (due (interval_format s) (2 ^ 32) []) fresh.calls))
+      ∙ (ap (λ l. due (interval_format s) most_samples l w.workspace.codec.calls) fresh.samples ∙ ap (due (interval_format s) most_samples []) fresh.calls))
 
   told : (fault : Fault) → (fault ≡ Memory) ⊎ (due (format_of w) w.workspace.limit w.workspace.samples w.workspace.codec.calls ≡ Some fault)
       → CannotHold s xs fault

@@ -1,5 +1,5 @@
 -- A reading that is kept between calls: the places that it reaches, and the way to an interval.
-use Rattle.std.proofs.Common.{◌≡◌, ℕ, ◌+◌, ◌-◌, ◌*◌, ◌/◌, ◌%◌, ◌<◌, ◌≤◌, ◌^◌, Bool, true, Option, List, [], Result, Err, IfErr, ℤ, ◌++◌, length, refl, sym, ap, subst, ◌∙◌, arith}
+use Rattle.std.proofs.Common.{◌≡◌, ℕ, ◌+◌, ◌-◌, ◌*◌, ◌/◌, ◌%◌, ◌<◌, ◌≤◌, Bool, true, Option, List, [], Result, Err, IfErr, ℤ, ◌++◌, length, refl, sym, ap, subst, ◌∙◌, arith}
 use Rattle.std.specs.Int.{div_ceil}
 use Rattle.std.proofs.Math.Nat.{add-mul, zero-mod, mul-le-mul_right}
 use Rattle.std.proofs.lemmas.Nat.{div-add-mod'}
@@ -9,6 +9,7 @@ use Rattle.aec_params.specs.declared.fault.Fault.{Fault}
 use Rattle.aec_params.specs.Params.{IsAllowed}
 use Rattle.aec_params.proofs.CountLaws.{ceil_bounds, ceil_unique}
 use Rattle.aec_params.proofs.SettingLaws.{interval-positive}
+use Rattle.aec_params.specs.Limits.{most_blocks, most_samples}
 use Rattle.aec_interval.specs.Pieces.{Place, place_at, is_wanted_at, IsPlace, ReadsInterval}
 use Rattle.aec_interval.specs.Skipping.{IsFaultAt}
 use Rattle.aec_interval.proofs.PlaceLemmas.{LeadsTo-append}
@@ -18,7 +19,7 @@ use Rattle.aec_c.specs.Standing.{Standing, standing_at, place_in, HasCounted, Is
 
 -- ---- what was counted
 
-pub counts_here : (p : Place) (before : ℕ) → HasCounted p before → p.block < 2 ^ 34 → CountsSoFar p p before
+pub counts_here : (p : Place) (before : ℕ) → HasCounted p before → p.block < most_blocks → CountsSoFar p p before
 counts_here p before has few = record {
   samples = has.samples;
   read = has.read;
@@ -102,9 +103,9 @@ standing_first p is = record {
   has = counted_none p.settings p.count p.limit p.bits;
 }
 
--- the samples before a place, and those of the next interval, are at most 2^40
-pub before_few : (p q : Place) (before : ℕ) (ys : List ℤ) → IsAllowed p.settings → HasCounted p before → ReadsInterval p ys q → q.block < 2 ^ 34
-    → before + length ys ≤ 2 ^ 40
+-- the samples before a place, and those of the next interval, are at most 64 times `most_blocks`
+pub before_few : (p q : Place) (before : ℕ) (ys : List ℤ) → IsAllowed p.settings → HasCounted p before → ReadsInterval p ys q → q.block < most_blocks
+    → before + length ys ≤ 64 * most_blocks
 before_few p q before ys a has step few =
     counts_few q q (before + length ys) (subst IsAllowed (sym (ap (λ (p : Place). p.settings) step.piece.same)) a)
     (counts_here q (before + length ys) (counted_on p q before ys a has step) few)
@@ -146,9 +147,9 @@ ReadsOn now i b len = (samples : List ℤ) × ReadsInterval now.place samples (p
 module _ (s : Settings) (count : Option ℕ) (bits : List Bool) (block bit before : ℕ) (now : Standing) (same : standing_at s count bits block bit before ≡ now)
     (st : IsStanding (standing_at s count bits block bit before)) where
   abbrev here : Place
-  here = place_at s count (2 ^ 32) bits block bit
+  here = place_at s count most_samples bits block bit
 
-  pub fits_on : (i b len : ℕ) → IsAllowed s → ReadsOn now i b len → IsPlace (place_in now.place i b) → before + len ≤ 2 ^ 40
+  pub fits_on : (i b len : ℕ) → IsAllowed s → ReadsOn now i b len → IsPlace (place_in now.place i b) → before + len ≤ 64 * most_blocks
   fits_on i b len a reads is =
       let r = rw (← same) at reads in let few = rw (← same) at is in
       omega (arith, before_few here (place_in here i b) before r.0 a st.has r.1 few.few, r.2)
@@ -169,7 +170,7 @@ module _ (s : Settings) (count : Option ℕ) (bits : List Bool) (block bit befor
   first_here = rw (← same) (standing_first here st.reached)
 
 -- a new reader, which has read nothing
-pub stands_new : (s : Settings) (count : Option ℕ) (bits : List Bool) (reader : Place) (block bit : ℕ) → reader ≡ place_at s count (2 ^ 32) bits 0 0
+pub stands_new : (s : Settings) (count : Option ℕ) (bits : List Bool) (reader : Place) (block bit : ℕ) → reader ≡ place_at s count most_samples bits 0 0
     → IsPlace reader → block ≡ reader.block → bit ≡ reader.bit → IsStanding (standing_at s count bits block bit 0)
 stands_new s count bits reader block bit is reached same_block same_bit =
-    rw (same_block, same_bit, is) (record { reached = rw is at reached; has = counted_none s count (2 ^ 32) bits })
+    rw (same_block, same_bit, is) (record { reached = rw is at reached; has = counted_none s count most_samples bits })

@@ -1,5 +1,5 @@
 -- The bound is enough for the code of any samples.
-use Rattle.std.proofs.Common.{◌≡◌, ℕ, ◌+◌, ◌*◌, ◌^◌, ◌≤◌, Bool, true, false, not, if◌then◌else◌, Option, Some, None, Result, Ok, ℤ, List, length, refl, sym, ap, ◌∙◌, arith}
+use Rattle.std.proofs.Common.{◌≡◌, ℕ, ◌+◌, ◌*◌, ◌≤◌, Bool, true, false, not, if◌then◌else◌, Option, Some, None, Result, Ok, ℤ, List, length, refl, sym, ap, ◌∙◌, arith}
 use Rattle.std.specs.Prelude.{◌&&◌, nat_le, nat_lt, is_none, IsTrue}
 use Rattle.std.specs.Int.{div_ceil}
 use Rattle.std.proofs.lemmas.Bool.{cond-true, and_from, le-leb}
@@ -10,6 +10,7 @@ use Rattle.aec_params.specs.Params.{IsAllowed, is_between, has_block_size, setti
 use Rattle.aec_params.specs.Codewords.{bytes_of}
 use Rattle.aec_params.specs.Streams.{stream_of}
 use Rattle.aec_params.proofs.ByteLaws.{length-bytes_of}
+use Rattle.aec_params.specs.Limits.{most_samples}
 use Rattle.aec_interval.proofs.TakingLemmas.{length-samples_of_bytes}
 use Rattle.aec_c.specs.Calls.{IsCoding, coded, not_allowed, not_coded, lacks_memory}
 use Rattle.aec_c.specs.Bounds.{block_count_of, most_bytes, bound_of, Suffices}
@@ -29,10 +30,10 @@ allowed-none s allowed =
     (Some BitsPerSample) (Some (if s.even_blocks then EvenBlockSize else BlockSize)) (Some Interval) (Some RestrictedWidth)
     allowed.bits allowed.block_size allowed.interval allowed.restricted
 
-bound_of-allowed : (s : Settings) (samples : ℕ) → IsAllowed s → samples ≤ 2 ^ 32 → bound_of s samples ≡ most_bytes s samples
+bound_of-allowed : (s : Settings) (samples : ℕ) → IsAllowed s → samples ≤ most_samples → bound_of s samples ≡ most_bytes s samples
 bound_of-allowed s samples allowed few =
-    cond-true (is_none (settings_fault s) && nat_le samples (2 ^ 32)) (most_bytes s samples) 0
-    (and_from (is_none (settings_fault s)) (nat_le samples (2 ^ 32)) (allowed-none s allowed) (le-leb samples (2 ^ 32) few))
+    cond-true (is_none (settings_fault s) && nat_le samples most_samples) (most_bytes s samples) 0
+    (and_from (is_none (settings_fault s)) (nat_le samples most_samples) (allowed-none s allowed) (le-leb samples most_samples few))
 
 in_bytes : (bits most intervals : ℕ) → bits ≤ most + 8 * intervals → div_ceil bits 8 ≤ div_ceil most 8 + intervals
 in_bytes bits most intervals within = omega arith

@@ -4,7 +4,7 @@ use Rattle.aec_params.specs.declared.settings.Settings.{Settings}
 use Rattle.aec_params.specs.declared.fault.Fault.{Fault}
 use Rattle.aec_params.specs.declared.fault.Fault.TheVariants.{Memory}
 use Rattle.aec_params.specs.Params.{IsAllowed, settings_fault}
-use Rattle.aec_params.specs.Limits.{Caps}
+use Rattle.aec_params.specs.Limits.{Caps, most_samples}
 use Rattle.aec_engine.specs.Transfers.{input_of}
 use Rattle.aec_engine.specs.Output.{IsRanged}
 use Rattle.aec_engine.specs.InMemory.{IsCodeOf, bytes_refusal, IsStoredReadingOf, RefusesCoded}
@@ -12,7 +12,7 @@ use Rattle.aec_c.specs.declared.options.Options.{Options}
 
 -- the greatest limits: the number of samples, and of coded bytes
 abbrev pub most : Caps
-most = record { samples = 2 ^ 32; bytes = 2 ^ 40 }
+most = record { samples = most_samples; bytes = 2 ^ 40 }
 
 -- C's fields as settings, each by its own name
 abbrev pub settings_of : Options → Settings

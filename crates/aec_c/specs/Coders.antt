@@ -1,11 +1,12 @@
 -- What the calls on a coder that takes samples in pieces do and reply.
-use Rattle.std.specs.Prelude.{◌≡◌, ℕ, ◌*◌, ◌/◌, ◌<◌, ◌≤◌, ◌^◌, Bool, Option, Some, None, MatchOption, Ok, List, [], ◌++◌, length, take, drop}
+use Rattle.std.specs.Prelude.{◌≡◌, ℕ, ◌*◌, ◌/◌, ◌<◌, ◌≤◌, Bool, Option, Some, None, MatchOption, Ok, List, [], ◌++◌, length, take, drop}
 use Rattle.aec_params.specs.declared.settings.Settings.{Settings}
 use Rattle.aec_params.specs.declared.fault.Fault.{Fault}
 use Rattle.aec_params.specs.declared.fault.Fault.TheVariants.{Memory}
 use Rattle.aec_params.specs.Params.{IsAllowed}
 use Rattle.aec_params.specs.Codewords.{bytes_of, padded_to_byte}
 use Rattle.aec_params.specs.Streams.{stream_of}
+use Rattle.aec_params.specs.Limits.{most_samples}
 use Rattle.aec_interval.specs.Feeding.{Coder, fresh_coder, Feeds, StopsFeeding}
 use Rattle.aec_engine.specs.Buffers.{left_of}
 use Rattle.aec_c.specs.declared.kinds.OpenCoder.{OpenCoder}
@@ -26,7 +27,7 @@ left_bits bits = drop (8 * (length bits / 8)) bits
 
 -- opening: a coder that was fed nothing replaces what was held, or a refusal changes nothing
 pub data OpensCoder (s : Settings) (old new : Option Open) (reply : Reply) : Type 0 where
-  opened : (made : OpenCoder) → IsAllowed s → coder_in new ≡ Some made → made.coder ≡ Some (fresh_coder s (2 ^ 32))
+  opened : (made : OpenCoder) → IsAllowed s → coder_in new ≡ Some made → made.coder ≡ Some (fresh_coder s most_samples)
       → made.bits.list ≡ [] → reply ≡ done 0
       → OpensCoder s old new reply
   not_opened : (fault : Fault) → CannotBegin s fault → new ≡ old

@@ -1,10 +1,11 @@
 -- What a handle is opened with, and what is read from it.
-use Rattle.std.specs.Prelude.{◌≡◌, ℕ, ◌^◌, Option, Some, None, Result, Ok, Err, List, [], ℤ, length, take, drop}
+use Rattle.std.specs.Prelude.{◌≡◌, ℕ, Option, Some, None, Result, Ok, Err, List, [], ℤ, length, take, drop}
 use Rattle.aec_params.specs.declared.settings.Settings.{Settings}
 use Rattle.aec_params.specs.declared.fault.Fault.{Fault}
 use Rattle.aec_params.specs.declared.fault.Fault.TheVariants.{Memory}
 use Rattle.aec_params.specs.Params.{IsAllowed}
 use Rattle.aec_params.specs.Codewords.{bytes_of}
+use Rattle.aec_params.specs.Limits.{most_samples}
 use Rattle.aec_bits.specs.Codec.{code_of}
 use Rattle.aec_interval.specs.IntervalFormat.{interval_format}
 use Rattle.aec_edit.specs.Calls.{range_refusal, IsDue}
@@ -21,7 +22,7 @@ use Rattle.aec_c.specs.HandleCalls.{format_of, not_open}
 -- decode
 pub record IsFresh (s : Settings) (w : OpenWorkspace) : Type 0 where
   pub samples : w.workspace.samples ≡ []
-  pub limit : w.workspace.limit ≡ 2 ^ 32
+  pub limit : w.workspace.limit ≡ most_samples
   pub calls : w.workspace.codec.calls ≡ 0
   pub reads : w.workspace.codec.reads ≡ 0
   pub format : format_of w ≡ interval_format s

@@ -1,10 +1,11 @@
 -- What the calls on a reader that returns samples interval by interval do and reply.
-use Rattle.std.specs.Prelude.{◌≡◌, ℕ, ◌*◌, ◌<◌, ◌≤◌, ◌^◌, ◌⊎◌, false, Option, Some, None, Ok, List, ℤ, length}
+use Rattle.std.specs.Prelude.{◌≡◌, ℕ, ◌*◌, ◌<◌, ◌≤◌, ◌⊎◌, false, Option, Some, None, Ok, List, ℤ, length}
 use Rattle.aec_params.specs.declared.settings.Settings.{Settings}
 use Rattle.aec_params.specs.declared.fault.Fault.{Fault}
 use Rattle.aec_params.specs.declared.fault.Fault.TheVariants.{Memory}
 use Rattle.aec_params.specs.Params.{IsAllowed, settings_fault, interval_len, storage_len}
 use Rattle.aec_params.specs.Codewords.{bits_of_bytes}
+use Rattle.aec_params.specs.Limits.{most_samples}
 use Rattle.aec_interval.specs.Reached.{count_refusal}
 use Rattle.aec_interval.specs.Pieces.{Place, is_wanted_at, HasRead, ReadsInterval}
 use Rattle.aec_interval.specs.Skipping.{IsFaultAt}
@@ -22,7 +23,8 @@ use Rattle.aec_c.specs.Standing.{standing_at, place_in, BeginsInterval, IsFaultO
 -- `Memory`
 abbrev pub CannotOpen : Settings → Option ℕ → Fault → Type 0
 CannotOpen s count fault =
-    (settings_fault s ≡ Some fault) ⊎ (IsAllowed s × ((fault ≡ Memory) ⊎ (count_refusal (2 ^ 32) count ≡ Some fault)))
+    (settings_fault s ≡ Some fault)
+    ⊎ (IsAllowed s × ((fault ≡ Memory) ⊎ (count_refusal most_samples count ≡ Some fault)))
 
 -- opening: a reader at the first bit of coded bytes replaces what was held, and the reply is how
 -- many bytes the samples of a whole interval take; or a refusal changes nothing

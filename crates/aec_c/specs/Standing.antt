@@ -1,7 +1,8 @@
 -- The place that a reading of coded bits has reached between two calls.
-use Rattle.std.specs.Prelude.{◌≡◌, ℕ, ◌+◌, ◌*◌, ◌≤◌, ◌^◌, Bool, true, Option, List, ℤ, length}
+use Rattle.std.specs.Prelude.{◌≡◌, ℕ, ◌+◌, ◌*◌, ◌≤◌, Bool, true, Option, List, ℤ, length}
 use Rattle.aec_params.specs.declared.settings.Settings.{Settings}
 use Rattle.aec_params.specs.declared.fault.Fault.{Fault}
+use Rattle.aec_params.specs.Limits.{most_samples}
 use Rattle.aec_interval.specs.Pieces.{Place, place_at, is_wanted_at, IsPlace, HasRead}
 use Rattle.aec_interval.specs.Skipping.{IsFaultBefore}
 use Rattle.aec_c.specs.declared.held_reader.Stand.{Stand}
@@ -13,7 +14,8 @@ pub record Standing : Type 0 where
 
 -- a place in these bits, under the greatest limit, with `before` samples before it
 abbrev pub standing_at : Settings → Option ℕ → List Bool → ℕ → ℕ → ℕ → Standing
-standing_at s count bits block bit before = record { place = place_at s count (2 ^ 32) bits block bit; before = before }
+standing_at s count bits block bit before =
+    record { place = place_at s count most_samples bits block bit; before = before }
 
 -- another place in the same bits under the same terms
 abbrev pub place_in : Place → ℕ → ℕ → Place

@@ -9,9 +9,9 @@ ghost use Rattle.aec_engine.specs.Buffers.{FillsOne, OrMemory};
 ghost use Rattle.aec_c.specs.Calls.{settings_of, count_of, most, IsCoding, IsDecoding, IsRanging};
 
 use crate::bound::bound_of;
-use crate::options::{MAX_CODED_BYTES, MAX_SAMPLES, Options, count_of, settings_of};
+use crate::options::{MAX_CODED_BYTES, Options, count_of, settings_of};
 use aec_engine::{decode_into, encode_into, range_into};
-use aec_params::{Fault, Limits, Params};
+use aec_params::{Fault, Limits, MAX_SAMPLES, Params};
 use std::alloc::Global;
 
 /// Returns the greatest limits.

@@ -1,16 +1,17 @@
 //! A length that no code exceeds.
 
-ghost use Rattle.std.specs.Prelude.{◌≡◌, ◌≤◌, ◌^◌};
+ghost use Rattle.std.specs.Prelude.{◌≡◌, ◌≤◌};
+ghost use Rattle.aec_params.specs.Limits.{most_samples};
 ghost use Rattle.aec_c.specs.Calls.{settings_of};
 ghost use Rattle.aec_c.specs.Bounds.{bound_of, most_bytes};
 
-use crate::options::{MAX_SAMPLES, Options, settings_of};
-use aec_params::Params;
+use crate::options::{Options, settings_of};
+use aec_params::{MAX_SAMPLES, Params};
 
 /// Returns the bound for allowed settings: five bits and the plain samples for each block, and a
 /// byte for each interval.
 fn bound_within(params: &Params, samples: u64) -> u64
-    requires { samples ≤ 2 ^ 32 }
+    requires { samples ≤ most_samples }
     ensures { result ≡ most_bytes params.now samples }
 {
     let size = u64::from(params.block_size());
@@ -20,7 +21,7 @@ fn bound_within(params: &Params, samples: u64) -> u64
 }
 
 /// Returns how many bytes always suffice for the code of this many samples; 0 if the options are
-/// refused or the samples are more than 2^32.
+/// refused or the samples are more than `MAX_SAMPLES`.
 pub(crate) fn bound_of(options: &Options, samples: u64) -> u64
     ensures { result ≡ bound_of (settings_of options.now) samples }
 {

@@ -1,9 +1,10 @@
 //! Samples coded in pieces by a coder that a handle holds.
 
-ghost use Rattle.std.specs.Prelude.{◌≡◌, ◌≤◌, ◌^◌, [], None, Some, Option, ◌/◌, length, drop, IfOk, IfErr};
+ghost use Rattle.std.specs.Prelude.{◌≡◌, ◌≤◌, [], None, Some, Option, ◌/◌, length, drop, IfOk, IfErr};
 ghost use Rattle.aec_params.specs.declared.fault.Fault.TheVariants.{Memory};
 ghost use Rattle.aec_params.specs.Params.{IsAllowed};
 ghost use Rattle.aec_params.specs.Codewords.{bytes_of};
+ghost use Rattle.aec_params.specs.Limits.{most_samples};
 ghost use Rattle.aec_interval.specs.Feeding.{fresh_coder};
 ghost use Rattle.aec_c.specs.Calls.{settings_of, CannotBegin};
 ghost use Rattle.aec_c.specs.Kinds.{value_in, coder_in};
@@ -13,19 +14,19 @@ ghost use Rattle.aec_c.specs.Coders.{OpensCoder, FeedsPiece, FinishesStream, Tak
 use crate::answers::params_of;
 use crate::handle::Handle;
 use crate::kinds::{Open, OpenCoder};
-use crate::options::{MAX_SAMPLES, Options};
+use crate::options::Options;
 use crate::reply::{Reply, answered, not_open, refused};
 use crate::settling::settle_slice;
 use aec_bits::{BitBuf, WriteSink};
 use aec_interval::StreamCoder;
-use aec_params::Fault;
+use aec_params::{Fault, MAX_SAMPLES};
 use std::alloc::Global;
 use std::mem;
 
 /// Returns a coder that was fed nothing.
 fn fresh_coder(alloc: Global, options: &Options) -> Result<OpenCoder, Fault>
     ensures ok { IfOk result (λ made. (IsAllowed (settings_of options.now))
-        × (made.coder ≡ Some (fresh_coder (settings_of options.now) (2 ^ 32)))
+        × (made.coder ≡ Some (fresh_coder (settings_of options.now) most_samples))
         × (made.bits.list ≡ [])) }
     ensures refuses { IfErr result
         (λ fault. CannotBegin (settings_of options.now) fault) }

@@ -115,7 +115,7 @@ pub extern "C" fn aecp_edit(
 }
 
 /// Returns how many bytes always suffice for the code of this many samples; 0 if they are none or
-/// more than 2^32, or if the options are refused.
+/// more than `MAX_SAMPLES`, or if the options are refused.
 #[unsafe(no_mangle)]
 pub extern "C" fn aecp_bound(options: &Options, samples: u64) -> u64
     ensures number { result ≡ bound_of (settings_of options.now) samples }

@@ -7,11 +7,11 @@ ghost use Rattle.aec_c.specs.HandleLoads.{AreRead, CannotRead, Holds, CannotHold
 use crate::handle::Handle;
 use crate::handle_reads::fresh_workspace;
 use crate::kinds::{Open, OpenWorkspace};
-use crate::options::{MAX_SAMPLES, Options, count_of, settings_of};
+use crate::options::{Options, count_of, settings_of};
 use crate::reply::{Reply, answered, refused};
 use aec_bits::BitBuf;
 use aec_interval::decode_all;
-use aec_params::{Fault, Params};
+use aec_params::{Fault, MAX_SAMPLES, Params};
 use std::alloc::Global;
 
 /// Returns the samples that coded bytes decode to.

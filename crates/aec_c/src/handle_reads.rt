@@ -11,13 +11,13 @@ ghost use Rattle.aec_c.specs.HandleReads.{IsFresh, Opens, size_in, calls_in, Wri
 
 use crate::handle::Handle;
 use crate::kinds::{Open, OpenWorkspace};
-use crate::options::{MAX_SAMPLES, Options, settings_of};
+use crate::options::{Options, settings_of};
 use crate::reply::{Reply, answered, not_open, refused};
 use crate::settling::settle;
 use aec_bits::WriteSink;
 use aec_edit::Workspace;
 use aec_interval::AecCodec;
-use aec_params::{Fault, Params};
+use aec_params::{Fault, MAX_SAMPLES, Params};
 use std::alloc::Global;
 
 /// Returns an empty workspace.

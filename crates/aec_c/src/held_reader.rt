@@ -1,12 +1,12 @@
 //! Coded bits, with the place that reading has reached.
 
-ghost use Rattle.std.specs.Prelude.{◌≡◌, ◌<◌, ◌^◌, ℕ, IfOk, IfErr, OnOk};
+ghost use Rattle.std.specs.Prelude.{◌≡◌, ◌<◌, ℕ, IfOk, IfErr, OnOk};
+ghost use Rattle.aec_params.specs.Limits.{most_blocks};
 ghost use Rattle.aec_c.specs.Standing.{place_in, HasCounted, IsOnWay, BeginsInterval, IsFaultOnWay};
 
-use crate::options::MAX_SAMPLES;
 use aec_bits::BitBuf;
 use aec_interval::{ReachedPlace, StreamReader};
-use aec_params::{Fault, Params};
+use aec_params::{Fault, MAX_SAMPLES, Params};
 use std::alloc::Global;
 use std::marker::Model;
 
@@ -49,7 +49,7 @@ fn skip_intervals(
 ) -> Result<u64, Fault>
     requires settings { reader.old.settings ≡ params.now }
     requires counted { HasCounted reader.old before }
-    requires few { reader.old.block < 2 ^ 34 }
+    requires few { reader.old.block < most_blocks }
     ensures ok { IfOk result (HasCounted reader.new) }
     ensures same { OnOk result
         (reader.new ≡ place_in reader.old reader.new.block reader.new.bit) }
@@ -74,11 +74,12 @@ fn skip_intervals(
 }
 
 impl HeldReader {
-    ghost use Rattle.std.specs.Prelude.{◌≡◌, ◌<◌, ◌≤◌, ◌+◌, ◌^◌, ◌⊎◌, List, ℤ, vec_capacity, Some, IfOk, IfErr, IfSome, IsOk, OnOk, OnErr, length};
+    ghost use Rattle.std.specs.Prelude.{◌≡◌, ◌<◌, ◌≤◌, ◌+◌, ◌⊎◌, List, ℤ, vec_capacity, Some, IfOk, IfErr, IfSome, IsOk, OnOk, OnErr, length};
     ghost use Rattle.std.specs.Option.{is_some};
     ghost use Rattle.aec_params.specs.declared.fault.Fault.TheVariants.{Memory};
     ghost use Rattle.aec_params.specs.Params.{IsAllowed, interval_len};
     ghost use Rattle.aec_params.specs.Codewords.{bits_of_bytes};
+    ghost use Rattle.aec_params.specs.Limits.{most_samples};
     ghost use Rattle.aec_interval.specs.Reached.{count_refusal};
     ghost use Rattle.aec_interval.specs.Pieces.{is_wanted_at, IsPlace, ReadsInterval, RefusesAt};
     ghost use Rattle.aec_c.specs.Standing.{standing_at, place_in, standing_in, HasCounted, IsStanding, IsOnWay, BeginsInterval, IsFaultOnWay};
@@ -93,7 +94,7 @@ impl HeldReader {
         ensures ok { IfOk result
             (λ made. made ≡ standing_at params count (bits_of_bytes coded.now) 0 0 0) }
         ensures refuses { IfErr result
-            (λ fault. (fault ≡ Memory) ⊎ (count_refusal (2 ^ 32) count ≡ Some fault)) }
+            (λ fault. (fault ≡ Memory) ⊎ (count_refusal most_samples count ≡ Some fault)) }
     {
         let bits = BitBuf::from_bytes(alloc, coded)?;
         let place = StreamReader::new(alloc, params, &bits, count, MAX_SAMPLES)?.place();

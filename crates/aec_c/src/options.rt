@@ -5,9 +5,6 @@ ghost use Rattle.aec_c.specs.Calls.{settings_of, count_of};
 
 use aec_params::Settings;
 
-/// The greatest number of samples of a stream or a workspace.
-pub(crate) const MAX_SAMPLES: u64 = 1 << 32;
-
 /// The greatest number of coded bytes.
 pub(crate) const MAX_CODED_BYTES: u64 = 1 << 40;
 

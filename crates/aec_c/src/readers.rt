@@ -1,9 +1,10 @@
 //! Samples read interval by interval by a reader that a handle holds.
 
-ghost use Rattle.std.specs.Prelude.{◌≡◌, ◌*◌, ◌^◌, ◌⊎◌, Some, None, IfOk, IfErr};
+ghost use Rattle.std.specs.Prelude.{◌≡◌, ◌*◌, ◌⊎◌, Some, None, IfOk, IfErr};
 ghost use Rattle.aec_params.specs.declared.fault.Fault.TheVariants.{Memory};
 ghost use Rattle.aec_params.specs.Params.{IsAllowed, interval_len, storage_len};
 ghost use Rattle.aec_params.specs.Codewords.{bits_of_bytes};
+ghost use Rattle.aec_params.specs.Limits.{most_samples};
 ghost use Rattle.aec_interval.specs.Reached.{count_refusal};
 ghost use Rattle.aec_c.specs.Calls.{settings_of, count_of};
 ghost use Rattle.aec_c.specs.Kinds.{value_in, reader_in};
@@ -30,7 +31,7 @@ fn fresh_reader(
     ensures ok { IfOk result (λ made. made.reader
         ≡ standing_at params count (bits_of_bytes coded.now) 0 0 0) }
     ensures refuses { IfErr result
-        (λ fault. (fault ≡ Memory) ⊎ (count_refusal (2 ^ 32) count ≡ Some fault)) }
+        (λ fault. (fault ≡ Memory) ⊎ (count_refusal most_samples count ≡ Some fault)) }
 {
     let reader = HeldReader::new(alloc, params, count, coded)?;
     let samples = Vec::with_capacity(alloc, params.interval_len() as usize)?;
