@@ -62,7 +62,7 @@ pub record TakesNext (old : EditsAhead) (from : Script) (new : EditsAhead) (to :
       ≡ after_listed to.edits.items to.lines.items (left_in new)
   pub counted : length from.edits.items ≡ length from.lines.items → length to.edits.items ≡ length to.lines.items
   pub fewer : more ≡ true → length (left_in new).edits < length (left_in old).edits
-  pub none : more ≡ false → left_in old ≡ no_edits
+  pub none : more ≡ false → left_in new ≡ no_edits
 
 -- Edits were taken out, each with its line, and those after them are left: one at least, if one was
 -- left.

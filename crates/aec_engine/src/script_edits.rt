@@ -171,10 +171,7 @@ impl<'p, 'a> EditsAhead<'p, 'a> {
             edits: Vec::new(alloc),
             lines: Vec::new(alloc),
         };
-        let mut more = self.take_next(alloc, &mut some)?;
-        while more && self.bytes_left() > stop {
-            more = self.take_next(alloc, &mut some)?;
-        }
+        while self.take_next(alloc, &mut some)? && self.bytes_left() > stop {}
         Ok(some)
     }
 }

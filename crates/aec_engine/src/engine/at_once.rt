@@ -1,6 +1,6 @@
 //! Applies the edits of a script many at a time.
 
-ghost use Rattle.std.specs.Prelude.{◌≡◌, ◌+◌, ◌-◌, ◌^◌, ◌<◌, ◌≤◌, ◌⊎◌, ◌×◌, Ok, length, slice_index, IfOk, IfErr};
+ghost use Rattle.std.specs.Prelude.{◌≡◌, ◌+◌, ◌-◌, ◌^◌, ◌<◌, ◌≤◌, ◌⊎◌, Ok, length, slice_index, IfOk, IfErr};
 ghost use Rattle.aec_params.specs.declared.fault.Fault.TheVariants.{Memory};
 ghost use Rattle.aec_edit.specs.Unchanged.{KeepsRules};
 ghost use Rattle.aec_engine.specs.declared.scripts.EditFault.TheVariants.{Plain};
