@@ -1,6 +1,6 @@
 //! Edits coded data by a script.
 
-ghost use Rattle.std.specs.Prelude.{◌≡◌, ◌+◌, ◌≤◌, ◌^◌, ◌⊎◌, tt, false, length, None, Ok, IfOk, IfErr, OnOk};
+ghost use Rattle.std.specs.Prelude.{◌≡◌, ◌+◌, ◌≤◌, ◌^◌, ◌⊎◌, false, length, None, Ok, IfOk, IfErr, OnOk};
 ghost use Rattle.std.specs.Io.KnownBytes.{Appends};
 ghost use Rattle.aec_params.specs.declared.fault.Fault.TheVariants.{Memory};
 ghost use Rattle.aec_params.specs.Codewords.{bytes_of};
