@@ -27,6 +27,7 @@ pub mod EarlyLemmas
 pub mod OneReadingLemmas
 pub mod PieceLemmas
 pub mod BatchLemmas
+pub mod BatchLaws
 pub mod DraftLemmas
 pub mod RebuildLemmas
 pub mod StepLemmas

@@ -32,23 +32,25 @@ impl<C: Codec> Workspace<C> {
     ghost use Rattle.aec_edit.specs.Batches.{all_needed, first_refusal};
     ghost use Rattle.aec_edit.specs.Batched.{HasCount, IsChangeOf, CanExchangeIn, IsExchangeFor, IsFitting, IsDueFor};
 
-    /// Judges edits in their order: fails with the first that doesn't fit the samples that the
-    /// edits before it leave, or that needs more calls of the codec than they leave.
-    pub(crate) fn judge_all(&self, edits: &[Edit]) -> Result<(), Stop>
+    /// Judges edits as `apply_all` does, but as if `left` calls of the codec were left, and applies
+    /// none. Returns how many calls the edits need one after the other. Fails with the first edit
+    /// that doesn't fit the samples that the edits before it leave, or that needs more calls than
+    /// they leave.
+    pub fn judge_all(&self, edits: &[Edit], left: u64) -> Result<u64, Stop>
         ensures ok { OnOk result (first_refusal (C.format self.now.codec) self.now.limit
-            self.now.samples (C.called self.now.codec) 0 edits.now ≡ None) }
-        ensures enough { OnOk result (C.called self.now.codec
-            + all_needed (C.format self.now.codec).most self.now.samples edits.now
-            ≤ 2 ^ 64 - 1) }
+            self.now.samples (2 ^ 64 - 1 - left) 0 edits.now ≡ None) }
+        ensures needed { IfOk result (λ needed. needed
+            ≡ all_needed (C.format self.now.codec).most self.now.samples edits.now) }
+        ensures enough { IfOk result (λ needed. needed ≤ left) }
         ensures refuses { IfErr result (λ stop. first_refusal (C.format self.now.codec)
-            self.now.limit self.now.samples (C.called self.now.codec) 0 edits.now ≡ Some stop) }
+            self.now.limit self.now.samples (2 ^ 64 - 1 - left) 0 edits.now ≡ Some stop) }
     {
         let mut count = self.count();
-        let mut left = u64::MAX - self.calls();
+        let mut rest = left;
         for (place, edit) in edits.iter().enumerate() {
-            match self.judge(count, left, edit) {
+            match self.judge(count, rest, edit) {
                 Ok(change) => {
-                    left -= change.needed;
+                    rest -= change.needed;
                     count = change.count;
                 }
                 Err(fault) => {
@@ -59,7 +61,7 @@ impl<C: Codec> Workspace<C> {
                 }
             }
         }
-        Ok(())
+        Ok(left - rest)
     }
 
     /// Returns an edit of `count` samples as an exchange. Fails if it doesn't fit, or if it needs

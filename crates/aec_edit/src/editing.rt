@@ -280,7 +280,8 @@ impl<C: Codec> Workspace<C> {
         ensures rules { KeepsRules C.format self.old self.new }
         ensures err { IfErr result (λ stop. stop.fault ≢ Memory → self.new ≡ self.old) }
     {
-        self.judge_all(edits)?;
+        let left = u64::MAX - self.calls();
+        self.judge_all(edits, left)?;
         match self.rebuild(edits) {
             Ok(coded) => Ok(coded),
             Err(fault) => Err(Stop {

@@ -38,7 +38,7 @@ leads-on f limit a b c es gs hs first second = record {
 }
 
 -- an edit that is made leads to the edits after it
-leads-made : (f : Format) (limit calls : ℕ) (s : List ℤ) (e : Edit) (n : ℕ) (rest : Listing) → due_refusal f limit s calls e ≡ None
+pub leads-made : (f : Format) (limit calls : ℕ) (s : List ℤ) (e : Edit) (n : ℕ) (rest : Listing) → due_refusal f limit s calls e ≡ None
     → LeadsToEdits f limit (left_with s calls) (listed n (change e) rest) (left_with (samples_after s e) (calls + needed_calls f.most (length s) e)) rest
 leads-made f limit calls s e n rest fits = record {
   same = edits_left-made f limit calls s e n rest.edits rest.lines fits;

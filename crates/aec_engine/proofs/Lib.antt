@@ -22,6 +22,7 @@ pub mod RangeInMemoryLemmas
 pub mod CallLemmas
 pub mod EditingLemmas
 pub mod EarlyEditLemmas
+pub mod AtOnceLemmas
 pub mod LoadingLemmas
 pub mod ReorderedLemmas
 pub mod PlannedLemmas

@@ -1,5 +1,5 @@
 -- What the private functions of the engine that carries out scripts return.
-use Rattle.std.specs.Prelude.{◌≡◌, ℕ, Some, None, Result, Ok, Err, ℤ, List, slice_index}
+use Rattle.std.specs.Prelude.{◌≡◌, ◌⊎◌, ℕ, Some, None, Result, Ok, Err, ℤ, List, slice_index}
 use Rattle.aec_params.specs.declared.fault.Fault.{Fault}
 use Rattle.aec_params.specs.declared.fault.Fault.TheVariants.{Memory}
 use Rattle.aec_params.specs.declared.edit.Edit.{Edit}
@@ -8,7 +8,7 @@ use Rattle.aec_bits.specs.Codec.{Format, code_of}
 use Rattle.aec_edit.specs.declared.outcome.Stop.{Stop}
 use Rattle.aec_edit.specs.Stops.{StopsAtRefusal}
 use Rattle.aec_engine.specs.declared.scripts.EditFault.{EditFault}
-use Rattle.aec_engine.specs.declared.scripts.EditFault.TheVariants.{Line}
+use Rattle.aec_engine.specs.declared.scripts.EditFault.TheVariants.{Plain, Line}
 use Rattle.aec_engine.specs.Scripts.{Listing, listing_of}
 use Rattle.aec_engine.specs.Transfers.{Input, Taking, are_past, Gave}
 use Rattle.aec_engine.specs.Editing.{script_refusal, edits_left, LacksMemoryOn, Recoded}
@@ -34,6 +34,12 @@ pub data StopsEditing (f : Format) (limit calls : ℕ) (s : List ℤ) (edits : L
       → StopsEditing f limit calls s edits lines fault
   lacks_memory : (line : ℕ) → LacksMemoryOn f limit calls s edits lines line
       → StopsEditing f limit calls s edits lines (Line line Memory)
+
+-- why edits that are applied as one were not: one is refused for a reason other than memory, or
+-- memory was lacking
+abbrev pub StopsAsOne : Format → ℕ → ℕ → List ℤ → List Edit → List ℕ → EditFault → Type 0
+StopsAsOne f limit calls s edits lines fault =
+    (fault ≡ Plain Memory) ⊎ (edits_left f limit calls s edits lines ≡ Err fault)
 
 -- the result of edits that were applied up to the first refused one, each with a line: no refusal,
 -- or the refusal with its line

@@ -1,12 +1,13 @@
 -- For proofs alone: no public contract cites this file.
 -- What is left of a script whose lines are read again when their edits are applied.
-use Rattle.std.specs.Prelude.{◌≡◌, ℕ, ◌+◌, ◌-◌, ◌^◌, ◌≤◌, ◌⊎◌, Option, Some, None, option_map, MatchOption, ⊤, [], length, drop}
+use Rattle.std.specs.Prelude.{◌≡◌, ℕ, ◌+◌, ◌-◌, ◌^◌, ◌<◌, ◌≤◌, ◌⊎◌, Bool, true, false, Option, Some, None, option_map, MatchOption, ⊤, [], length, drop}
 use Rattle.aec_edit.specs.Early.{IsInside}
 use Rattle.aec_engine.specs.declared.script_edits.NextEdit.{NextEdit}
 use Rattle.aec_engine.specs.declared.script_edits.EditsAhead.{EditsAhead}
+use Rattle.aec_engine.specs.declared.scripts.Script.{Script}
 use Rattle.aec_engine.specs.Numerals.{Text}
 use Rattle.aec_engine.specs.Scripts.{change, Listing, listed, listing_from}
-use Rattle.aec_engine.specs.ScriptLines.{lines_left, text_left}
+use Rattle.aec_engine.specs.ScriptLines.{after_listed, lines_left, text_left}
 use Rattle.aec_engine.specs.Planning.{planned_in}
 
 -- the text that is not read again yet
@@ -53,3 +54,19 @@ unread ahead = (length ahead.window.now - ahead.taken) + text_left (text_ahead a
 -- 2^62 times or more
 abbrev pub StopsAt : EditsAhead → ℕ → ℕ → Type 0
 StopsAt ahead count calls = MatchOption ahead.next ⊤ (λ next. (2 ^ 62 ≤ calls) ⊎ (IsInside count next.edit → ⊥))
+
+-- The edit that is next was moved to the end of a list of edits with their lines, and the edits
+-- after it are left. Or none was left.
+pub record TakesNext (old : EditsAhead) (from : Script) (new : EditsAhead) (to : Script) (more : Bool) : Type 0 where
+  pub same : after_listed from.edits.items from.lines.items (left_in old)
+      ≡ after_listed to.edits.items to.lines.items (left_in new)
+  pub counted : length from.edits.items ≡ length from.lines.items → length to.edits.items ≡ length to.lines.items
+  pub fewer : more ≡ true → length (left_in new).edits < length (left_in old).edits
+  pub none : more ≡ false → left_in new ≡ no_edits
+
+-- Edits were taken out, each with its line, and those after them are left: one at least, if one was
+-- left.
+pub record TakesSome (old new : EditsAhead) (some : Script) : Type 0 where
+  pub same : left_in old ≡ after_listed some.edits.items some.lines.items (left_in new)
+  pub counted : length some.edits.items ≡ length some.lines.items
+  pub fewer : 0 < length (left_in old).edits → length (left_in new).edits < length (left_in old).edits

@@ -26,8 +26,8 @@ pub use bytes_range::range_bytes;
 pub use coded_bytes::{encode_bytes, encode_into};
 pub use edited_streams::{Decoded, decode_edited};
 pub use engine::{
-    carry_out, decode, decode_at_into, decode_into, edit, edit_over, encode, offsets_into, range,
-    range_into,
+    carry_out, decode, decode_at_into, decode_into, edit, edit_at_once, edit_over, encode,
+    offsets_into, range, range_into,
 };
 pub use in_memory::decode_bytes;
 pub use numerals::parse_range;

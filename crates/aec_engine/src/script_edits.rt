@@ -1,15 +1,16 @@
 //! Judges whole scripts first, and reads each line again when its edit is applied.
 
-ghost use Rattle.std.specs.Prelude.{◌≡◌, ◌≢◌, ◌+◌, ◌^◌, ◌<◌, ◌≤◌, ℕ, Some, None, IfOk, IfErr, IfSome, MatchOption};
+ghost use Rattle.std.specs.Prelude.{◌≡◌, ◌≢◌, ◌+◌, ◌^◌, ◌<◌, ◌≤◌, ℕ, Some, None, true, false, length, IfOk, IfErr, IfSome, MatchOption};
 ghost use Rattle.aec_params.specs.declared.fault.Fault.TheVariants.{Memory, Script as ScriptFault};
 ghost use Rattle.aec_engine.specs.Scripts.{listed, listing_of, meaning_of, unknown};
-ghost use Rattle.aec_engine.specs.ScriptLines.{text_left};
+ghost use Rattle.aec_engine.specs.ScriptLines.{after_listed, text_left};
 ghost use Rattle.aec_engine.specs.Planning.{listing_in, text_behind};
-ghost use Rattle.aec_engine.specs.EditsAhead.{AreAhead, AreKnown, behind, left_in, no_edits, unread};
+ghost use Rattle.aec_engine.specs.EditsAhead.{AreAhead, AreKnown, TakesNext, TakesSome, behind, left_in, no_edits, unread};
 
 use crate::script_lines::{Line, parse_line};
 use crate::script_plan::{Plan, Planned};
 use crate::script_reading::{cut_line, edit_on_line};
+use crate::scripts::Script;
 use aec_params::{Edit, Fault};
 use std::alloc::Global;
 
@@ -43,6 +44,13 @@ pub(crate) fn judge_script(bytes: &[u8]) -> Result<(), Fault>
     }
     Ok(())
 }
+
+/// How many bytes of a script are read for edits that are applied as one. So their list takes a few
+/// MiB at most, besides the values of one line.
+const MAX_BYTES_AT_ONCE: usize = 1 << 18;
+
+/// Edits on fewer lines than this are applied one by one.
+const MIN_LINES_AT_ONCE: usize = 8;
 
 /// An edit of a script and the number of its line.
 #[derive(Drop)]
@@ -119,5 +127,51 @@ impl<'p, 'a> EditsAhead<'p, 'a> {
             }
         }
         Ok(())
+    }
+
+    /// Returns whether the text that isn't read yet has only a few lines.
+    pub(crate) fn are_few(&self) -> bool {
+        let text = self.rest.unwrap_or(&[]);
+        let ends = text.iter().filter(|byte| **byte == b'\n');
+        ends.take(MIN_LINES_AT_ONCE).count() < MIN_LINES_AT_ONCE
+    }
+
+    /// Returns how many bytes of the text aren't read yet.
+    fn bytes_left(&self) -> usize {
+        self.rest.map_or(0, |text| text.len())
+    }
+
+    /// Moves the next edit and its line to the end of a script, and reads lines up to the edit
+    /// after it. Returns false, and moves nothing, if no edit is left.
+    fn take_next(&mut self, alloc: Global, some: &mut Script) -> Result<bool, Fault>
+        requires ahead { AreAhead self.old }
+        ensures taken { IfOk result (TakesNext self.old some.old self.new some.new) }
+        ensures ahead { IfOk result (λ _. AreAhead self.new) }
+        ensures fault { IfErr result (λ e. e ≡ Memory) }
+    {
+        let Some(next) = self.next.take() else {
+            return Ok(false);
+        };
+        some.edits.push(next.edit)?;
+        some.lines.push(next.line)?;
+        self.advance(alloc)?;
+        Ok(true)
+    }
+
+    /// Takes out the next edits and their lines: at least one, if one is left, and as many as are
+    /// applied as one.
+    pub(crate) fn take_some(&mut self, alloc: Global) -> Result<Script, Fault>
+        requires ahead { AreAhead self.old }
+        ensures taken { IfOk result (TakesSome self.old self.new) }
+        ensures ahead { IfOk result (λ _. AreAhead self.new) }
+        ensures fault { IfErr result (λ e. e ≡ Memory) }
+    {
+        let stop = self.bytes_left().saturating_sub(MAX_BYTES_AT_ONCE);
+        let mut some = Script {
+            edits: Vec::new(alloc),
+            lines: Vec::new(alloc),
+        };
+        while self.take_next(alloc, &mut some)? && self.bytes_left() > stop {}
+        Ok(some)
     }
 }

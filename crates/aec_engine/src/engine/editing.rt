@@ -1,6 +1,6 @@
 //! Edits coded data by a script.
 
-ghost use Rattle.std.specs.Prelude.{◌≡◌, ◌+◌, ◌<◌, ◌≤◌, ◌^◌, ◌⊎◌, length, slice_index, None, Ok, IfOk, IfErr, OnOk};
+ghost use Rattle.std.specs.Prelude.{◌≡◌, ◌+◌, ◌≤◌, ◌^◌, ◌⊎◌, false, length, None, Ok, IfOk, IfErr, OnOk};
 ghost use Rattle.std.specs.Io.KnownBytes.{Appends};
 ghost use Rattle.aec_params.specs.declared.fault.Fault.TheVariants.{Memory};
 ghost use Rattle.aec_params.specs.Codewords.{bytes_of};
@@ -19,6 +19,7 @@ ghost use Rattle.aec_engine.specs.EarlyEdits.{IsEmptyFor, EditsSamples, EditsBit
 ghost use Rattle.aec_engine.specs.EditsAhead.{AreAhead, left_in};
 ghost use Rattle.aec_engine.specs.Delivering.{Delivers};
 
+use crate::engine::at_once::{carry_at_once, line_of};
 use crate::engine::bit_intake::read_bits;
 use crate::engine::intake::read_whole;
 use crate::engine::loading::{Room, append_all, judged_reader, roomy_workspace};
@@ -82,6 +83,46 @@ fn carry_rest<C: Codec>(
     Ok(())
 }
 
+/// Applies the edits that are ahead: many at a time, if `at_once` is set and they aren't few, else
+/// one by one. Returns how often the codec was called before, plus how many calls the edits need
+/// one after the other. Fails as `carry_rest` does, or with plain `Memory`.
+fn carry_ahead<C: Codec>(
+    alloc: Global,
+    workspace: &mut Workspace<C>,
+    ahead: &mut EditsAhead,
+    at_once: bool,
+) -> Result<u64, EditFault>
+    requires ahead { AreAhead ahead.old }
+    ensures ok { IfOk result (λ calls. edits_left (C.format workspace.old.codec)
+        workspace.old.limit (C.called workspace.old.codec) workspace.old.samples
+        (left_in ahead.old).edits (left_in ahead.old).lines
+        ≡ Ok (left_with workspace.new.samples calls)) }
+    ensures counted { at_once ≡ false
+        → IfOk result (λ calls. calls ≡ C.called workspace.new.codec) }
+    ensures refuses { IfErr result (λ fault. (fault ≡ Plain Memory)
+        ⊎ StopsEditing (C.format workspace.old.codec) workspace.old.limit
+        (C.called workspace.old.codec) workspace.old.samples
+        (left_in ahead.old).edits (left_in ahead.old).lines fault) }
+    ensures rules { KeepsRules C.format workspace.old workspace.new }
+{
+    if at_once && !ahead.are_few() {
+        let left = u64::MAX - workspace.calls();
+        let rest = carry_at_once(alloc, workspace, ahead, left)?;
+        return Ok(u64::MAX - rest);
+    }
+    carry_rest(alloc, workspace, ahead)?;
+    Ok(workspace.calls())
+}
+
+/// A workspace with the samples that a script leaves, and how many calls of the codec these samples
+/// need: those of loading, and those of each edit by itself. If edits were applied many at a time,
+/// the codec was called at most as often.
+#[derive(Drop)]
+struct Carried<C: Codec + Drop> {
+    workspace: Workspace<C>,
+    calls: u64,
+}
+
 /// Appends the samples of a reader to an empty workspace over a codec that has coded nothing,
 /// applies the edits of a plan to them, and returns the workspace.
 fn edit_planned<C: Codec + Drop>(
@@ -90,7 +131,8 @@ fn edit_planned<C: Codec + Drop>(
     reader: &mut StreamReader,
     mut workspace: Workspace<C>,
     plan: &Plan,
-) -> Result<Workspace<C>, EditFault>
+    at_once: bool,
+) -> Result<Carried<C>, EditFault>
     requires unread { IsUnread reader.old params.now }
     requires format { C.format workspace.codec ≡ interval_format params.now }
     requires empty { IsEmptyFor reader.old (C.format workspace.codec) workspace.limit
@@ -99,9 +141,12 @@ fn edit_planned<C: Codec + Drop>(
     requires sound { (listing_in plan.now).bad ≡ None }
     requires few { plan.now.lines_read + text_left (text_behind plan.now) ≤ 2 ^ 63 }
     ensures edits { EditsSamples params.now workspace.limit reader.old (listing_in plan.now)
-        (answer_by (λ w. recoded_of (C.format w.codec) w.samples (C.called w.codec)) result) }
-    ensures format { IfOk result (λ w. C.format w.codec ≡ interval_format params.now) }
-    ensures limit { IfOk result (λ w. w.limit ≡ workspace.limit) }
+        (answer_by (λ c. recoded_of (C.format c.workspace.codec) c.workspace.samples c.calls)
+        result) }
+    ensures counted { at_once ≡ false
+        → IfOk result (λ c. c.calls ≡ C.called c.workspace.codec) }
+    ensures format { IfOk result (λ c. C.format c.workspace.codec ≡ interval_format params.now) }
+    ensures limit { IfOk result (λ c. c.workspace.limit ≡ workspace.limit) }
 {
     let mut samples = room_at_once(alloc, params)?;
     let mut ahead = EditsAhead::new(alloc, plan)?;
@@ -113,17 +158,18 @@ fn edit_planned<C: Codec + Drop>(
         &mut workspace,
         &mut ahead,
     )?;
-    carry_rest(alloc, &mut workspace, &mut ahead)?;
-    Ok(workspace)
+    let calls = carry_ahead(alloc, &mut workspace, &mut ahead, at_once)?;
+    Ok(Carried { workspace, calls })
 }
 
-/// How coded bits are decoded: the parameters of their samples, the limits, and the number of
-/// samples, or `None` for all.
+/// How coded bits are edited: the parameters of their samples, the limits, the number of samples,
+/// or `None` for all; and whether edits may be applied many at a time.
 #[derive(Clone, Copy)]
 struct Terms {
     params: Params,
     limits: Limits,
     count: Option<u64>,
+    at_once: bool,
 }
 
 /// Decodes bits to samples, applies the edits of a script to them, and returns a workspace with the
@@ -136,22 +182,25 @@ fn edit_bits<C: Codec + Drop>(
     terms: Terms,
     bits: &BitBuf,
     script: &[u8],
-) -> Result<Workspace<C>, EditFault>
+) -> Result<Carried<C>, EditFault>
     requires format { C.format codec ≡ interval_format terms.params }
     requires fresh { C.called codec ≡ 0 }
     requires known { (listing_of script.now).bad ≡ None }
     ensures edits { EditsBits terms.params terms.limits terms.count bits.now.list
         (listing_of script.now)
-        (answer_by (λ w. recoded_of (C.format w.codec) w.samples (C.called w.codec)) result) }
-    ensures format { IfOk result (λ w. C.format w.codec ≡ interval_format terms.params) }
-    ensures limit { IfOk result (λ w. w.limit ≡ terms.limits.samples) }
+        (answer_by (λ c. recoded_of (C.format c.workspace.codec) c.workspace.samples c.calls)
+        result) }
+    ensures counted { terms.at_once ≡ false
+        → IfOk result (λ c. c.calls ≡ C.called c.workspace.codec) }
+    ensures format { IfOk result (λ c. C.format c.workspace.codec ≡ interval_format terms.params) }
+    ensures limit { IfOk result (λ c. c.workspace.limit ≡ terms.limits.samples) }
 {
     let params = terms.params;
     let (mut reader, judged) = judged_reader(alloc, &params, terms.limits, terms.count, bits)?;
     let room = Room::of(&params, judged);
     let plan = plan_script(alloc, &params, judged.total, script)?;
     let workspace = roomy_workspace(alloc, codec, terms.limits, room)?;
-    edit_planned(alloc, &params, &mut reader, workspace, &plan)
+    edit_planned(alloc, &params, &mut reader, workspace, &plan, terms.at_once)
 }
 
 /// Calls `begin`, and writes the bytes of the code of a workspace's samples. Fails with `Write` if
@@ -165,10 +214,43 @@ fn deliver_code<C: Codec, W: Sink>(workspace: &Workspace<C>, sink: &mut W) -> Re
     workspace.write_to(sink)
 }
 
-/// Does what `edit` does, over a codec of intervals that has coded nothing, and returns the
-/// workspace whose stream it wrote. The workspace shows how often the codec was called: once for
-/// each interval of the source's samples, and once for each interval that an edit codes. Fails as
-/// `edit` does.
+/// Does what `edit` does, and returns the workspace whose stream it wrote, and the number of calls
+/// that its samples need.
+fn edit_with<C: Codec + Drop, Q: Source, R: Source, W: Sink>(
+    alloc: Global,
+    codec: C,
+    terms: Terms,
+    script_source: &mut Q,
+    source: &mut R,
+    sink: &mut W,
+) -> Result<Carried<C>, EditFault>
+    requires format { C.format codec ≡ interval_format terms.params }
+    requires fresh { C.called codec ≡ 0 }
+    ensures leaves { let read : Taking
+        = taking_of Q.left Q.failed script_source.old script_source.new in
+        let took : Taking = taking_of R.left R.failed source.old source.new in
+        let put : Putting = putting_of W.taken W.begun W.mark W.failed sink.old sink.new in
+        LeavesRecoded terms.params terms.limits terms.count read took put
+        (answer_by (λ c. c.calls) result) }
+    ensures stream { IfOk result
+        (λ c. Appends (W.taken sink.old) (W.taken sink.new)
+        (bytes_of (code_of (C.format c.workspace.codec) c.workspace.samples))) }
+    ensures counted { terms.at_once ≡ false
+        → IfOk result (λ c. c.calls ≡ C.called c.workspace.codec) }
+    ensures format { IfOk result (λ c. C.format c.workspace.codec ≡ interval_format terms.params) }
+    ensures limit { IfOk result (λ c. c.workspace.limit ≡ terms.limits.samples) }
+{
+    let script = read_script(alloc, terms.limits, script_source)?;
+    let bits = read_bits(alloc, source, terms.limits.bytes())?;
+    let carried = edit_bits(alloc, codec, terms, &bits, &script)?;
+    deliver_code(&carried.workspace, sink)?;
+    Ok(carried)
+}
+
+/// Does what `edit` does, over a codec of intervals that has coded nothing, but applies the edits
+/// one by one, and returns the workspace whose stream it wrote. The workspace shows how often the
+/// codec was called: once for each interval of the source's samples, and once for each interval
+/// that an edit codes. Fails as `edit` does.
 pub fn edit_over<C: Codec + Drop, Q: Source, R: Source, W: Sink>(
     alloc: Global,
     codec: C,
@@ -193,19 +275,56 @@ pub fn edit_over<C: Codec + Drop, Q: Source, R: Source, W: Sink>(
     ensures format { IfOk result (λ w. C.format w.codec ≡ interval_format params.now) }
     ensures limit { IfOk result (λ w. w.limit ≡ limits.samples) }
 {
-    let script = read_script(alloc, limits, script_source)?;
-    let bits = read_bits(alloc, source, limits.bytes())?;
     let terms = Terms {
         params: *params,
         limits,
         count,
+        at_once: false,
     };
-    let workspace = edit_bits(alloc, codec, terms, &bits, &script)?;
-    deliver_code(&workspace, sink)?;
-    Ok(workspace)
+    match edit_with(alloc, codec, terms, script_source, source, sink) {
+        Ok(Carried { workspace, .. }) => Ok(workspace),
+        Err(fault) => Err(fault),
+    }
 }
 
-// bare: it only calls `edit_over`, which has edits
+/// Does what `edit` does, over a codec of intervals that has coded nothing, and returns the
+/// workspace whose stream it wrote. Fails as `edit` does.
+pub fn edit_at_once<C: Codec + Drop, Q: Source, R: Source, W: Sink>(
+    alloc: Global,
+    codec: C,
+    params: &Params,
+    limits: Limits,
+    count: Option<u64>,
+    script_source: &mut Q,
+    source: &mut R,
+    sink: &mut W,
+) -> Result<Workspace<C>, EditFault>
+    requires format { C.format codec ≡ interval_format params.now }
+    requires fresh { C.called codec ≡ 0 }
+    ensures leaves { let read : Taking
+        = taking_of Q.left Q.failed script_source.old script_source.new in
+        let took : Taking = taking_of R.left R.failed source.old source.new in
+        let put : Putting = putting_of W.taken W.begun W.mark W.failed sink.old sink.new in
+        LeavesEdited params.now limits count read took put (answer_by (λ w. tt) result) }
+    ensures stream { IfOk result
+        (λ w. Appends (W.taken sink.old) (W.taken sink.new)
+        (bytes_of (code_of (C.format w.codec) w.samples))) }
+    ensures format { IfOk result (λ w. C.format w.codec ≡ interval_format params.now) }
+    ensures limit { IfOk result (λ w. w.limit ≡ limits.samples) }
+{
+    let terms = Terms {
+        params: *params,
+        limits,
+        count,
+        at_once: true,
+    };
+    match edit_with(alloc, codec, terms, script_source, source, sink) {
+        Ok(Carried { workspace, .. }) => Ok(workspace),
+        Err(fault) => Err(fault),
+    }
+}
+
+// bare: it only calls `edit_at_once`, which has edits
 /// Reads a script whole, then the source, applies the edits of the script to the samples that the
 /// source codes (the first `count`, or all without a count), and writes the bytes of the code of
 /// the samples that the edits leave.
@@ -214,9 +333,9 @@ pub fn edit_over<C: Codec + Drop, Q: Source, R: Source, W: Sink>(
 /// script is read, then `Script` (up to here nothing is taken from the source); those of `decode`;
 /// `Memory`, also if there is no room to read a line again before its edit is applied. The run ends
 /// at the first edit that is refused for its place, the limit, its values or lack of calls, and the
-/// fault names its line. Edits may be applied in another order than the script's: the first of them
-/// that fails with `Memory` ends the run too, and the fault names its line. All other faults name
-/// no line. On these refusals nothing is written and `begin` isn't called. After `begin` it fails
+/// fault names its line. Edits may be applied in another order than the script's, or many at a
+/// time. If one that is applied alone fails with `Memory`, the fault names its line. All other
+/// faults name no line. On these refusals nothing is written and `begin` isn't called. After `begin` it fails
 /// only with `Write`, with a prefix of the bytes written.
 pub fn edit<Q: Source, R: Source, W: Sink>(
     alloc: Global,
@@ -233,7 +352,7 @@ pub fn edit<Q: Source, R: Source, W: Sink>(
         LeavesEdited params.now limits count read took put result }
 {
     let codec = AecCodec::new(alloc, *params);
-    edit_over(
+    edit_at_once(
         alloc,
         codec,
         params,
@@ -244,14 +363,6 @@ pub fn edit<Q: Source, R: Source, W: Sink>(
         sink,
     )?;
     Ok(())
-}
-
-/// Returns the line of the edit at a place of a script.
-fn line_of(script: &Script, place: usize) -> u64
-    requires { place < length script.now.lines.items }
-    ensures { result ≡ slice_index script.now.lines.items place }
-{
-    script.lines[place]
 }
 
 /// Applies the edits of a script, up to the first that is refused: the edits before it are applied,

@@ -6,8 +6,7 @@ use Rattle.aec_edit.proofs.workspace.Workspace.judge_all.Given as goal
 abbrev pub invariant-loop-place : goal.invariant-loop-place
 invariant-loop-place g l =
     let f = g.C.Codec.format l.self.codec in
-    let calls = g.C.Codec.called l.self.codec in
     record {
-      fit : FitSoFar f l.self.limit l.self.samples calls l.edits l.place l.count;
-      spent : calls + all_needed f.most l.self.samples (take l.place l.edits) + l.left ≡ 2 ^ 64 - 1;
+      fit : FitSoFar f l.self.limit l.self.samples (2 ^ 64 - 1 - l.left) l.edits l.place l.count;
+      spent : all_needed f.most l.self.samples (take l.place l.edits) + l.rest ≡ l.left;
     }

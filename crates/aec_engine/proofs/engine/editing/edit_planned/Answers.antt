@@ -20,17 +20,17 @@ returns-in_err-append_all-clause-edits g c =
     rw (exit.1, exit.2)
     (loading_stopped _ _ _ _ _ (rw (c.requires.format, c.in_ok-ahead.ensures.all) at c.in_err-append_all.ensures.refuses))
 
-pub returns-in_err-carry_rest-clause-edits : goal.returns-in_err-carry_rest-clause-edits
-returns-in_err-carry_rest-clause-edits g c =
-    let exit = err_from_is_err_and c.from_residual-in_err-carry_rest.result c.from_residual-in_err-carry_rest.ensures.1 in
+pub returns-in_err-calls-clause-edits : goal.returns-in_err-calls-clause-edits
+returns-in_err-calls-clause-edits g c =
+    let exit = err_from_is_err_and c.from_residual-in_err-calls.result c.from_residual-in_err-calls.ensures.1 in
     let rules = c.append_all.ensures.rules in
     rw (exit.1, exit.2)
     (rest_stopped _ _ _ _ (left_in c.append_all.new.ahead) _ _ (rw (c.requires.format, c.in_ok-ahead.ensures.all) at c.in_ok-append_all.ensures.ok) _
-    (rw (rules.format, c.requires.format, rules.limit) at c.in_err-carry_rest.ensures.refuses))
+    (rw (rules.format, c.requires.format, rules.limit) at c.in_err-calls.ensures.refuses))
 
 pub returns-clause-edits : goal.returns-clause-edits
 returns-clause-edits g c =
     let rules = c.append_all.ensures.rules in
-    rw (c.carry_rest.ensures.rules.format, rules.format, c.requires.format)
+    rw (c.carry_ahead.ensures.rules.format, rules.format, c.requires.format)
     (rest_made _ _ _ _ (left_in c.append_all.new.ahead) _ _ (rw (c.requires.format, c.in_ok-ahead.ensures.all) at c.in_ok-append_all.ensures.ok) _ _
-    (rw (rules.format, c.requires.format, rules.limit) at c.in_ok-carry_rest.ensures.ok))
+    (rw (rules.format, c.requires.format, rules.limit) at c.in_ok-calls.ensures.ok))
