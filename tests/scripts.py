@@ -81,6 +81,12 @@ def try_long_scripts(program, tally):
         program.write("source", source)
         tally.check(f"{what}: answer", program.run("--edit", "script", "source", "dest"), said(None))
         tally.check(f"{what}: DEST", program.read("dest"), wanted)
+    program.write("source", ZEROS)
+    program.write("script", b"insert 0 1\n" * 50_000 + b"truncate 50049\n" + b"insert 0 1\n" * 9)
+    program.write("dest", b"old")
+    answer = program.run("--edit", "script", "source", "dest")
+    tally.check("refused after 50,000 insertions: answer", answer, said("line 50001: position outside the 50048 samples"))
+    tally.check("refused after 50,000 insertions: DEST", program.read("dest"), b"old")
 
 
 def try_overwrites(program, tally):

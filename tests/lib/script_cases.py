@@ -122,7 +122,7 @@ def some_script(settings, count, chance, number):
         values = some_values(settings, chance, count if chance.random() < 0.2 else 1)
         place = some_place(settings, count - len(values), chance)
         lines.append(line_of("overwrite", [written(place, chance), *(value_written(x, chance) for x in values)], chance))
-    for _ in range(chance.choice([0, 1, 2, 5, 9])):
+    for _ in range(chance.choice([0, 1, 2, 5, 9, 40])):
         line, count = fitting_line(settings, count, chance)
         lines += [chance.choice(SKIPPED_LINES) for _ in range(chance.choice([0, 0, 1, 2]))] + [line]
     if number % 4 == 1:

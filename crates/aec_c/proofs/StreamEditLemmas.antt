@@ -17,7 +17,7 @@ use Rattle.aec_engine.specs.Transfers.{Input, input_of, are_past, Taking, Puttin
 use Rattle.aec_engine.specs.Output.{intake_refusal, IsRead}
 use Rattle.aec_engine.specs.Buffers.{left_of}
 use Rattle.aec_engine.specs.Scripts.{Listing, listing_of}
-use Rattle.aec_engine.specs.Editing.{script_refusal, first_calls, Recoded, IsEdited, no_script, LacksMemoryOn, GaveBoth, GivesEdited, script_refused, answered, LeavesRecoded, written, refused, not_written}
+use Rattle.aec_engine.specs.Editing.{script_refusal, first_calls, Recoded, IsEdited, no_script, LacksMemoryOn, GaveBoth, GivesEdited, script_refused, answered, LeavesRecoded, LeavesEdited, written, refused, not_written}
 use Rattle.aec_engine.specs.Editing as editing
 use Rattle.aec_engine.proofs.EditFrontLemmas.{editing-whole, scripts-whole}
 use Rattle.aec_c.specs.declared.stream_edits.EditReply.{EditReply}
@@ -97,14 +97,14 @@ module _ (s : Settings) (count : Option ℕ) (from source : Taking) (script code
   given_answer answer (editing.lacks_memory_on given input samples line gave read lacks) = memory_on given input samples line gave read lacks
 
   -- if a sink held nothing, after success it holds the edited bytes
-  pub edited_ok : (sink : Putting) (held : List ℕ) (calls : ℕ) (r : Result ℕ EditFault) → sink.before ≡ Some [] → sink.after ≡ Some held
+  edited_ok : (sink : Putting) (held : List ℕ) (calls : ℕ) (r : Result ℕ EditFault) → sink.before ≡ Some [] → sink.after ≡ Some held
       → LeavesRecoded s most count from source sink r → r ≡ Ok calls → IsEditing s count script coded (Ok held)
   edited_ok sink held calls r empty holds (written made gives appends begun sounds) is =
       let grown : Appends (Some []) (Some held) made.bytes = rw (empty, holds) at appends in rw grown (given_answer (Ok made) gives)
   edited_ok sink held calls r empty holds (refused fault gives nothing) is = absurd (cc)
   edited_ok sink held calls r empty holds (not_written made gives front begun fails) is = absurd (cc)
 
-  pub edited_err : (sink : Putting) (r : Result ℕ EditFault) (fault e : EditFault) → (fault ≡ Plain Write → e ≡ Plain Memory)
+  edited_err : (sink : Putting) (r : Result ℕ EditFault) (fault e : EditFault) → (fault ≡ Plain Write → e ≡ Plain Memory)
       → (e ≡ fault) ⊎ (fault ≡ Plain Write)
       → LeavesRecoded s most count from source sink r → r ≡ Err fault → IsEditing s count script coded (Err e)
   edited_err sink r fault e memory other leaves is = by_leaves r leaves is other
@@ -119,6 +119,26 @@ module _ (s : Settings) (count : Option ℕ) (from source : Taking) (script code
           let was : e ≡ f = cc in rw was (given_answer (Err f) gives)
       by_leaves r (refused f gives nothing) is (inr fails) = lacks (memory fails)
       by_leaves r (not_written made gives front begun fails) is other = let was : fault ≡ Plain Write = cc in lacks (memory was)
+
+  -- the same of a call that doesn't return the number of calls
+  pub edited_uncounted : (sink : Putting) (held : List ℕ) (r : Result (Unit {0}) EditFault) → sink.before ≡ Some [] → sink.after ≡ Some held
+      → LeavesEdited s most count from source sink r → r ≡ Ok tt → IsEditing s count script coded (Ok held)
+  edited_uncounted sink held r empty holds leaves is = by_counted leaves.counted leaves.leaves (sym is ∙ leaves.uncounted)
+    where
+      by_counted : (counted : Result ℕ EditFault) → LeavesRecoded s most count from source sink counted → Ok tt ≡ answer_by (λ calls. tt) counted
+          → IsEditing s count script coded (Ok held)
+      by_counted (Ok calls) leaves same = edited_ok sink held calls (Ok calls) empty holds leaves refl
+      by_counted (Err fault) leaves same = absurd (cc)
+
+  pub refused_uncounted : (sink : Putting) (r : Result (Unit {0}) EditFault) (fault e : EditFault) → (fault ≡ Plain Write → e ≡ Plain Memory)
+      → (e ≡ fault) ⊎ (fault ≡ Plain Write)
+      → LeavesEdited s most count from source sink r → r ≡ Err fault → IsEditing s count script coded (Err e)
+  refused_uncounted sink r fault e memory other leaves is = by_counted leaves.counted leaves.leaves (sym is ∙ leaves.uncounted)
+    where
+      by_counted : (counted : Result ℕ EditFault) → LeavesRecoded s most count from source sink counted → Err fault ≡ answer_by (λ calls. tt) counted
+          → IsEditing s count script coded (Err e)
+      by_counted (Ok calls) leaves same = absurd (cc)
+      by_counted (Err why) leaves same = let named : why ≡ fault = cc in edited_err sink (Err why) fault e memory other leaves (ap Err named)
 
 -- what was written into an empty sink is the code of `many` samples
 pub codes_many : (s : Settings) (f : Format) (samples : List ℤ) (before after : Option (List ℕ)) (held : List ℕ) (many : ℕ) → f ≡ interval_format s

@@ -15,7 +15,7 @@ use crate::options::{Options, count_of};
 use crate::reply::{Reply, refused};
 use crate::settling::settle_slice;
 use aec_bits::{Source, WriteSink};
-use aec_engine::{EditFault, edit_over};
+use aec_engine::{EditFault, edit_at_once};
 use aec_interval::AecCodec;
 use aec_params::{Fault, Params};
 use std::alloc::Global;
@@ -97,7 +97,7 @@ fn edited_bytes(
     let mut from = ByteSource::new(script);
     let mut source = ByteSource::new(bytes);
     let mut sink = WriteSink::new(Vec::new(alloc));
-    match edit_over(
+    match edit_at_once(
         alloc,
         codec,
         params,
