@@ -35,7 +35,7 @@ from lib.library_edits import try_scripts
 from lib.library_memory import try_freed, try_refusals, try_stacks
 from lib.library_offsets import try_offset_arguments, try_offsets
 from lib.library_room import try_room
-from lib.library_rows import ALL, EDITED, REFUSED, ROWS, SCRIPTED, Answer, Call
+from lib.library_rows import ALL, APPLIED, EDITED, REFUSED, ROWS, SCRIPTED, Answer, Call
 from lib.library_types import try_readme, try_types, try_version
 from lib.program import TOP, Program, Tally, add_case_options, numbers_of, raised
 from lib.refusing import build, has_compiler, print_skipped
@@ -44,7 +44,7 @@ from lib.settings import STANDARD_BLOCK_SIZES
 THEIRS = os.environ.get("LIBAEC", "/usr/bin/aec")
 NO_ROOM, MEMORY = 18, 12
 CALLS = {"bound", "decode", "decode_at", "encode", "offsets", "range", "text", "open", "load", "close", "read", "write", "size", "calls",
-         "version", "append", "insert", "overwrite", "remove", "truncate", "edit",
+         "version", "append", "insert", "overwrite", "remove", "truncate", "apply", "edit",
          "coder_open", "coder_feed", "coder_finish", "coder_take", "coder_close",
          "reader_open", "reader_next", "reader_go_to", "reader_close"}
 
@@ -137,7 +137,7 @@ def try_valgrind(in_c, tally):
     if not shutil.which("valgrind"):
         return
     judge = ["valgrind", "-q", "--leak-check=full", "--error-exitcode=9", in_c.program.path]
-    calls = [row[0] for row in [*ROWS, EDITED, SCRIPTED]] + [REFUSED[7][0], REFUSED[10][0]]
+    calls = [row[0] for row in [*ROWS, EDITED, SCRIPTED, APPLIED]] + [REFUSED[7][0], REFUSED[10][0]]
     for words in [call.words(100) for call in calls] + [["nulls"]]:
         ended = subprocess.run([*judge, *words], capture_output=True)
         tally.check(f"valgrind: {words[0]}: {ended.stderr[-300:]}", ended.returncode, 0)
@@ -295,7 +295,7 @@ def try_in_c(asked, folder, aecp, tally):
     try_readme(include, os.path.join(asked.library, "libaecp.a"), folder, tally)
     try_rows(in_c, aecp, tally)
     try_rooms(in_c, tally)
-    rows = [(call, Answer(0, 0, call.length_of(wanted), wanted, "no fault")) for call, wanted in [*ROWS, EDITED, SCRIPTED]]
+    rows = [(call, Answer(0, 0, call.length_of(wanted), wanted, "no fault")) for call, wanted in [*ROWS, EDITED, SCRIPTED, APPLIED]]
     library = build(folder)
     try_refusals(in_c, library, rows, Answer(MEMORY, 0, 0, b"", "out of memory"), tally)
     try_freed(Program(handles, folder), library, tally)

@@ -89,7 +89,7 @@ enum {
 /* As a sample count: all samples that the stream decodes to, including the filler at its end. */
 #define AECP_ALL UINT64_MAX
 
-/* Every call with a `reply`, except aecp_text and aecp_edit, returns `reply->fault`; aecp_edit returns `reply->reply.fault`. If a call that
+/* Every call with a `reply`, except aecp_text, returns `reply->fault`; aecp_edit and aecp_apply return `reply->reply.fault`. If a call that
  * fills `out` returns 0, its result is the first `len` bytes of `out` (in aecp_read: samples; in aecp_offsets: offsets), and what follows
  * them is unchanged.
  * Otherwise all of `out` is unchanged, and the call may be repeated. NO_ROOM is returned only if there is no other fault. To learn the
@@ -137,9 +137,9 @@ uint32_t aecp_offsets(const aecp_options *options, uint64_t count, const uint8_t
 uint32_t aecp_decode_at(const aecp_options *options, uint64_t bit, uint64_t count, const uint8_t *coded, size_t coded_len, void *out,
                         size_t out_len, aecp_reply *reply);
 
-/* How aecp_edit ended. `samples` is the number of samples of the edited stream, with AECP_NO_ROOM too, and 0 after every other fault. If an
- * edit of the script is refused, `line` is its line, counted from 1, and `reply` says why. Else `line` is 0, also for AECP_SCRIPT, where
- * `reply.place` is the line. */
+/* How aecp_edit or aecp_apply ended. `samples` is the number of samples after the edits, with AECP_NO_ROOM too, and 0 after every other
+ * fault. If an edit of the script is refused, `line` is its line, counted from 1, and `reply` says why. Else `line` is 0, also for
+ * AECP_SCRIPT, where `reply.place` is the line. */
 typedef struct {
     aecp_reply reply;
     uint64_t line;
@@ -212,6 +212,14 @@ uint32_t aecp_overwrite(aecp_handle *handle, uint64_t first, const int64_t *valu
 /* Inserts values before sample `first`, or after the last sample if `first` is the number of samples. Faults: those of aecp_append, and
  * OUT_OF_RANGE. Allocates a copy of the values. Trap: `first` can't be greater than the number of samples. */
 uint32_t aecp_insert(aecp_handle *handle, uint64_t first, const int64_t *values, size_t values_len, aecp_reply *reply);
+
+/* Applies a script of edits, as docs/COMMAND.md describes it, to the workspace. All lines apply, or none. `reply->reply.len` is the number
+ * of intervals that it coded: it codes each changed interval once, however many edits change it, and copies the code of the others. So it
+ * is faster than the five calls for many edits, and slower for one. Returns `reply->reply.fault`. Faults, in this order: NOT_OPEN;
+ * STREAM_TOO_LONG, if the script is longer than 2^40 bytes; SCRIPT; those of one edit, with its line: OUT_OF_RANGE, TOO_MANY_SAMPLES,
+ * SAMPLE_RANGE, SPENT; MEMORY, without a line. Allocates at most the sum of: twice the new code; 16 bytes for each interval; 24 for each
+ * byte of the script; eight for each sample of three intervals. Trap: it builds the whole new code, even for a single edit. */
+uint32_t aecp_apply(aecp_handle *handle, const void *script, size_t script_len, aecp_edit_reply *reply);
 
 /* Writes `len` samples, from sample `first` on, to `out`. Faults: OUT_OF_RANGE, MEMORY, NO_ROOM, NOT_OPEN. Allocates at most
  * 24 bytes for each sample of the intervals that contain these samples. Trap: `out_len` and `reply->len` are numbers of samples, not of

@@ -50,6 +50,25 @@ static uint32_t scripted(const asked *it, uint8_t *out, aecp_reply *reply) {
     return made.samples == 0 && made.line == (number == AECP_OUT_OF_RANGE) ? number : made.line == 1 && number == AECP_MEMORY ? number : 96;
 }
 
+/* Does the same by a script on a workspace. Only applied edits change the size, and a refusal for memory names no line. */
+static uint32_t applied(const asked *it, uint8_t *out, aecp_reply *reply) {
+    char script[64];
+    aecp_handle handle = AECP_HANDLE;
+    aecp_edit_reply made = {{99, 99, 99}, 99, 99};
+    int len = snprintf(script, sizeof script, "insert %llu 9\nappend\ninsert %llu 9 9\n", (unsigned long long)it->first,
+                       (unsigned long long)it->first);
+    uint32_t number = aecp_load(&it->options, it->count, it->given, it->given_len, &handle, reply);
+    if (number == 0) {
+        number = aecp_apply(&handle, script, (size_t)len, &made);
+        *reply = made.reply;
+        uint64_t size = number == 0 ? it->count + 3 : it->count;
+        if (aecp_size(&handle) != size || made.samples != (number == 0 ? size : 0) || made.line != 0) number = 95;
+    }
+    if (number == 0) number = aecp_write(&handle, out, it->room, reply);
+    aecp_close(&handle);
+    return number;
+}
+
 static uint32_t made(const asked *it, uint8_t *out, aecp_reply *reply) {
     if (!strcmp(it->call, "encode"))
         return aecp_encode(&it->options, it->given, it->given_len, out, it->room, reply);
@@ -61,6 +80,7 @@ static uint32_t made(const asked *it, uint8_t *out, aecp_reply *reply) {
         return aecp_offsets(&it->options, it->count, it->given, it->given_len, (uint64_t *)(void *)out, it->room / unit(it), reply);
     if (!strcmp(it->call, "edit")) return edited(it, out, reply);
     if (!strcmp(it->call, "script")) return scripted(it, out, reply);
+    if (!strcmp(it->call, "apply")) return applied(it, out, reply);
     return aecp_range(&it->options, it->count, it->first, it->len, it->given, it->given_len, out, it->room, reply);
 }
 

@@ -59,6 +59,53 @@ static void try_refusals(aecp_handle *handle) {
     holds(handle, wanted, 5, "refused");
 }
 
+/* Returns the fault of a script on a workspace, whose samples must stay if there is a fault. */
+static uint32_t refusal(aecp_handle *handle, const char *script, uint64_t line, uint64_t place) {
+    const int64_t wanted[] = {3, 4, 5, 6, 7};
+    uint64_t calls = aecp_calls(handle);
+    aecp_edit_reply made = {{99, 99, 99}, 99, 99};
+    uint32_t fault = aecp_apply(handle, script, strlen(script), &made);
+    check(fault == made.reply.fault && made.reply.len == 0 && made.samples == 0, script);
+    check(made.line == line && made.reply.place == place && aecp_calls(handle) == calls, script);
+    holds(handle, wanted, 5, script);
+    return fault;
+}
+
+/* Tests scripts that are refused: for their first line that is no edit, else for their first edit that doesn't fit. */
+static void try_bad_scripts(aecp_handle *handle) {
+    check(refusal(handle, "append 1\n\nAppend 1\nturn 7\n", 0, 3) == AECP_SCRIPT, "no edit");
+    check(refusal(handle, "append 256\n+\n", 0, 2) == AECP_SCRIPT, "no edit after one that doesn't fit");
+    check(refusal(handle, "# five\nappend 1 2\ntruncate 8\nremove 9 1\n", 3, 7) == AECP_OUT_OF_RANGE, "truncate behind");
+    check(refusal(handle, "append 1\nremove 0 6\noverwrite 0 9", 3, 0) == AECP_OUT_OF_RANGE, "overwrite of none");
+    check(refusal(handle, "insert 1 2 3 256\n", 1, 2) == AECP_SAMPLE_RANGE, "insert of 256");
+    check(refusal(handle, "overwrite 0 -1\n", 1, 0) == AECP_SAMPLE_RANGE, "overwrite by -1");
+}
+
+/* Tests scripts on workspaces of 48 zeros in intervals of 16 samples: an interval of zeros has the 14 bits 0000 00000000 01 (run of 2),
+ * and one with a 1 at place 4 has 4 + 8 + 8 for its first block, by the second extension 0001 00000000 1 1 00001 1, and 5 for the
+ * second, 0000 1. */
+static void try_scripts(void) {
+    const uint8_t one[] = {0x00, 0x04, 0x40, 0x30, 0xC2, 0x00, 0x08}, front[] = {0x10, 0x0C, 0x30, 0x80, 0x02};
+    const char *overwrite = "overwrite 20 1\n", *remove = "# the first interval\nremove 0 16\n\nappend\n";
+    aecp_options options = AECP_OPTIONS(8);
+    aecp_handle handle = AECP_HANDLE;
+    aecp_edit_reply made = {{99, 99, 99}, 99, 99};
+    int64_t zeros[48] = {0};
+    uint8_t out[MANY];
+    aecp_reply reply;
+    options.block_size = 8;
+    options.interval = 2;
+    check(aecp_open(&options, &handle, &reply) == AECP_OK && aecp_append(&handle, zeros, 48, &reply) == AECP_OK, "48 zeros");
+    check(aecp_apply(&handle, overwrite, strlen(overwrite), &made) == AECP_OK && made.reply.len == 1, "apply");
+    check(made.reply.place == 0 && made.line == 0 && made.samples == 48 && aecp_calls(&handle) == 4, "applied");
+    check(aecp_write(&handle, out, MANY, &reply) == AECP_OK && reply.len == 7 && memcmp(out, one, 7) == 0, "a 1 at place 20");
+    check(aecp_apply(&handle, remove, strlen(remove), &made) == AECP_OK && made.reply.len == 0 && made.samples == 32, "remove");
+    check(aecp_write(&handle, out, MANY, &reply) == AECP_OK && reply.len == 5 && memcmp(out, front, 5) == 0, "a 1 at place 4");
+    check(aecp_apply(&handle, 0, 0, &made) == AECP_OK && made.reply.len == 0 && made.samples == 32, "apply of NULL");
+    check(aecp_calls(&handle) == 4, "calls of scripts");
+    aecp_close(&handle);
+}
+
 static void try_stream(const aecp_options *options, aecp_handle *handle) {
     uint8_t out[MANY], plain[MANY], coded[MANY];
     aecp_reply reply, direct;
@@ -81,6 +128,7 @@ static void try_stream(const aecp_options *options, aecp_handle *handle) {
 static void try_empty(aecp_handle *handle) {
     uint8_t bytes[1] = {7};
     int64_t out[1] = {7};
+    aecp_edit_reply made = {{99, 99, 99}, 99, 99};
     aecp_reply reply;
     check(aecp_size(handle) == 0 && aecp_calls(handle) == 0, "size of none");
     check(aecp_append(handle, out, 1, &reply) == AECP_NOT_OPEN, "append to none");
@@ -88,6 +136,8 @@ static void try_empty(aecp_handle *handle) {
     check(aecp_insert(handle, 0, out, 1, &reply) == AECP_NOT_OPEN, "insert into none");
     check(aecp_remove(handle, 0, 0, &reply) == AECP_NOT_OPEN, "remove of none");
     check(aecp_truncate(handle, 0, &reply) == AECP_NOT_OPEN, "truncate of none");
+    check(aecp_apply(handle, "turn", 4, &made) == AECP_NOT_OPEN && made.reply.fault == AECP_NOT_OPEN, "apply to none");
+    check(made.reply.place == 0 && made.reply.len == 0 && made.line == 0 && made.samples == 0, "reply of apply to none");
     check(aecp_read(handle, 0, 0, out, 1, &reply) == AECP_NOT_OPEN && out[0] == 7, "read of none");
     check(aecp_write(handle, bytes, 1, &reply) == AECP_NOT_OPEN && bytes[0] == 7, "write of none");
     aecp_close(handle);
@@ -98,9 +148,11 @@ static void try_other_kind(const aecp_options *options) {
     aecp_coder coder = AECP_CODER;
     aecp_handle *handle = (aecp_handle *)&coder;
     int64_t out[1] = {7};
+    aecp_edit_reply made;
     aecp_reply reply;
     check(aecp_coder_open(options, &coder, &reply) == AECP_OK, "open a coder");
     check(aecp_append(handle, out, 1, &reply) == AECP_NOT_OPEN, "append to a coder");
+    check(aecp_apply(handle, 0, 0, &made) == AECP_NOT_OPEN, "apply to a coder");
     check(aecp_read(handle, 0, 0, out, 1, &reply) == AECP_NOT_OPEN && out[0] == 7, "read of a coder");
     check(aecp_size(handle) == 0 && aecp_calls(handle) == 0, "size of a coder");
     check(aecp_reader_go_to((aecp_reader *)&coder, 0, &reply) == AECP_NOT_OPEN, "a coder is no reader");
@@ -145,9 +197,11 @@ static void try_calls(void) {
     holds(&handle, 0, 0, "opened");
     try_edits(&handle);
     try_refusals(&handle);
+    try_bad_scripts(&handle);
     check(aecp_open(&none, &handle, &reply) == AECP_BITS_PER_SAMPLE && aecp_size(&handle) == 5, "refused open");
     try_stream(&options, &handle);
     try_nulls(&options);
+    try_scripts();
     try_other_kind(&options);
     check(aecp_open(&options, &handle, &reply) == AECP_OK && aecp_size(&handle) == 0, "opened again");
     aecp_close(&handle);

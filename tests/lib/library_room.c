@@ -3,7 +3,8 @@
  * call asks for. Before the call the program makes all buffers and the code of the samples, and
  * opens what the call needs. The words "refuse" and "grant" on standard error mark the call, in
  * which allocated bytes count. Prints the fault, the length of the result, the length of the code of
- * all samples, and aecp_bound of COUNT. */
+ * all samples, and aecp_bound of COUNT. The calls inserts, overwrites and appends apply a script of COUNT
+ * such lines, and their result is the edited stream. */
 #include <aecp.h>
 #include <inttypes.h>
 #include <stdio.h>
@@ -18,6 +19,7 @@ static size_t samples_len, coded_len, room;
 static uint8_t *samples, *coded, *back;
 static int64_t *numbers;
 static uint64_t *begins;
+static char *script;
 static aecp_handle handle;
 static aecp_coder coder;
 static aecp_reader reader;
@@ -54,6 +56,22 @@ static int is_made(const char *kind) {
     return 1;
 }
 
+static int is_list(void) {
+    return is("inserts") || is("overwrites") || is("appends");
+}
+
+/* Writes a script of COUNT lines of equal length, at scattered places. Returns whether it could. */
+static int is_written(void) {
+    const char *form = is("appends") ? "append 1\n" : is("inserts") ? "insert %07u 1\n" : "overwrite %07u 1\n";
+    char *at = script = malloc(20 * count + 1);
+    uint32_t state = 1;
+    for (uint64_t i = 0; script && i < count; i++) {
+        state = state * 1664525u + 1013904223u;
+        at += sprintf(at, form, (unsigned)((uint64_t)state * total >> 32));
+    }
+    return script != 0;
+}
+
 /* Opens what the call needs. Returns whether it could. */
 static int is_opened(void) {
     aecp_reply reply;
@@ -64,7 +82,8 @@ static int is_opened(void) {
         return !aecp_coder_finish(&coder, &reply);
     }
     if (is("next")) return !aecp_reader_open(&options, count, coded, coded_len, &reader, &reply);
-    if (is("read") || is("write") || is("asked"))
+    if (is_list() && !is_written()) return 0;
+    if (is("read") || is("write") || is("asked") || is_list())
         return !aecp_load(&options, AECP_ALL, coded, coded_len, &handle, &reply);
     return 1;
 }
@@ -92,6 +111,14 @@ static uint32_t edited(aecp_reply *reply) {
     return made.reply.fault;
 }
 
+/* Applies the script. */
+static uint32_t applied(aecp_reply *reply) {
+    aecp_edit_reply made;
+    aecp_apply(&handle, script, strlen(script), &made);
+    *reply = made.reply;
+    return made.reply.fault;
+}
+
 /* Returns the middle of the samples asked for. */
 static uint32_t ranged(aecp_reply *reply) {
     uint64_t first = count / 2, len = count / 4;
@@ -115,6 +142,7 @@ static uint32_t made(aecp_reply *reply) {
     if (is("next")) return read_all(reply);
     if (is("read")) return aecp_read(&handle, 0, count, numbers, count, reply);
     if (is("write")) return aecp_write(&handle, back, room, reply);
+    if (is_list()) return applied(reply);
     return is("asked") ? asked(reply) : 99;
 }
 
@@ -131,6 +159,7 @@ int main(int words_len, char **words) {
     if (write(2, "refuse\n", 7) != 7) return 2;
     uint32_t number = made(&reply);
     if (write(2, "grant\n", 6) != 6) return 2;
+    if (is_list() && number == 0 && aecp_write(&handle, 0, 0, &reply) != AECP_NO_ROOM) return 4;
     printf("%" PRIu32 " %" PRIu64 " %zu ", number, reply.len, coded_len);
     printf("%" PRIu64 "\n", aecp_bound(&options, count));
     return 0;

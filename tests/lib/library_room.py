@@ -89,6 +89,16 @@ def of_edit(call, lengths):
     return streams + 2 * 13 + 3 * interval(call) + 16 * intervals + 16 * 3
 
 
+# The bytes of a line of each script of library_room.c.
+LINES = {"inserts": 17, "overwrites": 20, "appends": 9}
+
+
+def of_apply(call, lengths):
+    intervals = -(-(call.samples + call.count) // call.settings.interval_len())
+    script = LINES[call.name] * call.count
+    return 2 * lengths.result + 16 * intervals + 24 * script + 3 * interval(call)
+
+
 def of_take(call, lengths):
     return 2 * lengths.result
 
@@ -124,6 +134,7 @@ SAID = {
     "edit": of_edit,
     "read": of_read,
     "write": of_write,
+    **dict.fromkeys(LINES, of_apply),
     "next": of_none,
     "asked": of_none,
 }
@@ -149,6 +160,9 @@ CALLS = [
     Call("take", "noise", SHORT, 2 * MIB),
     *(Call("edit", "noise", settings, 2 * MIB) for settings in (SHORT, LONGEST)),
     *(Call(name, "noise", LONG, 2 * MIB, 10_000) for name in ("read", "write")),
+    *(Call(name, "noise", SHORT, 2 * MIB, count) for name in LINES for count in (1, 10_000)),
+    *(Call(name, "zeros", LONGEST, 2 * MIB, count) for name in LINES for count in (1, 100)),
+    *(Call(name, "noise", SINGLE, 10_000, 70_000) for name in LINES),
     Call("asked", "noise", LONG, MIB, 1000),
 ]
 

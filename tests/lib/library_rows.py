@@ -64,6 +64,7 @@ ROWS = [
 # The samples of CODED with three numbers inserted, as library_calls.c does it.
 EDITED = (Call("edit", USUAL, CODED, 8, 2), bytes(plain_coder.stream([0, 1, 9, 9, 9, 2, 3, 4, 5, 6, 7], USUAL)))
 SCRIPTED = (EDITED[0]._replace(name="script"), EDITED[1])
+APPLIED = (EDITED[0]._replace(name="apply"), EDITED[1])
 NO_BIT = "the bit is past the stream's {} bits or, with padding, isn't a multiple of 8"
 # Each call with its number, place and text. The eight samples take 3 + 8 + 2 + 6 * 3 = 31 bits.
 REFUSED = [

@@ -34,14 +34,27 @@ static void fill(void) {
     }
 }
 
-/* Edits a stream by a script with each kind of edit; the last one appends the first 100 values. */
+/* Writes a script with each kind of edit; the last one appends the first 100 values. Returns its length. */
+static size_t write_script(char *script) {
+    int len = sprintf(script, "insert %d 0 1\nremove 0 700\noverwrite 5 1 0\ntruncate 900\nappend", FRONT);
+    for (int i = 0; i < 100; i++) len += sprintf(script + len, " %lld", (long long)values[i]);
+    return (size_t)len;
+}
+
+/* Edits a stream by the script. */
 static int is_edited(void) {
     static char script[8000];
     aecp_edit_reply edited;
-    int len = sprintf(script, "insert %d 0 1\nremove 0 700\noverwrite 5 1 0\ntruncate 900\nappend", FRONT);
-    for (int i = 0; i < 100; i++) len += sprintf(script + len, " %lld", (long long)values[i]);
-    if (aecp_edit(&options, SAMPLES, script, (size_t)len, coded, coded_len, back, ROOM, &edited)) return 0;
+    size_t len = write_script(script);
+    if (aecp_edit(&options, SAMPLES, script, len, coded, coded_len, back, ROOM, &edited)) return 0;
     return edited.samples == 1000;
+}
+
+/* Edits the workspace by the script. */
+static int is_applied(void) {
+    static char script[8000];
+    aecp_edit_reply applied;
+    return !aecp_apply(&handle, script, write_script(script), &applied) && applied.samples == 1000;
 }
 
 static int is(const char *name) {
@@ -67,6 +80,7 @@ static int ends(void) {
     if (is("remove")) return !aecp_remove(&handle, FRONT, PART, &reply);
     if (is("overwrite")) return !aecp_overwrite(&handle, FRONT, values, PART, &reply);
     if (is("insert")) return !aecp_insert(&handle, FRONT, values, PART, &reply);
+    if (is("apply")) return is_applied();
     if (is("read")) return !aecp_read(&handle, FRONT, PART, numbers, SAMPLES, &reply);
     if (is("write")) return !aecp_write(&handle, back, ROOM, &reply);
     if (is("size")) return aecp_size(&handle) == SAMPLES;

@@ -2,6 +2,8 @@
 
 from __future__ import annotations
 
+from typing import Optional
+
 BITS_PER_SAMPLE, BLOCK_SIZE, INTERVAL, RESTRICTED_WIDTH, SAMPLE_RANGE, TRUNCATED, VALUE_TOO_LARGE, RUN_TOO_LONG = range(1, 9)
 TOO_MANY_SAMPLES, OUT_OF_RANGE, MEMORY, SCRIPT, STREAM_TOO_LONG, EVEN_BLOCK_SIZE, NO_ROOM, NOT_OPEN = 9, 10, 12, 15, 16, 17, 18, 19
 BIT_OUT_OF_RANGE = 20
@@ -13,14 +15,15 @@ class Fault(ValueError):
     number  the number of the fault in aecp.h
     place   what aecp.h names for this number, such as an index or a bit, else 0
     line    the line of a script that is refused, counted from 1, else 0
+    edit    the index of the refused edit in a list that Workspace.edit got, counted from 0, else None
     """
 
-    def __init__(self, number: int, place: int, text: str, line: int = 0) -> None:
+    def __init__(self, number: int, place: int, text: str, line: int = 0, edit: Optional[int] = None) -> None:
         super().__init__(text)
-        self.number, self.place, self.text, self.line = number, place, text, line
+        self.number, self.place, self.text, self.line, self.edit = number, place, text, line, edit
 
-    def __reduce__(self) -> tuple[type[Fault], tuple[int, int, str, int]]:
-        return type(self), (self.number, self.place, self.text, self.line)
+    def __reduce__(self) -> tuple[type[Fault], tuple[int, int, str, int, Optional[int]]]:
+        return type(self), (self.number, self.place, self.text, self.line, self.edit)
 
 
 class OptionsRefused(Fault):
@@ -29,7 +32,7 @@ class OptionsRefused(Fault):
 
 class SampleRefused(Fault):
     """A sample is out of range. `index` is the place of the first such sample, counted from 0 among the samples of the call; for
-    an Encoder, among all its samples; for a script, among the values of `line`."""
+    an Encoder, among all its samples; for a script, among the values of `line`; for a list of edits, among those of `edit`."""
 
     @property
     def index(self) -> int:
@@ -91,6 +94,11 @@ KINDS: dict[int, type[Fault]] = {
     RUN_TOO_LONG: StreamRefused, OUT_OF_RANGE: RangeRefused, TOO_MANY_SAMPLES: LimitPassed, STREAM_TOO_LONG: LimitPassed,
     MEMORY: NoMemory, SCRIPT: ScriptRefused, NO_ROOM: NoRoom, NOT_OPEN: NotOpen, BIT_OUT_OF_RANGE: BitRefused,
 }  # fmt: skip
+
+
+def fault_of_edit(number: int, place: int, text: str, edit: int) -> Fault:
+    """Returns the exception for a refused edit of a list. Its text has the index of the edit."""
+    return KINDS.get(number, Fault)(number, place, f"edits[{edit}]: {text}", 0, edit)
 
 
 def fault_of(number: int, place: int, text: str, line: int = 0) -> Fault:

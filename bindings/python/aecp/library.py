@@ -78,6 +78,7 @@ def call_types() -> dict[str, tuple[Any, list[Any]]]:
     ends = [at, size, at, size, reply]
     edits: dict[str, list[Any]] = {
         "aecp_append": [handle, at, size, reply],
+        "aecp_apply": [handle, at, size, ctypes.POINTER(EditReply)],
         "aecp_coder_feed": [coder, at, size, reply],
         "aecp_coder_finish": [coder, reply],
         "aecp_coder_open": [options, coder, reply],

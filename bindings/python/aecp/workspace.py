@@ -9,8 +9,9 @@ from typing import Any, Callable, Optional, SupportsIndex, Union, overload
 
 from aecp.buffers import Readable, Source, Target, numpy_if_there, room_for
 from aecp.calls import number_of, place
-from aecp.faults import NO_ROOM, SAMPLE_RANGE, Fault, NotOpen, fault_of
-from aecp.library import LIBRARY, Handle, Reply, c_options, text_of
+from aecp.edits import Edits, is_script, script_of
+from aecp.faults import NO_ROOM, SAMPLE_RANGE, Fault, NotOpen, fault_of, fault_of_edit
+from aecp.library import LIBRARY, EditReply, Handle, Reply, c_options, text_of
 from aecp.options import Options, whole
 from aecp.samples import Numbers, Samples, several
 
@@ -99,6 +100,27 @@ class Workspace(MutableSequence[int]):
             count = len(self)
             first = max(first + count, 0) if first < 0 else min(first, count)
             return self._call("aecp_insert", first, numbers.at, numbers.len)
+
+    def edit(self, edits: Edits) -> int:
+        """Applies all edits, or none of them. Returns the number of intervals coded: each changed one once. For many edits this is faster
+        than a call for each.
+
+        edits: an iterable of the tuples ("overwrite", first, samples), ("append", samples), ("truncate", count), ("insert", first,
+        samples) and ("remove", first, length), with samples as for `append`. Or a script as `aecp.edit` takes it. Places count from 0, in
+        the result of the edits before.
+
+        Raises RangeRefused, SampleRefused, LimitPassed, with `edit`, the index of the refused edit, or in a script with its `line`;
+        NoMemory; ScriptRefused if a line is no edit. For tuples that are no edits: TypeError; ValueError for another name, or a place
+        that isn't 0 to 2^64 - 1; OverflowError if a sample doesn't fit 64 bits. Then no sample is changed.
+        """
+        script, made = script_of(edits), EditReply()
+        with self._lock:
+            number = LIBRARY.aecp_apply(self._handle, script.at, script.size, made)
+        if number == 0:
+            return made.reply.len
+        if made.line and not is_script(edits):
+            raise fault_of_edit(number, made.reply.place, text_of(made.reply), made.line - 1)
+        raise fault_of(number, made.reply.place, text_of(made.reply), made.line)
 
     def extend(self, samples: Iterable[int]) -> None:
         """Adds the samples of an iterable after the last one. Raises what append raises; TypeError for a single number."""

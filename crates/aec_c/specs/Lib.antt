@@ -9,6 +9,7 @@ pub mod HandleCalls
 pub mod HandleReads
 pub mod HandleLoads
 pub mod StreamEdits
+pub mod ScriptCalls
 pub mod Coders
 pub mod Standing
 pub mod Readers

@@ -7,13 +7,16 @@ ghost use Rattle.aec_c.specs.Calls.{settings_of, count_of};
 ghost use Rattle.aec_c.specs.HandleLoads.{Loads};
 ghost use Rattle.aec_c.specs.Kinds.{workspace_in};
 ghost use Rattle.aec_c.specs.HandleReads.{Opens, size_in, calls_in, WritesOut, ReadsOut};
+ghost use Rattle.aec_c.specs.ScriptCalls.{AppliesScript};
 
 use crate::handle::Handle;
 use crate::handle_edits::{append, apply_edit, insert, overwrite};
 use crate::handle_loads::load;
 use crate::handle_reads::{call_count, open_workspace, read_range, sample_count, write_code};
+use crate::handle_scripts::apply_script;
 use crate::options::Options;
 use crate::reply::Reply;
+use crate::stream_edits::EditReply;
 use aec_params::Edit;
 use std::alloc::Global;
 
@@ -110,6 +113,24 @@ pub extern "C" fn aecp_insert(
     *reply = insert(alloc, &mut inside, first, values);
     handle.put(inside);
     reply.fault
+}
+
+/// Applies all edits of a script, or none of them. Replies how many intervals were coded, and how
+/// many samples there are then. A refused script changes no sample; the reply names its line.
+#[unsafe(no_mangle)]
+pub extern "C" fn aecp_apply(
+    alloc: Global,
+    handle: &mut Handle,
+    script: &[u8],
+    reply: &mut EditReply,
+) -> u32
+    ensures applies { AppliesScript script.now handle.old.value handle.new.value reply.new }
+    ensures number { result ≡ reply.new.reply.fault }
+{
+    let mut inside = handle.take(alloc);
+    *reply = apply_script(alloc, &mut inside, script);
+    handle.put(inside);
+    reply.reply.fault
 }
 
 /// Opens an empty workspace. On success what the handle held is freed, and `len` is 0; on an error

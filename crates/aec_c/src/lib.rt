@@ -12,6 +12,7 @@ mod handle_calls;
 mod handle_edits;
 mod handle_loads;
 mod handle_reads;
+mod handle_scripts;
 mod held_reader;
 mod kinds;
 pub mod laws;

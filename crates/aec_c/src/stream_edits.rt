@@ -7,8 +7,9 @@ ghost use Rattle.aec_engine.specs.declared.scripts.EditFault.TheVariants.{Plain}
 ghost use Rattle.aec_engine.specs.Transfers.{answer_by};
 ghost use Rattle.aec_engine.specs.Buffers.{left_of};
 ghost use Rattle.aec_c.specs.Calls.{settings_of, count_of};
-ghost use Rattle.aec_c.specs.Replies.{refused_for, reply_to};
-ghost use Rattle.aec_c.specs.StreamEdits.{IsEditing, CodesSoMany, plain_answer, fault_in, line_in, line_of};
+ghost use Rattle.aec_c.specs.Replies.{reply_to};
+ghost use Rattle.aec_c.specs.StreamEdits.{IsEditing, CodesSoMany, plain_answer, line_of};
+ghost use Rattle.aec_c.specs.ScriptCalls.{none_applied};
 
 use crate::answers::{limits, params_of};
 use crate::options::{Options, count_of};
@@ -21,8 +22,8 @@ use aec_params::{Fault, Params};
 use std::alloc::Global;
 use std::io::Read;
 
-/// How a call that edits a stream ended: its reply; the line of the script whose edit is refused,
-/// or 0; and how many samples the edited stream codes, or 0.
+/// How a call that applies a script ended: its reply; the line of the script whose edit is refused,
+/// or 0; and how many samples there are after the edits, or 0.
 #[repr(C)]
 #[derive(Clone, Copy)]
 pub struct EditReply {
@@ -136,11 +137,9 @@ pub(crate) fn edited_stream(
     }
 }
 
-/// Returns the reply to a refused edit of a stream.
-fn refused_edit(fault: EditFault) -> EditReply
-    ensures reply { result.reply ≡ refused_for (fault_in fault) }
-    ensures line { result.line ≡ line_in fault }
-    ensures samples { result.samples ≡ 0 }
+/// Returns the reply to a script that is refused, with the line of the edit if one edit is.
+pub(crate) fn refused_edit(fault: EditFault) -> EditReply
+    ensures { result ≡ none_applied fault }
 {
     let (line, fault) = match fault {
         EditFault::Plain(fault) => (0, fault),

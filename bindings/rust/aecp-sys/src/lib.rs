@@ -57,7 +57,7 @@ pub struct aecp_reply {
     pub len: u64,
 }
 
-/// How `aecp_edit` ended.
+/// How `aecp_edit` or `aecp_apply` ended.
 #[repr(C)]
 #[derive(Clone, Copy, Debug, Default, PartialEq, Eq)]
 pub struct aecp_edit_reply {
@@ -172,6 +172,12 @@ extern "C" {
         values: *const i64,
         values_len: usize,
         reply: *mut aecp_reply,
+    ) -> u32;
+    pub fn aecp_apply(
+        handle: *mut aecp_handle,
+        script: *const c_void,
+        script_len: usize,
+        reply: *mut aecp_edit_reply,
     ) -> u32;
     pub fn aecp_read(
         handle: *mut aecp_handle,

@@ -1,5 +1,5 @@
 use crate::{number_of, raw, zeros, Error, Options};
-use std::fmt;
+use std::fmt::{self, Write};
 
 /// Why a script was not applied.
 #[derive(Clone, Copy, Debug, PartialEq, Eq, Hash)]
@@ -23,6 +23,101 @@ impl std::error::Error for EditError {
     fn source(&self) -> Option<&(dyn std::error::Error + 'static)> {
         Some(&self.error)
     }
+}
+
+/// An edit of the samples of a [`Workspace`](crate::Workspace). Places count from 0.
+#[derive(Clone, Copy, Debug, PartialEq, Eq, Hash)]
+pub enum Edit<'a> {
+    /// Replaces samples by the values, from sample `first` on.
+    Overwrite {
+        /// The place of the first replaced sample.
+        first: u64,
+        /// The new samples.
+        values: &'a [i64],
+    },
+    /// Appends the values after the last sample.
+    Append {
+        /// The new samples.
+        values: &'a [i64],
+    },
+    /// Keeps the first `count` samples.
+    Truncate {
+        /// The number of samples that stay.
+        count: u64,
+    },
+    /// Inserts the values before sample `first`, or after the last sample if `first` is the number
+    /// of samples.
+    Insert {
+        /// The place of the first new sample.
+        first: u64,
+        /// The new samples.
+        values: &'a [i64],
+    },
+    /// Removes `len` samples, from sample `first` on.
+    Remove {
+        /// The place of the first removed sample.
+        first: u64,
+        /// The number of removed samples.
+        len: u64,
+    },
+}
+
+/// Why a list of edits was not applied.
+#[derive(Clone, Copy, Debug, PartialEq, Eq, Hash)]
+pub struct ApplyError {
+    /// The index of the edit that is refused, counted from 0. `None` if no single edit is.
+    pub index: Option<usize>,
+    /// Why.
+    pub error: Error,
+}
+
+impl fmt::Display for ApplyError {
+    fn fmt(&self, f: &mut fmt::Formatter<'_>) -> fmt::Result {
+        if let Some(index) = self.index {
+            write!(f, "edit {index}: ")?;
+        }
+        self.error.fmt(f)
+    }
+}
+
+impl std::error::Error for ApplyError {
+    fn source(&self) -> Option<&(dyn std::error::Error + 'static)> {
+        Some(&self.error)
+    }
+}
+
+/// The greatest length of a word of a script, with the blank or the line feed beside it.
+const LONGEST_WORD: usize = 21;
+
+/// Appends the line of an edit to a script.
+fn push_line(script: &mut String, edit: &Edit<'_>) -> Result<(), Error> {
+    let (name, places, values): (&str, [Option<u64>; 2], &[i64]) = match *edit {
+        Edit::Overwrite { first, values } => ("overwrite", [Some(first), None], values),
+        Edit::Append { values } => ("append", [None, None], values),
+        Edit::Truncate { count } => ("truncate", [Some(count), None], &[]),
+        Edit::Insert { first, values } => ("insert", [Some(first), None], values),
+        Edit::Remove { first, len } => ("remove", [Some(first), Some(len)], &[]),
+    };
+    let words = 1 + places.len() + values.len();
+    script.try_reserve(words.saturating_mul(LONGEST_WORD)).map_err(|_| Error::Memory)?;
+    script.push_str(name);
+    for place in places.iter().flatten() {
+        write!(script, " {place}").expect("a String takes all text");
+    }
+    for value in values {
+        write!(script, " {value}").expect("a String takes all text");
+    }
+    script.push('\n');
+    Ok(())
+}
+
+/// Returns the script of these edits, a line for each.
+pub(crate) fn script_of(edits: &[Edit<'_>]) -> Result<String, Error> {
+    let mut script = String::new();
+    for edit in edits {
+        push_line(&mut script, edit)?;
+    }
+    Ok(script)
 }
 
 /// Applies a script of edits to the first `count` samples of a stream, or to all if `count` is

@@ -17,7 +17,8 @@
 //! ```
 //!
 //! [`offsets`] finds where intervals begin, and [`decode_at`] decodes from there on. [`Encoder`] and
-//! [`Decoder`] code and decode in pieces, [`Workspace`] and [`edit`] edit a stream.
+//! [`Decoder`] code and decode in pieces, [`Workspace`] and [`edit`] edit a stream. An [`Edit`] is
+//! one of many that [`Workspace::apply_all`] applies together.
 //!
 //! **A stream contains neither its options nor its sample count.** Keep both with the stream: no
 //! call is sure to notice wrong ones.
@@ -40,7 +41,7 @@ mod sample;
 mod streams;
 mod workspace;
 
-pub use editing::{edit, EditError};
+pub use editing::{edit, ApplyError, Edit, EditError};
 pub use error::Error;
 pub use options::Options;
 pub use sample::Sample;

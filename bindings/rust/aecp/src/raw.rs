@@ -10,7 +10,7 @@ pub use aecp_sys::AECP_ALL as ALL;
 /// The version of the header that the crate aecp-sys restates.
 pub use aecp_sys::AECP_VERSION as VERSION;
 use aecp_sys::{
-    aecp_append, aecp_bound, aecp_calls, aecp_close, aecp_coder_close, aecp_coder_feed,
+    aecp_append, aecp_apply, aecp_bound, aecp_calls, aecp_close, aecp_coder_close, aecp_coder_feed,
     aecp_coder_finish, aecp_coder_open, aecp_coder_take, aecp_decode, aecp_decode_at, aecp_edit,
     aecp_encode, aecp_handle as CHandle, aecp_insert, aecp_load, aecp_offsets, aecp_open,
     aecp_overwrite, aecp_range, aecp_read, aecp_reader_close, aecp_reader_go_to, aecp_reader_next,
@@ -253,6 +253,12 @@ impl Handle {
         self.with(|at, reply| unsafe {
             aecp_insert(at, first, values.as_ptr(), values.len(), reply)
         })
+    }
+
+    pub fn apply(&mut self, script: &[u8]) -> EditReply {
+        let at = self.0.get();
+        // SAFETY: as in `append`.
+        replied(|reply| unsafe { aecp_apply(at, script.as_ptr().cast(), script.len(), reply) })
     }
 
     pub fn read(&self, first: u64, len: u64, out: &mut [i64]) -> Reply {

@@ -1,8 +1,8 @@
 //! The calls of the crate over the linked library.
 
 use aecp::{
-    decode, decode_at, decode_range, edit, encode, offsets, Decoder, EditError, Encoder, Error,
-    Options, Workspace,
+    decode, decode_at, decode_range, edit, encode, offsets, ApplyError, Decoder, Edit, EditError,
+    Encoder, Error, Options, Workspace,
 };
 
 /// A walk of samples of `bits` bits.
@@ -253,6 +253,61 @@ fn edits_are_those_of_a_vector() {
     let again = Workspace::of_coded(&work.to_coded().unwrap(), Some(work.len()), &options).unwrap();
     assert_eq!(again.read(0, 250).unwrap(), list);
     assert!(Workspace::of_coded(&[0xff], Some(9), &options).is_err());
+}
+
+#[test]
+fn edits_applied_together_are_those_of_a_vector() {
+    let options = Options::new(16).with_signed(true).with_block_size(8).with_interval(2);
+    let mut list: Vec<i64> = walk(300, 15).iter().map(|&it| i64::from(it)).collect();
+    let mut work = Workspace::new(&options).unwrap();
+    work.append(&list).unwrap();
+    let (few, calls) = ([-32768, 2, 32767], work.calls());
+    let edits = [
+        Edit::Overwrite { first: 100, values: &few },
+        Edit::Insert { first: 7, values: &few[..2] },
+        Edit::Append { values: &[] },
+        Edit::Remove { first: 20, len: 11 },
+        Edit::Append { values: &few },
+        Edit::Truncate { count: 293 },
+    ];
+    let coded = work.apply_all(&edits).unwrap();
+    list[100..103].copy_from_slice(&few);
+    list.splice(7..7, few[..2].iter().copied());
+    list.drain(20..31);
+    list.extend(few);
+    list.truncate(293);
+    assert_eq!(work.read(0, 293).unwrap(), list);
+    assert_eq!((work.len(), work.calls()), (293, calls + coded));
+    assert_eq!(work.apply_all(&[]), Ok(0));
+}
+
+#[test]
+fn known_edits_have_the_known_code() {
+    let options = Options::new(8).with_block_size(8).with_interval(2);
+    let mut work = Workspace::new(&options).unwrap();
+    work.append(&[0; 48]).unwrap();
+    assert_eq!(work.apply_all(&[Edit::Overwrite { first: 20, values: &[1] }]), Ok(1));
+    assert_eq!(work.to_coded().unwrap(), [0x00, 0x04, 0x40, 0x30, 0xC2, 0x00, 0x08]);
+}
+
+#[test]
+fn a_refused_edit_of_a_list_is_named_and_nothing_changes() {
+    let mut work = Workspace::new(&Options::new(8)).unwrap();
+    work.append(&[1, 2, 3]).unwrap();
+    let refusals = [
+        (Edit::Truncate { count: 5 }, Error::Range { count: 4 }),
+        (Edit::Remove { first: u64::MAX, len: u64::MAX }, Error::Range { count: 4 }),
+        (Edit::Insert { first: 5, values: &[i64::MAX] }, Error::Range { count: 4 }),
+        (Edit::Overwrite { first: 0, values: &[0, i64::MIN] }, Error::Sample { index: 1 }),
+        (Edit::Append { values: &[0, 0, i64::MAX] }, Error::Sample { index: 2 }),
+    ];
+    for (refused, error) in refusals {
+        let edits = [Edit::Append { values: &[4] }, refused, Edit::Truncate { count: u64::MAX }];
+        let told = work.apply_all(&edits).unwrap_err();
+        assert_eq!(told, ApplyError { index: Some(1), error });
+        assert!(told.to_string().starts_with("edit 1: "));
+        assert_eq!((work.read(0, 3).unwrap(), work.len(), work.calls()), (vec![1, 2, 3], 3, 1));
+    }
 }
 
 #[test]
