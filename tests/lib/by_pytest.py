@@ -112,10 +112,11 @@ def run(suite: Suite, asked: argparse.Namespace, more: list[str], given: dict[st
     python = interpreter(*suite.needed, asked=asked.python)
     if python is None:
         return lacking(suite, suite.packages)
+    paths = [str(TOP / "bindings" / "python"), os.getenv("PYTHONPATH")]
     environment = {
         **os.environ,
         "AECP_LIBRARY": os.path.abspath(os.path.join(asked.library, "libaecp.so")),
-        "PYTHONPATH": str(TOP / "bindings" / "python"),
+        "PYTHONPATH": os.pathsep.join(filter(None, paths)),
         "PYTHONDONTWRITEBYTECODE": "1",
         **given,
     }

@@ -223,7 +223,7 @@ def test_a_workspace_as_an_array():
     """numpy takes a workspace as an array of 64-bit numbers, or of another type."""
     work = aecp.Workspace(OPTIONS, SAMPLES)
     assert _same(numpy.asarray(work), SAMPLES.astype("i8"))
-    assert _same(numpy.asarray(work, "<i2"), SAMPLES)
+    assert _same(numpy.asarray(work, "<i2"), SAMPLES) and _same(work.__array__("<i2"), SAMPLES)
     made = numpy.array(work)
     made[0] = 5
     assert work[0] == -300

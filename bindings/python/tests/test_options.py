@@ -18,6 +18,7 @@ CALLS = {
     "offsets": lambda options: aecp.offsets(CODED, 32, options),
     "edit": lambda options: aecp.edit(CODED, 32, "", options),
     "Workspace": aecp.Workspace,
+    "Workspace, no samples": lambda options: aecp.Workspace(options, aecp.Options(8)),
     "of_coded": lambda options: aecp.Workspace.of_coded(CODED, 32, options),
     "Encoder": aecp.Encoder,
     "Decoder": lambda options: aecp.Decoder(CODED, 32, options),

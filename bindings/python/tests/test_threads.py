@@ -98,6 +98,24 @@ def test_one_thread_closes():
         assert (len(work), repr(work)) == (0, "<closed Workspace>")
 
 
+def test_closing_waits_for_calls():
+    """After close no workspace is open, also if other threads' calls were running."""
+    for _ in range(CALLS):
+        work, begun = aecp.Workspace(aecp.Options(16)), threading.Event()
+
+        def append_or_close(number):
+            if number:
+                begun.set()
+                fault = raised(lambda: work.append(range(LONG)))
+                assert fault is None or isinstance(fault, aecp.NotOpen), fault
+            else:
+                begun.wait()
+                work.close()
+
+        assert in_threads(append_or_close) == []
+        assert repr(work) == "<closed Workspace>"
+
+
 def test_threads_append_3000_samples():
     """Eight threads that append 3,000 samples a call: the samples of each call lie side by side."""
     noise = drawn("appended", LONG - 1)
@@ -197,6 +215,28 @@ def test_threads_read_while_one_edits(pausing):
 
     assert in_threads(edit_or_read, pausing) == []
     assert work == states[-1]
+
+
+@pytest.mark.parametrize("read", [len, aecp.Workspace.calls], ids=["len", "calls"])
+def test_numbers_while_one_thread_edits(read):
+    """While one thread edits, neither the length nor `calls` gets smaller for another thread."""
+    work, ended = aecp.Workspace(aecp.Options(16), range(LONG)), threading.Event()
+
+    def edit_or_read(number):
+        try:
+            for _ in range(0 if number else ROUNDS):
+                work.overwrite(0, range(LONG))
+        finally:
+            if number == 0:
+                ended.set()
+        before = read(work)
+        while not ended.is_set():
+            now = read(work)
+            assert before <= now
+            before = now
+
+    assert in_threads(edit_or_read) == []
+    assert len(work) == LONG
 
 
 def test_threads_feed():
