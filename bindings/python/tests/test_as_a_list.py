@@ -9,7 +9,7 @@ import pytest
 from helpers import raised
 from hypothesis import settings
 from hypothesis import strategies as st
-from hypothesis.stateful import RuleBasedStateMachine, initialize, precondition, rule
+from hypothesis.stateful import RuleBasedStateMachine, initialize, rule
 
 STEPS = st.sampled_from([None, None, None, 1, 2, 3, -1, -2, -3])
 FAR = 10**9
@@ -152,11 +152,6 @@ class Machine(RuleBasedStateMachine):
     def reverse_iterated(self):
         self.both(lambda it: list(reversed(it)))
 
-    @precondition(lambda self: len(self.list) > 50)
-    @rule()
-    def clear(self):
-        self.both(lambda it: it.clear())
-
     @rule()
     def is_equal(self):
         """A workspace equals a list, a tuple, an array and a workspace of the same samples."""
@@ -187,6 +182,7 @@ class Machine(RuleBasedStateMachine):
         if self.work is not None:
             self.is_equal()
             self.code()
+            self.both(lambda it: it.clear())
             self.work.close()
 
 

@@ -63,6 +63,15 @@ def test_worked_values():
     assert caught.value.index == 1
 
 
+def test_more_samples_than_were_guessed():
+    """Without a count, a stream of a few bytes may have thousands of samples."""
+    coded = aecp.encode(bytes(9992), OPTIONS)
+    assert len(coded) * 4 < 9992
+    assert aecp.decode_bytes(coded, None, OPTIONS) == bytes(9992)
+    assert aecp.decode_bytes_at(coded, 0, None, OPTIONS) == bytes(9992)
+    assert aecp.decode_range_bytes(coded, None, 1, 9990, OPTIONS) == bytes(9990)
+
+
 def test_an_incomplete_sample_is_dropped():
     """Bytes at the end that make no whole sample are dropped."""
     for options in (aecp.Options(16), aecp.Options(24, three_byte=True), aecp.Options(32)):

@@ -4,7 +4,9 @@ import subprocess
 import sys
 
 import aecp
+import aecp.calls
 import pytest
+from helpers import CODED
 
 OPTIONS, STORED = aecp.Options(16), bytes(range(100)) * 2
 SHORT = aecp.Options(16, block_size=8, interval=2)
@@ -134,7 +136,7 @@ def test_arrays_that_cannot_be_written(numpy, coded):
 # The most memory that a process used is read from /proc: getrusage also counts that of its parent.
 WRONG_COUNT = """
 import re, resource, aecp
-options = aecp.Options(16)
+options = aecp.Options(16, block_size=8, interval=1)
 coded = aecp.encode(bytes(range(256)) * 2000, options)
 calls = (
     lambda: aecp.decode_bytes(coded, 2**31, options),
@@ -161,6 +163,26 @@ def test_a_wrong_count_takes_no_memory():
     """A count of 2^31 of a short stream is refused before memory is taken, also if there is little."""
     ended = subprocess.run([sys.executable, "-c", WRONG_COUNT], capture_output=True, text=True)
     assert (ended.returncode, ended.stdout, ended.stderr) == (0, "True\n", "")
+
+
+def test_a_wrong_count_asks_for_little_memory(monkeypatch):
+    """The memory that a call asks for is at most what the stream's bytes can mean."""
+    sizes = []
+
+    def room_for(size):
+        sizes.append(size)
+        return bytearray(size)
+
+    monkeypatch.setattr(aecp.calls, "room_for", room_for)
+    for call in (
+        lambda: aecp.decode_bytes(CODED, 2**31, SHORT),
+        lambda: aecp.decode_range_bytes(CODED, 2**31, 0, 2**31, SHORT),
+        lambda: aecp.decode_bytes_at(CODED, 0, 2**31, SHORT),
+    ):
+        with pytest.raises(aecp.StreamRefused):
+            call()
+    # A coded bit means at most a run of 64 blocks of 64 samples.
+    assert 0 < max(sizes) <= 8 * len(CODED) * 64 * 64 * SHORT.storage
 
 
 ZEROS = """
