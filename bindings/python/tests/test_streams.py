@@ -52,7 +52,7 @@ def test_the_fault_of_an_encoder_stays():
     for samples in (b"\4\x10", b"\1", b""):
         with pytest.raises(aecp.SampleRefused, match="^sample 4 is out of range$") as caught:
             coder.feed(samples)
-        assert caught.value.index == 4
+        assert caught.value.index == 4 and coder.count == 3
     with pytest.raises(aecp.SampleRefused):
         coder.finish()
     with pytest.raises(aecp.NotOpen):
@@ -181,6 +181,17 @@ def test_a_long_script():
     coded, count = aecp.edit(b"", 0, script, options)
     assert count == 40000 and len(coded) > 150000
     assert aecp.decode_bytes(coded, count, options) == array.array("I", [1, 2**32 - 1] * 20000).tobytes()
+
+
+def test_an_edited_stream_that_is_far_longer():
+    """A short script may make a stream many times as long as before."""
+    options = aecp.Options(32, block_size=8, interval=2)
+    # Each interval has equal samples, until one more sample moves all others.
+    stored = array.array("I", [i * 2654435761 % 2**32 for i in range(2000) for _ in range(16)]).tobytes()
+    before = aecp.encode(stored, options)
+    coded, count = aecp.edit(before, 32000, "insert 0 5", options)
+    assert count == 32001 and len(coded) > 2 * len(before) + 8192
+    assert aecp.decode_bytes(coded, count, options) == b"\5\0\0\0" + stored
 
 
 REFUSED = [
