@@ -13,7 +13,7 @@ from hypothesis import HealthCheck, settings
 
 MODULE = Path(__file__).resolve().parents[1]
 TOP = MODULE.parents[1]  # of a checkout: an sdist has only the folder MODULE
-SECONDS = 300
+SECONDS = 1200
 QUIET = [HealthCheck.too_slow, HealthCheck.filter_too_much]
 
 # For the tests, and for the processes that they start.
