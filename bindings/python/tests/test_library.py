@@ -10,6 +10,7 @@ import sys
 import aecp
 import pytest
 from aecp import levels, library
+from helpers import raised
 
 ENCODE = "import aecp; aecp.encode(b'', aecp.Options(8))"  # the library is loaded at the first call
 
@@ -61,6 +62,15 @@ def test_the_version_of_a_library(number, is_right):
         found = f"{number // 10000}.{number // 100 % 100}.0"
         with pytest.raises(OSError, match=f"^it has version {found}, and the module needs 1.0$"):
             library.judge_version(given)
+
+
+@pytest.mark.parametrize(("number", "is_right"), [(10299, False), (10300, True), (10400, True), (20300, False)])
+def test_an_older_minor_version(monkeypatch, number, is_right):
+    """A module of version 1.3 needs a library from 1.3 on."""
+    monkeypatch.setattr(library, "VERSION", 10300)
+    call = type("Call", (), {"__call__": lambda _: number})
+    given = type("Library", (), {"aecp_version": call()})
+    assert (type(raised(lambda: library.judge_version(given))) is OSError) != is_right
 
 
 @pytest.mark.skipif(shutil.which("cc") is None, reason="no C compiler, the command cc")
