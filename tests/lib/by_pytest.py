@@ -51,8 +51,8 @@ def has_modules(python: str, modules: str) -> bool:
 
 
 def interpreter(*needed: str, asked: Optional[str] = None) -> Optional[str]:
-    """Returns the interpreter `asked`, or this one, or /usr/bin/python3: the first that has the first
-    of the lists of modules that one of them has. Returns None if none has any."""
+    """Returns the interpreter `asked`, or this one, or /usr/bin/python3: the first that has the
+    first of the lists of modules that one of them has. Returns None if none has any."""
     paths = [asked] if asked else [sys.executable, "/usr/bin/python3"]
     for modules in needed:
         for path in filter(shutil.which, paths):
@@ -70,8 +70,8 @@ def lacking(suite: Suite, what: str) -> int:
 
 
 def counts_of(text: str, status: int) -> Counts:
-    """Returns the counts in the last line of pytest. A run that ended otherwise counts as one failure
-    more."""
+    """Returns the counts in the last line of pytest. A run that ended otherwise counts as one
+    failure more."""
     line = next((it for it in reversed(text.splitlines()) if re.search(r" in [0-9.]+s", it)), "")
     pairs = re.findall(r"(\d+) (passed|failed|skipped|error)", line)
     found = {name: int(number) for number, name in pairs}
@@ -85,7 +85,13 @@ def tested(suite: Suite, python: str, more: list[str], environment: dict[str, st
     """Runs pytest. Returns the counts, and prints what pytest says if something failed."""
     line = [python, "-m", "pytest", "-q", "-p", "no:cacheprovider", "-rs", "--tb=short", *more]
     ended = subprocess.run(
-        line, cwd=suite.folder, env=environment, capture_output=True, text=True, errors="replace", check=False
+        line,
+        cwd=suite.folder,
+        env=environment,
+        capture_output=True,
+        text=True,
+        errors="replace",
+        check=False,
     )
     counts = counts_of(ended.stdout, ended.returncode)
     if counts.failed:
@@ -103,7 +109,10 @@ def parts_of(suite: Suite, more: list[str]) -> list[list[str]]:
         return [more]
     names = sorted(it.stem for it in suite.folder.glob("test_*.py"))
     slow = suite.slow
-    return [[f"{it}.py"] for it in sorted(names, key=lambda it: slow.index(it) if it in slow else len(slow))]
+    return [
+        [f"{it}.py"]
+        for it in sorted(names, key=lambda it: slow.index(it) if it in slow else len(slow))
+    ]
 
 
 def run(suite: Suite, asked: argparse.Namespace, more: list[str], given: dict[str, str]) -> int:

@@ -1,5 +1,5 @@
-"""Settings and fixtures of the tests of the module aecp. One test, in a checkout after `make library`:
-python3 -m pytest bindings/python/tests -k NAME"""
+"""Settings and fixtures of the tests of the module aecp.
+One test, in a checkout with bin/libaecp.so: python3 -m pytest bindings/python/tests -k NAME"""
 
 import ctypes
 import importlib
@@ -90,7 +90,8 @@ def models(checkout, monkeypatch):
 
 @pytest.fixture
 def program(checkout):
-    """The path of a program aec that was built from the same checkout, or that AECP_PROGRAM names."""
+    """The path of a program aec that was built from the same checkout, or that AECP_PROGRAM
+    names."""
     named = os.getenv("AECP_PROGRAM")
     if named:
         assert os.path.exists(named), "AECP_PROGRAM names no file"

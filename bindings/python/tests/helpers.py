@@ -57,7 +57,9 @@ def in_threads(work, pausing=False):
         if fault is not None:
             faults.append(repr(fault))
 
-    threads = [threading.Thread(target=run, args=(number,), daemon=True) for number in range(THREADS)]
+    threads = [
+        threading.Thread(target=run, args=(number,), daemon=True) for number in range(THREADS)
+    ]
     for thread in threads:
         thread.start()
     for thread in threads:

@@ -35,7 +35,11 @@ def _drawn(dtype, bits):
 
 def _same(array, wanted):
     """Returns whether two arrays have the same samples, shape and dtype."""
-    return array.dtype == wanted.dtype and array.shape == wanted.shape and bool((array == wanted).all())
+    return (
+        array.dtype == wanted.dtype
+        and array.shape == wanted.shape
+        and bool((array == wanted).all())
+    )
 
 
 @pytest.mark.parametrize(("name", "bits"), TYPES.items())
@@ -88,8 +92,6 @@ def _frozen(array):
     return frozen
 
 
-
-
 SHAPES = {
     "three dimensions": lambda: SAMPLES.reshape(10, 3, 20),
     "frozen": lambda: _frozen(SAMPLES),
@@ -140,21 +142,29 @@ def test_integers_of_another_type(name):
 @pytest.mark.parametrize("name", ["float32", "float64", "bool", "object"])
 def test_arrays_of_no_integers(name):
     """Floats, bools and objects are refused."""
-    with pytest.raises(TypeError, match=rf"^samples must be an array of uint16 \(options.dtype\), not of {name}$"):
+    with pytest.raises(
+        TypeError, match=rf"^samples must be an array of uint16 \(options.dtype\), not of {name}$"
+    ):
         aecp.encode(numpy.ones(9, name), aecp.Options(16))
 
 
 @pytest.mark.parametrize("dtype", ["u2", "i4", "f8", "i1"])
 def test_arrays_for_signed_options(dtype):
     """So are arrays of another dtype if samples are signed."""
-    with pytest.raises(TypeError, match=r"^samples must be an array of int16 \(options.dtype\), not of "):
+    with pytest.raises(
+        TypeError, match=r"^samples must be an array of int16 \(options.dtype\), not of "
+    ):
         aecp.encode(SAMPLES.astype(dtype), OPTIONS)
 
 
 @pytest.mark.parametrize("mask", [None, [True, False]])
 def test_masked_arrays(mask):
     """A masked array is refused, also if it hides nothing."""
-    masked = numpy.ma.masked_array([1, 2], mask, "<u2") if mask else numpy.ma.masked_array([1], dtype="<u2")
+    masked = (
+        numpy.ma.masked_array([1, 2], mask, "<u2")
+        if mask
+        else numpy.ma.masked_array([1], dtype="<u2")
+    )
     text = r"^an array with a mask can't be coded: use its filled\(\)$"
     for call in (aecp.encode, lambda given, options: aecp.Encoder(options).feed(given)):
         with pytest.raises(TypeError, match=text):

@@ -1,5 +1,5 @@
-"""A workspace does what a list does: random calls on both return the same, or raise the same kind of
-exception, and leave the same samples."""
+"""A workspace does what a list does: random calls on both return the same, or raise the same kind
+of exception, and leave the same samples."""
 
 import array
 from collections.abc import MutableSequence
@@ -173,7 +173,9 @@ class Machine(RuleBasedStateMachine):
         key = slice(key.start, key.stop)
         wrong = data.draw(st.sampled_from([self.options.least - 1, self.options.most + 1]))
         new = self.new(data, 20)
-        with pytest.raises(aecp.SampleRefused, match=f"^sample {len(new)} is out of range$") as caught:
+        with pytest.raises(
+            aecp.SampleRefused, match=f"^sample {len(new)} is out of range$"
+        ) as caught:
             self.work[key] = [*new, wrong, 0, wrong]
         assert caught.value.index == len(new)
         assert list(self.work) == self.list
@@ -198,7 +200,9 @@ def test_it_is_a_sequence():
         hash(work)
 
 
-@pytest.mark.parametrize("other", [b"\1\2", bytearray(b"\1\2"), "12", memoryview(b"\1\2"), {1, 2}, None])
+@pytest.mark.parametrize(
+    "other", [b"\1\2", bytearray(b"\1\2"), "12", memoryview(b"\1\2"), {1, 2}, None]
+)
 def test_it_equals_no_bytes(other):
     """A workspace doesn't equal bytes, text or a set."""
     assert aecp.Workspace(aecp.Options(8), [1, 2]) != other

@@ -42,9 +42,8 @@ def test_the_configuration():
     """numcodecs makes the same codec from its configuration, with each option."""
     codec = Aecp(12, block_size=8, interval=3, signed=True, msb_first=True, pad=True)
     config = codec.get_config()
-    assert config == {
-        "id": "aecp", "bits": 12, "block_size": 8, "interval": 3, "signed": True, "msb_first": True, "pad": True,
-    }  # fmt: skip
+    numbers = {"id": "aecp", "bits": 12, "block_size": 8, "interval": 3}
+    assert config == {**numbers, "signed": True, "msb_first": True, "pad": True}
     numcodecs.register_codec(Aecp)
     again = numcodecs.get_codec(config)
     assert type(again) is Aecp and again.usual == codec.usual and again == codec
@@ -60,14 +59,22 @@ def test_either_byte_order(codec, order):
     other = data.astype(data.dtype.newbyteorder())
     coded = codec.encode(data)
     assert len(coded) == len(codec.encode(other))
-    assert codec.decode(coded) == data.tobytes() and codec.decode(codec.encode(other)) == other.tobytes()
+    assert (
+        codec.decode(coded) == data.tobytes()
+        and codec.decode(codec.encode(other)) == other.tobytes()
+    )
     room = numpy.empty(len(data), data.dtype)
     assert codec.decode(coded, out=room) is not None and (room == data).all()
 
 
 def test_chunks_of_bytes():
     """Bytes are stored samples in the options' byte order; so are arrays of one-byte items."""
-    for data in (SAMPLES.tobytes(), bytearray(SAMPLES.tobytes()), SAMPLES.view("u1"), SAMPLES.view("i1")):
+    for data in (
+        SAMPLES.tobytes(),
+        bytearray(SAMPLES.tobytes()),
+        SAMPLES.view("u1"),
+        SAMPLES.view("i1"),
+    ):
         coded = Aecp(16).encode(data)
         assert coded == Aecp(16).encode(SAMPLES)
         assert Aecp(16).decode(coded) == SAMPLES.tobytes()
@@ -75,7 +82,10 @@ def test_chunks_of_bytes():
 
 
 GIVEN = {
-    **{name: lambda name=name: numpy.array([1, 0, 0, 1], name) for name in ("<i2", ">u2", "u1", "i1", "?")},
+    **{
+        name: lambda name=name: numpy.array([1, 0, 0, 1], name)
+        for name in ("<i2", ">u2", "u1", "i1", "?")
+    },
     "two dimensions": lambda: numpy.array([[1, 2], [3, 4]], "<u2"),
     "array": lambda: array.array("H", [1, 2]),
     "bytes": lambda: bytes(4),
@@ -99,10 +109,14 @@ def test_chunks_of_another_type(name):
 
 def test_other_chunks():
     """So are buffers of floats, masked arrays, and bytes that make no whole samples."""
-    with pytest.raises(TypeError, match="^a chunk must be bytes, or integers of 2 bytes each, not float32$"):
+    with pytest.raises(
+        TypeError, match="^a chunk must be bytes, or integers of 2 bytes each, not float32$"
+    ):
         Aecp(16).encode(array.array("f", [1.5]))
     mask = numpy.ma.masked_array([1, 2], [0, 1], dtype="<u2")
-    with pytest.raises(TypeError, match=r"^an array with a mask can't be coded: use its filled\(\)$"):
+    with pytest.raises(
+        TypeError, match=r"^an array with a mask can't be coded: use its filled\(\)$"
+    ):
         Aecp(16).encode(mask)
     with pytest.raises(ValueError, match="^5 bytes are no whole samples of 2$"):
         Aecp(16).encode(bytes(5))
@@ -132,11 +146,16 @@ def test_a_part_of_a_chunk(codec, order):
         assert (room == wanted).all()
 
 
-@pytest.mark.parametrize(("start", "nitems"), [(0, 3001), (2999, 2), (3001, 0), (-1, 2), (5, -1), (-5, 3)])
+@pytest.mark.parametrize(
+    ("start", "nitems"), [(0, 3001), (2999, 2), (3001, 0), (-1, 2), (5, -1), (-5, 3)]
+)
 def test_a_part_outside_the_chunk(start, nitems):
-    """A part outside the samples of the chunk is refused, also inside the filler of the last block."""
+    """A part outside the samples of the chunk is refused, also inside the filler of the last
+    block."""
     coded = Aecp(16).encode(SAMPLES)
-    with pytest.raises(aecp.RangeRefused, match=f"^the range {start}:{nitems} is outside the 3000 ") as caught:
+    with pytest.raises(
+        aecp.RangeRefused, match=f"^the range {start}:{nitems} is outside the 3000 "
+    ) as caught:
         Aecp(16).decode_partial(coded, start, nitems)
     assert caught.value.count == 3000
 
@@ -171,8 +190,11 @@ def test_the_entry_point(tmp_path):
     place.mkdir()
     points = f"[numcodecs.codecs]\n{entry}\n".replace('"', "")
     (place / "entry_points.txt").write_text(points, encoding="utf-8")
-    (place / "METADATA").write_text("Metadata-Version: 2.1\nName: aecp\nVersion: 1.2.3\n", encoding="utf-8")
-    code = r"import numcodecs; print(numcodecs.get_codec({'id': 'aecp', 'bits': 16}).decode(b'\0\0\0\0'))"
+    (place / "METADATA").write_text(
+        "Metadata-Version: 2.1\nName: aecp\nVersion: 1.2.3\n", encoding="utf-8"
+    )
+    made = "numcodecs.get_codec({'id': 'aecp', 'bits': 16})"
+    code = rf"import numcodecs; print({made}.decode(b'\0\0\0\0'))"
     paths = os.pathsep.join([str(tmp_path), os.environ["PYTHONPATH"]])
     given = {**os.environ, "PYTHONPATH": paths}
     ended = subprocess.run([sys.executable, "-c", code], env=given, capture_output=True, text=True)

@@ -103,8 +103,8 @@ def cut_after(step, work):
 
 
 def test_an_array_that_is_cut_while_it_is_appended():
-    """A call appends all samples of an array, or those that are left of it, if another thread cuts the
-    array after any step of the call."""
+    """A call appends all samples of an array, or those that are left of it, if another thread cuts
+    the array after any step of the call."""
     lengths = set()
     for step in range(1, 400):
         with aecp.Workspace(aecp.Options(16)) as work:

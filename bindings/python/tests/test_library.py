@@ -1,4 +1,5 @@
-"""The library that the module loads: where it is, which are refused, and with which one-line message."""
+"""The library that the module loads: where it is, which are refused, and with which one-line
+message."""
 
 import ctypes
 import os
@@ -23,26 +24,31 @@ def _run(code, **more):
 
 @pytest.mark.parametrize("name", ["none.so", "empty.so", "libc.so.6"])
 def test_a_library_that_cannot_be_used(tmp_path, name):
-    """A missing library, a file that is no library, and a library without the calls: one ImportError of
-    one line."""
+    """A missing library, a file that is no library, and a library without the calls: one
+    ImportError of one line."""
     (tmp_path / "empty.so").touch()
     path = name if name == "libc.so.6" else str(tmp_path / name)
     ended = _run(ENCODE, AECP_LIBRARY=path)
     found = [it for it in ended.stderr.splitlines() if re.match(r"\w+Error: |During|The above", it)]
-    assert len(found) == 1 and found[0].startswith(f"ImportError: aecp can't use the library {path}: ")
+    assert len(found) == 1 and found[0].startswith(
+        f"ImportError: aecp can't use the library {path}: "
+    )
     assert found[0].endswith(" (`make library` builds it, AECP_LIBRARY names another)")
 
 
 def test_the_import_needs_no_library(tmp_path):
     """The module is imported, and options are made, without the library and without numpy."""
-    code = "import aecp, sys; aecp.Options(8); assert 'numpy' not in sys.modules; print(aecp.__version__)"
+    code = "import aecp, sys; aecp.Options(8); assert 'numpy' not in sys.modules"
+    code += "; print(aecp.__version__)"
     ended = _run(code, AECP_LIBRARY=str(tmp_path / "none"))
     assert (ended.stdout, ended.stderr) == (f"{aecp.__version__}\n", "")
 
 
 def test_objects_that_were_not_made(tmp_path):
-    """If the library can't be loaded, the ends of a process and of half-made objects print nothing."""
-    code = "import aecp\ntry:\n    aecp.Workspace(aecp.Options(8))\nexcept ImportError:\n    print('none')"
+    """If the library can't be loaded, the ends of a process and of half-made objects print
+    nothing."""
+    code = "import aecp\ntry:\n    aecp.Workspace(aecp.Options(8))\n"
+    code += "except ImportError:\n    print('none')"
     for name in ("Workspace", "Encoder"):
         ended = _run(code.replace("Workspace", name), AECP_LIBRARY=str(tmp_path / "none"))
         assert (ended.stdout, ended.stderr) == ("none\n", "")
@@ -50,10 +56,19 @@ def test_objects_that_were_not_made(tmp_path):
 
 @pytest.mark.parametrize(
     ("number", "is_right"),
-    [(10000, True), (10007, True), (10200, True), (9900, False), (100, False), (20000, False), (None, True)],
+    [
+        (10000, True),
+        (10007, True),
+        (10200, True),
+        (9900, False),
+        (100, False),
+        (20000, False),
+        (None, True),
+    ],
 )
 def test_the_version_of_a_library(number, is_right):
-    """A library of another major or an older minor version is refused, one without a version isn't."""
+    """A library of another major or an older minor version is refused, one without a version
+    isn't."""
     call = type("Call", (), {"__call__": lambda _: number})
     given = type("Library", (), {} if number is None else {"aecp_version": call()})
     if is_right:
@@ -64,7 +79,9 @@ def test_the_version_of_a_library(number, is_right):
             library.judge_version(given)
 
 
-@pytest.mark.parametrize(("number", "is_right"), [(10299, False), (10300, True), (10400, True), (20300, False)])
+@pytest.mark.parametrize(
+    ("number", "is_right"), [(10299, False), (10300, True), (10400, True), (20300, False)]
+)
 def test_an_older_minor_version(monkeypatch, number, is_right):
     """A module of version 1.3 needs a library from 1.3 on."""
     monkeypatch.setattr(library, "VERSION", 10300)
@@ -83,7 +100,9 @@ def test_a_library_of_another_version(tmp_path):
     path = str(tmp_path / "other.so")
     subprocess.run(["cc", "-shared", "-fPIC", "-o", path, str(tmp_path / "other.c")], check=True)
     said = _run(ENCODE, AECP_LIBRARY=path).stderr.splitlines()[-1]
-    assert said.startswith(f"ImportError: aecp can't use the library {path}: it has version 2.0.3, and ")
+    assert said.startswith(
+        f"ImportError: aecp can't use the library {path}: it has version 2.0.3, and "
+    )
 
 
 def test_the_version_of_the_module():
@@ -93,7 +112,8 @@ def test_the_version_of_the_module():
 
 
 def test_where_the_library_is(monkeypatch, tmp_path):
-    """AECP_LIBRARY comes first, then the module's folder, then bin/ of a checkout, then the loader."""
+    """AECP_LIBRARY comes first, then the module's folder, then bin/ of a checkout, then the
+    loader."""
     monkeypatch.setenv("AECP_LIBRARY", "/named/libaecp.so")
     assert library.place_of_library() == "/named/libaecp.so"
     monkeypatch.setenv("AECP_LIBRARY", "")
@@ -126,7 +146,8 @@ def test_the_level_of_a_processor(monkeypatch):
 
 
 def test_the_structs_of_the_header(checkout):
-    """The structures have the members of aecp.h, in their order, and each call of aecp.h is declared."""
+    """The structures have the members of aecp.h, in their order, and each call of aecp.h is
+    declared."""
     header = (checkout / "bindings" / "c" / "aecp.h").read_text(encoding="utf-8")
     text = re.sub(r"/\*.*?\*/", "", header, flags=re.S)
     found = re.findall(r"typedef struct \{([^}]*)\} (\w+);", text)
@@ -161,4 +182,6 @@ def test_options_for_c():
     made = library.c_options(options)
     for name in library.NUMBERS + library.FLAGS:
         assert getattr(made, name) == getattr(options, name), name
-    assert library.c_options(aecp.Options(12, 8, 3, signed=True, pad=True, even_blocks=True)) is made
+    assert (
+        library.c_options(aecp.Options(12, 8, 3, signed=True, pad=True, even_blocks=True)) is made
+    )

@@ -67,7 +67,13 @@ def test_numbers_of_numpy(numpy, name):
 @pytest.mark.parametrize("name", NUMBERS)
 def test_numbers_that_do_not_fit_32_bits(name, call):
     """A number that doesn't fit 32 bits is refused, and not cut to 32 bits."""
-    for wide in (2**32 + NUMBERS[name], 2**64 + NUMBERS[name], NUMBERS[name] - 2**32, -1, 2**32):
+    for wide in (
+        2**32 + NUMBERS[name],
+        2**64 + NUMBERS[name],
+        NUMBERS[name] - 2**32,
+        -1,
+        2**32,
+    ):
         with pytest.raises(ValueError, match=rf"^{name} must be 0 to 2\^32 - 1$") as caught:
             call(aecp.Options(**{**NUMBERS, name: wide}))
         assert type(caught.value) is ValueError

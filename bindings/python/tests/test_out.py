@@ -1,4 +1,5 @@
-"""`out`, which is filled from its start, or refused and left unchanged; and counts that are too great."""
+"""`out`, which is filled from its start, or refused and left unchanged; and counts that are too
+great."""
 
 import subprocess
 import sys
@@ -12,7 +13,9 @@ OPTIONS, STORED = aecp.Options(16), bytes(range(100)) * 2
 SHORT = aecp.Options(16, block_size=8, interval=2)
 CALLS = {
     "decode_bytes": lambda coded, out: aecp.decode_bytes(coded, 100, OPTIONS, out=out),
-    "decode_range_bytes": lambda coded, out: aecp.decode_range_bytes(coded, 100, 0, 100, OPTIONS, out=out),
+    "decode_range_bytes": lambda coded, out: aecp.decode_range_bytes(
+        coded, 100, 0, 100, OPTIONS, out=out
+    ),
     "decode_bytes_at": lambda coded, out: aecp.decode_bytes_at(coded, 0, 100, OPTIONS, out=out),
 }
 ARRAY_CALLS = {
@@ -70,7 +73,10 @@ def test_out_is_too_short(call, coded):
     ("out", "text"),
     [
         (bytes(200), "out must be memory that can be written and lies in one piece"),
-        (memoryview(bytearray(400))[::2], "out must be memory that can be written and lies in one piece"),
+        (
+            memoryview(bytearray(400))[::2],
+            "out must be memory that can be written and lies in one piece",
+        ),
         ([0] * 200, "out must be memory that can be written, not list"),
         (200, "out must be memory that can be written, not int"),
     ],
@@ -112,11 +118,14 @@ def test_out_is_an_array(numpy, call, coded):
 
 @pytest.mark.parametrize("call", ARRAY_CALLS.values(), ids=ARRAY_CALLS)
 def test_arrays_that_cannot_be_filled(numpy, call, coded):
-    """Arrays of another dtype, apart, in columns, and what is no array are refused and left alone."""
+    """Arrays of another dtype, apart, in columns, and what is no array are refused and left
+    alone."""
     arrays = [numpy.zeros(200, dtype) for dtype in ("<i2", ">u2", "u1", "<u4", "f2")]
     arrays += [numpy.zeros(200, "<u2")[::2], numpy.zeros((50, 2), "<u2", order="F")]
     for out in [*arrays, bytearray(200), [0] * 100]:
-        with pytest.raises(TypeError, match="^out must be a numpy array of the dtype <u2 in C order$"):
+        with pytest.raises(
+            TypeError, match="^out must be a numpy array of the dtype <u2 in C order$"
+        ):
             call(coded, out)
         assert not numpy.any(out)
 
@@ -128,7 +137,9 @@ def test_arrays_that_cannot_be_written(numpy, coded):
         aecp.decode(coded, 100, OPTIONS, out=short)
     frozen = numpy.zeros(100, "<u2")
     frozen.flags.writeable = False
-    with pytest.raises(TypeError, match="^out must be memory that can be written and lies in one piece$"):
+    with pytest.raises(
+        TypeError, match="^out must be memory that can be written and lies in one piece$"
+    ):
         aecp.decode(coded, 100, OPTIONS, out=frozen)
     assert not short.any() and not frozen.any()
 
@@ -160,7 +171,8 @@ except aecp.StreamRefused:
 
 
 def test_a_wrong_count_takes_no_memory():
-    """A count of 2^31 of a short stream is refused before memory is taken, also if there is little."""
+    """A count of 2^31 of a short stream is refused before memory is taken, also if there is
+    little."""
     ended = subprocess.run([sys.executable, "-c", WRONG_COUNT], capture_output=True, text=True)
     assert (ended.returncode, ended.stdout, ended.stderr) == (0, "True\n", "")
 

@@ -13,7 +13,9 @@ TAKEN = r"samples must be bytes, or an array of uint16 \(options.dtype\), not "
 # Calls that take a stream, a count and options.
 TAKING = {
     "decode_bytes": aecp.decode_bytes,
-    "decode_range_bytes": lambda coded, count, options: aecp.decode_range_bytes(coded, count, 0, 1, options),
+    "decode_range_bytes": lambda coded, count, options: aecp.decode_range_bytes(
+        coded, count, 0, 1, options
+    ),
     "decode_bytes_at": lambda coded, count, options: aecp.decode_bytes_at(coded, 0, count, options),
     "offsets": aecp.offsets,
     "edit": lambda coded, count, options: aecp.edit(coded, count, "", options),
@@ -66,8 +68,8 @@ ITEMS = [
 @pytest.mark.parametrize("call", CODING.values(), ids=CODING)
 @pytest.mark.parametrize(("held", "name"), ITEMS)
 def test_buffers_of_another_type(held, name, call):
-    """Buffers of floats, pointers, bools and integers of another size or sign are refused, also empty
-    ones."""
+    """Buffers of floats, pointers, bools and integers of another size or sign are refused, also
+    empty ones."""
     with pytest.raises(TypeError, match=f"^{TAKEN}an array of {name}$"):
         call(held, WIDE)
 
@@ -75,10 +77,14 @@ def test_buffers_of_another_type(held, name, call):
 @pytest.mark.parametrize("call", CODING.values(), ids=CODING)
 def test_the_type_that_is_named(call):
     """The message names the type of the options."""
-    text = r"^samples must be bytes, or an array of uint8 \(options.dtype\), not an array of uint16$"
+    text = (
+        r"^samples must be bytes, or an array of uint8 \(options.dtype\), not an array of uint16$"
+    )
     with pytest.raises(TypeError, match=text):
         call(array.array("H"), aecp.Options(8))
-    text = r"^samples must be bytes, or an array of int32 \(options.dtype\), not an array of uint32$"
+    text = (
+        r"^samples must be bytes, or an array of int32 \(options.dtype\), not an array of uint32$"
+    )
     with pytest.raises(TypeError, match=text):
         call(array.array("I"), aecp.Options(20, signed=True))
 
@@ -146,7 +152,9 @@ def test_places_of_another_size(name, call, number):
 @pytest.mark.parametrize("script", [["append 1"], 5, None], ids=repr)
 def test_a_script_of_another_kind(script):
     """A script is text or bytes."""
-    with pytest.raises(TypeError, match=f"^script must be text or bytes, not {type(script).__name__}$"):
+    with pytest.raises(
+        TypeError, match=f"^script must be text or bytes, not {type(script).__name__}$"
+    ):
         aecp.edit(CODED, 8, script, OPTIONS)
 
 

@@ -1,4 +1,5 @@
-"""What the edits of a workspace take as samples: whole numbers, alone and in lists, and nothing else."""
+"""What the edits of a workspace take as samples: whole numbers, alone and in lists, and nothing
+else."""
 
 import array
 
@@ -131,8 +132,14 @@ def test_the_text_of_a_refused_array(numpy, work):
     """The message says what an array is, and what to call."""
     for samples, text in (
         (numpy.ones(2), "samples are whole numbers, not an array of float64"),
-        (numpy.ones((2, 1), int), r"samples are a list, not an array of 2 dimensions: use its ravel\(\)"),
-        (numpy.ma.masked_array([1]), r"an array with a mask can't .*: use its filled\(\) or compressed\(\)"),
+        (
+            numpy.ones((2, 1), int),
+            r"samples are a list, not an array of 2 dimensions: use its ravel\(\)",
+        ),
+        (
+            numpy.ma.masked_array([1]),
+            r"an array with a mask can't .*: use its filled\(\) or compressed\(\)",
+        ),
     ):
         with pytest.raises(TypeError, match=f"^{text}$"):
             work.append(samples)
@@ -196,7 +203,11 @@ def test_numbers_of_65_bits(work, number):
 
 def test_arrays_of_numbers_of_65_bits(numpy, work):
     """So is one in an array of 64 bits without a sign."""
-    for samples in (array.array("Q", [2**63]), numpy.array([1, 2**63], "u8"), numpy.array([2**64 - 1], ">u8")):
+    for samples in (
+        array.array("Q", [2**63]),
+        numpy.array([1, 2**63], "u8"),
+        numpy.array([2**64 - 1], ">u8"),
+    ):
         with pytest.raises(OverflowError):
             work.append(samples)
     assert list(work) == [9]
@@ -216,7 +227,9 @@ def test_a_number_is_no_list(request, name):
         lambda: work.__iadd__(number),
         lambda: aecp.Workspace(OPTIONS, number),
     ):
-        with pytest.raises(TypeError, match=f"^samples must be a list or another iterable, not {kind}$"):
+        with pytest.raises(
+            TypeError, match=f"^samples must be a list or another iterable, not {kind}$"
+        ):
             call()
         assert list(work) == list(range(9))
     work.append(number)

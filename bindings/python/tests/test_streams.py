@@ -14,11 +14,13 @@ ZEROS, ZERO_OFFSETS = bytes.fromhex("000400100040"), [0, 14, 28]
 
 @pytest.mark.parametrize("size", [1, 2, 3, 5, 16, 63, 1000])
 @pytest.mark.parametrize(
-    "options", [OPTIONS, aecp.Options(16), aecp.Options(24, three_byte=True, interval=1), aecp.Options(32)], ids=str
+    "options",
+    [OPTIONS, aecp.Options(16), aecp.Options(24, three_byte=True, interval=1), aecp.Options(32)],
+    ids=str,
 )
 def test_samples_in_pieces(options, size):
-    """The pieces of an Encoder are the stream of all samples, wherever these are cut, and `count` has
-    the whole samples so far."""
+    """The pieces of an Encoder are the stream of all samples, wherever these are cut, and `count`
+    has the whole samples so far."""
     stored = random.Random(size).randbytes(12 * 83)
     coder, out = aecp.Encoder(options), []
     for at in range(0, len(stored), size):
@@ -46,7 +48,8 @@ def test_an_incomplete_sample_is_dropped():
 
 
 def test_the_fault_of_an_encoder_stays():
-    """After a sample out of range, each feed and finish raise its fault, with its index among all."""
+    """After a sample out of range, each feed and finish raise its fault, with its index among
+    all."""
     coder = aecp.Encoder(aecp.Options(4))
     coder.feed(b"\1\2\3")
     for samples in (b"\4\x10", b"\1", b""):
@@ -113,7 +116,9 @@ def test_the_fault_of_a_decoder():
     assert decoder.go_to(2) == 32
     assert decoder.next_bytes() == bytes(16)
     for call in (decoder.next_bytes, lambda: decoder.go_to(4), decoder.next_bytes):
-        with pytest.raises(aecp.StreamRefused, match="^coded data is cut short at bit 42$") as caught:
+        with pytest.raises(
+            aecp.StreamRefused, match="^coded data is cut short at bit 42$"
+        ) as caught:
             call()
         assert caught.value.bit == 42
     decoder.go_to(0)
@@ -152,12 +157,16 @@ def test_samples_from_a_bit_on():
 @pytest.mark.parametrize(("bit", "pad"), [(33, False), (2**64 - 1, False), (4, True)])
 def test_a_bit_where_no_interval_begins(bit, pad):
     """A bit after the end, or inside a byte with padding, is refused with the stream's bits."""
-    with pytest.raises(aecp.BitRefused, match="^the bit is past the stream's 32 bits or, ") as caught:
+    with pytest.raises(
+        aecp.BitRefused, match="^the bit is past the stream's 32 bits or, "
+    ) as caught:
         aecp.decode_bytes_at(CODED, bit, 0, aecp.Options(8, block_size=8, interval=2, pad=pad))
     assert (caught.value.bits, caught.value.number) == (32, 20)
 
 
-@pytest.mark.parametrize("script", ["insert 2 9 9 9", b"insert 2 9 9 9", bytearray(b"insert 2 9 9 9\n")])
+@pytest.mark.parametrize(
+    "script", ["insert 2 9 9 9", b"insert 2 9 9 9", bytearray(b"insert 2 9 9 9\n")]
+)
 def test_a_script(script):
     """A script, as text or bytes, edits a stream; the result has its count."""
     wanted = [0, 1, 9, 9, 9, 2, 3, 4, 5, 6, 7]
@@ -168,7 +177,8 @@ def test_a_script(script):
 
 
 def test_the_count_of_an_edited_stream():
-    """A script applies to the first `count` samples, or to all with the filler of the last block."""
+    """A script applies to the first `count` samples, or to all with the filler of the last
+    block."""
     assert aecp.edit(CODED, 5, "", OPTIONS)[1] == 5
     assert aecp.edit(b"\x00\x78", None, "append 1", OPTIONS)[1] == 9
     assert aecp.edit(b"", 0, "", OPTIONS) == (b"", 0)
@@ -180,14 +190,19 @@ def test_a_long_script():
     script = "append" + " 1 4294967295" * 20000
     coded, count = aecp.edit(b"", 0, script, options)
     assert count == 40000 and len(coded) > 150000
-    assert aecp.decode_bytes(coded, count, options) == array.array("I", [1, 2**32 - 1] * 20000).tobytes()
+    assert (
+        aecp.decode_bytes(coded, count, options)
+        == array.array("I", [1, 2**32 - 1] * 20000).tobytes()
+    )
 
 
 def test_an_edited_stream_that_is_far_longer():
     """A short script may make a stream many times as long as before."""
     options = aecp.Options(32, block_size=8, interval=2)
     # Each interval has equal samples, until one more sample moves all others.
-    stored = array.array("I", [i * 2654435761 % 2**32 for i in range(2000) for _ in range(16)]).tobytes()
+    stored = array.array(
+        "I", [i * 2654435761 % 2**32 for i in range(2000) for _ in range(16)]
+    ).tobytes()
     before = aecp.encode(stored, options)
     coded, count = aecp.edit(before, 32000, "insert 0 5", options)
     assert count == 32001 and len(coded) > 2 * len(before) + 8192

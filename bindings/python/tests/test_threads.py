@@ -280,7 +280,8 @@ def test_one_thread_finishes():
 
 @pytest.fixture(scope="module")
 def intervals():
-    """A Decoder of 16 intervals of 65,536 samples, and the place of each interval by its samples."""
+    """A Decoder of 16 intervals of 65,536 samples, and the place of each interval by its
+    samples."""
     options, length = aecp.Options(8, interval=4096), 65536
     samples = random.Random(5).randbytes(16 * length).translate(bytes(range(16)) * 16)
     places = {samples[at : at + length]: at // length for at in range(0, len(samples), length)}
@@ -318,8 +319,8 @@ def test_threads_go_to_intervals(intervals):
 
 
 def test_threads_read_short_intervals():
-    """The samples that a thread gets from a shared Decoder aren't overwritten by those that the next
-    thread gets."""
+    """The samples that a thread gets from a shared Decoder aren't overwritten by those that the
+    next thread gets."""
     options, count = aecp.Options(8, block_size=8, interval=1), THREADS * 2 * CALLS
     wanted = [number.to_bytes(8, "big") for number in range(count)]
     decoder, got = aecp.Decoder(aecp.encode(b"".join(wanted), options), 8 * count, options), []

@@ -1,5 +1,5 @@
-"""What a workspace does beside a list's calls: edits that return numbers, reading, streams, and edits
-that fail in the middle."""
+"""What a workspace does beside a list's calls: edits that return numbers, reading, streams, and
+edits that fail in the middle."""
 
 import aecp
 import pytest
@@ -86,9 +86,20 @@ def test_numbers_that_edits_return():
     """Edits return how many intervals of 16 samples they coded, and `calls` returns their sum."""
     work = aecp.Workspace(OPTIONS, range(100))
     before = work.calls()
-    coded = [work.append(1), work.append(range(40)), work.overwrite(0, [5]), work.overwrite(30, [5, 6, 7])]
+    coded = [
+        work.append(1),
+        work.append(range(40)),
+        work.overwrite(0, [5]),
+        work.overwrite(30, [5, 6, 7]),
+    ]
     assert coded == [1, 3, 1, 2]
-    coded += [work.insert(141, 3), work.truncate(141), work.remove(140, 1), work.truncate(128), work.remove(0, 0)]
+    coded += [
+        work.insert(141, 3),
+        work.truncate(141),
+        work.remove(140, 1),
+        work.truncate(128),
+        work.remove(0, 0),
+    ]
     assert all(0 <= it <= 2 for it in coded[4:])
     assert work.calls() == before + sum(coded)
     assert list(work) == [5, *range(1, 30), 5, 6, 7, *range(33, 100), 1, *range(27)]
@@ -143,7 +154,8 @@ def test_numbers_of_another_size(name, call, wrong):
 
 
 def test_a_workspace_as_samples():
-    """A workspace can be appended to itself, inserted into itself and assigned to its own slices."""
+    """A workspace can be appended to itself, inserted into itself and assigned to its own
+    slices."""
     work, samples = aecp.Workspace(OPTIONS, range(9)), list(range(9))
     for it in (work, samples):
         it += it
