@@ -169,8 +169,7 @@ test-library: ## tests the library, the Python module and the command aecp; afte
 	python3 tests/level_builds.py
 	python3 tests/processors.py
 	python3 tests/library.py crates/aec/out/aec bin
-	python3 tests/library_arrays.py crates/aec/out/aec bin
-	python3 tests/library_python.py bin
+	python3 tests/module.py --program crates/aec/out/aec bin
 	python3 tests/library_builds.py
 	python3 tests/archive.py bin
 	python3 tests/preload.py bin

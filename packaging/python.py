@@ -30,7 +30,7 @@ LIBRARIES = ("libaecp.so", f"{stage.V3}/libaecp.so")
 PLACES = {name: f"aecp/{name}" for name in LIBRARIES}
 NEEDED = "import build, setuptools, wheel"
 GATHERED = "gathered.txt"
-LEFT_OUT = ("__pycache__", "build", "dist", "*.egg-info", "tests", ".*", GATHERED)
+LEFT_OUT = ("__pycache__", "build", "dist", "*.egg-info", ".*", GATHERED)
 
 
 class Unfit(Exception):

@@ -49,8 +49,7 @@ instructions on_program tests/instructions_bounded.py'
 # The parts that need the kit, or programs and records that the gate leaves.
 with_kit='gate|kept-program|refused-calls|instructions'
 of_library='library python3 tests/library.py PROGRAM FOLDER
-arrays python3 tests/library_arrays.py PROGRAM FOLDER
-python python3 tests/library_python.py FOLDER
+module python3 tests/module.py --program PROGRAM FOLDER
 archive python3 tests/archive.py FOLDER
 preload python3 tests/preload.py FOLDER'
 checked=

@@ -1,6 +1,4 @@
-"""Tests samples and coded bytes in Python's buffers, by the module aecp. `try_buffers` tests those of the standard library.
-`try_arrays` tests numpy's arrays: of any shape, not contiguous, read-only, empty, of the other byte order, and of another dtype, which
-is refused."""
+"""Tests samples and coded bytes in the buffers of Python's standard library, by the module aecp without numpy. For library.py."""
 
 import array
 import sys
@@ -47,32 +45,3 @@ def try_buffers(aecp, tally):
     tally.holds(is_refused(aecp.decode_bytes, apart, 8, options), "bytes apart are decoded")
     for wrong in (None, 7, "text", [1, 2]):
         tally.holds(is_refused(aecp.encode, wrong, options), f"{wrong!r} is coded")
-
-
-def try_arrays(aecp, numpy, tally):
-    options, samples = aecp.Options(bits=12, signed=True), numpy.arange(-300, 300, dtype="<i2")
-    coded = aecp.encode(samples, options)
-    for count, wanted in ((600, samples), (100, samples[:100])):
-        back = aecp.decode(coded, count, options)
-        tally.holds(back.dtype == wanted.dtype and (back == wanted).all(), f"{count} samples of an array")
-    tally.holds((aecp.decode_range(coded, 600, 7, 50, options) == samples[7:57]).all(), "a range of an array")
-    frozen = samples.copy()
-    frozen.flags.writeable = False
-    wide = numpy.repeat(samples, 2)
-    same = {"in three dimensions": samples.reshape(10, 3, 20), "frozen": frozen, "apart": wide[::2]}
-    same["of the other order"] = samples.astype(">i2")
-    for name, given in same.items():
-        tally.check(f"an array {name}", aecp.encode(given, options), coded)
-    turned = samples.reshape(20, 30).T
-    tally.check("an array turned", aecp.encode(turned, options), aecp.encode(turned.copy(), options))
-    tally.check("an empty array", aecp.encode(samples[:0], options), b"")
-    tally.check("an empty answer", len(aecp.decode(b"", 0, options)), 0)
-    for dtype in ("u2", "i4", "f8", "i1"):
-        tally.holds(is_refused(aecp.encode, samples.astype(dtype), options), f"an array of {dtype} is coded")
-    bytes_apart = numpy.frombuffer(bytes(16), "u1")[::2]
-    tally.holds(is_refused(aecp.decode_bytes, bytes_apart, 8, options), "an array apart is decoded")
-    held = numpy.frombuffer(coded, "u1")
-    tally.holds((aecp.decode(held, 600, options) == samples).all(), "coded bytes in an array")
-    held = held.copy()
-    held.flags.writeable = False
-    tally.holds((aecp.decode(held, 600, options) == samples).all(), "coded bytes in a frozen array")

@@ -10,7 +10,7 @@ import signal
 import subprocess
 import sys
 
-from library_arrays import interpreter
+from lib.by_pytest import interpreter
 
 TOP = os.path.abspath(os.path.join(os.path.dirname(__file__), "..", ".."))
 # The most seconds that one run of cargo may take, so that a call that never returns makes the test fail.
@@ -179,7 +179,7 @@ def try_wheel(wheel, folder, tally):
         try_bare(bare, wheel, tally)
     else:
         tally.skip("python3-venv", "the wheel without numpy")
-    python = interpreter()
+    python = interpreter("numpy, h5py", "numpy")
     full = python and venv(python, os.path.join(folder, "full"), "--system-site-packages")
     if full:
         try_arrays(full, wheel, folder, tally)
