@@ -288,7 +288,9 @@ def test_a_damaged_history_costs_no_samples(place: str) -> None:
         refused(place, *words, given=b"append 1\n")
         assert read(path) == before
     done(place, "keep", "f", *USUAL.options(), "--repair")
-    assert sound_parts(path).stream == parts.stream
+    repaired = sound_parts(path)
+    assert repaired.stream == parts.stream and [it["what"] for it in repaired.history] == ["keep"]
+    assert repaired.history[0]["after"] == parts.history[0]["after"]
 
 
 def test_forget_moves_the_places_of_undone_edits(place: str) -> None:

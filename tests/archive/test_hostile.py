@@ -168,6 +168,32 @@ def test_fields_are_demanded_exactly(place: str) -> None:
     assert USUAL.bits == 16
 
 
+@pytest.mark.parametrize("foot", [{"flags": 1}, {"flags": 2**31}, {"version": 1}, {"version": 3}, {"crc": 1}, {"foot_crc": 1}])
+def test_the_foot_is_demanded_exactly(place: str, foot: dict[str, int]) -> None:
+    """A later form may say by a flag that its parts mean something else."""
+    path = keep(place, "f", walk(1, 300))
+    write(place, "f.aec", parts_at(path).sealed(**foot))
+    assert command(place, "check", "f.aec").status == 1
+    with pytest.raises(aecp.archive.Damaged):
+        aecp.open(path).close()
+
+
+def test_objects_in_the_trailer_are_demanded_exactly(place: str) -> None:
+    """A field more or less in an object within the trailer is refused."""
+    path = keep(place, "f", walk(1, 300))
+    sound = parts_at(path)
+    objects = {name: it for name, it in sound.fields.items() if isinstance(it, dict)}
+    assert set(objects) == {"options", "samples", "stream", "source", "index", "history"}
+    for name, it in objects.items():
+        changes = [{**it, "more": 1}] + [{key: it[key] for key in it if key != gone} for gone in it]
+        for change in changes:
+            parts = sound.copy()
+            parts.fields[name] = change
+            write(place, "f.aec", parts.sealed(with_sums=False))
+            with pytest.raises(aecp.archive.Damaged):
+                aecp.open(path).close()
+
+
 def test_a_field_twice_is_refused_or_the_last_one(place: str) -> None:
     import zlib
 

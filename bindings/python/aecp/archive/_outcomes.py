@@ -2,7 +2,9 @@
 
 from __future__ import annotations
 
+import contextlib
 import os
+from collections.abc import Iterator
 from dataclasses import dataclass, field
 from typing import Any, Callable
 
@@ -66,8 +68,19 @@ class Unchanged:
         return self.work(found)
 
 
+@contextlib.contextmanager
+def damage_named(name: str) -> Iterator[None]:
+    """Adds the name of the kept file to the text that says how it is damaged."""
+    try:
+        yield
+    except Damaged as error:
+        raise Damaged(error.kind, f"{name} isn't sound: {error}", error.ranges) from None
+
+
 def advice(error: Damaged) -> str:
     """Returns what to do about damage."""
+    if error.kind in ("bad index", "bad history"):
+        return "; `aecp rescue` writes the samples"
     return "; `aecp rescue` writes all other samples" if error.kind == "bad group" else ""
 
 
