@@ -150,9 +150,9 @@ def fits_part(first: str, bits: int, sizes: tuple[int, ...], data: bytes) -> byt
 
 
 def test_a_fits_image_after_one_of_floats(place: str) -> None:
-    """The first image of whole numbers is kept, and what is before it is its head."""
+    """The first image of whole numbers is kept, and what is before it is its head. The floats look like a line of a header."""
     data = Settings(bits=16, msb_first=True, signed=True).stored(walk(1, 6000))
-    first = fits_part("SIMPLE  =                    T", -32, (10, 11), os.urandom(440))
+    first = fits_part("SIMPLE  =                    T", -32, (10, 11), b"BITPIX  =                    8".ljust(440))
     whole = first + fits_part("XTENSION= 'IMAGE   '", 16, (100, 60), data)
     write(place, "a.fits", whole)
     done(place, "keep", "a.fits", "--remove")
