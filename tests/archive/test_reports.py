@@ -101,6 +101,28 @@ def test_two_originals_whose_kept_files_would_have_one_name(place: str) -> None:
     done(place, "keep", "y/f", "y/f", *words_of(USUAL), "--anyway", "--to", "other")
 
 
+def test_another_shape_of_a_kept_file_is_said(place: str) -> None:
+    keep(place, "f", walk(1, 500), USUAL, "--shape", "20x25")
+    keep(place, "g", walk(1, 500))
+    words = ["keep", "f", *words_of(USUAL)]
+    assert done(place, *words, "--shape", "20x25").err == ""
+    assert "f: it is kept already, as 20x25 of no recorded type" in done(place, *words, "--shape", "25x20").err
+    assert "f: it is kept already, as 20x25 of no recorded type" in done(place, *words, "--dtype", "<u2").err
+    assert "g: it is kept already, as a list of no" in done(place, "keep", "g", *words_of(USUAL), "--shape", "20x25").err
+
+
+def test_diff_prints_json_whatever_differs(place: str) -> None:
+    """Files with another number of samples differ by a script, which is JSON too."""
+    keep(place, "f", walk(1, 500))
+    keep(place, "g", [*walk(1, 500), 7])
+    keep(place, "h", [*walk(1, 499), 7])
+    assert json.loads(done(place, "diff", "f.aec", "g.aec", "--json").out) == {"script": "insert 500 7\n"}
+    assert json.loads(done(place, "diff", "f.aec", "h.aec", "--json", "--script").out) == {"script": "overwrite 499 7\n"}
+    rows = [{"place": 499, "value": 7, "was": walk(1, 500)[-1]}]
+    assert json.loads(done(place, "diff", "f.aec", "h.aec", "--json").out) == {"differences": rows}
+    assert done(place, "diff", "f.aec", "g.aec").out == "insert 500 7\n"
+
+
 def test_log_says_which_edits_can_be_undone(place: str) -> None:
     keep(place, "f", walk(1, 500))
     for script in (b"append 1\n", b"append 2\n"):

@@ -18,7 +18,7 @@ from aecp.archive._form import MOST_SIDE, Damaged, Exists, Facts, Refused, Sourc
 from aecp.archive._headers import Layout, layout_of, options_of
 from aecp.archive._history import Entry, keep_entry
 from aecp.archive._originals import Reading, original, read_all, same, sha256_of
-from aecp.archive._outcomes import Outcome, damage_named, words_of
+from aecp.archive._outcomes import Outcome, damage_named, shape_text, words_of
 from aecp.archive._pairs import converted, note_at
 from aecp.archive._paths import STREAM, Found, place_below
 from aecp.archive._stored import Scripted
@@ -290,13 +290,16 @@ def compared(how: Keeping, found: Found, target: str, note: str) -> Outcome:
         if how.to is not None:
             why += ", or another file of its name was kept"
         return Outcome("changed", f"{why}: move {name_of(how, target)} away to keep it anew")
-    return Outcome("skipped", note or other_options(how, facts.options))
+    return Outcome("skipped", note or other_options(how, facts))
 
 
-def other_options(how: Keeping, recorded: Options) -> str:
-    """Returns a text if the user gave options other than the recorded ones."""
+def other_options(how: Keeping, facts: Facts) -> str:
+    """Returns a text if the user gave options, a shape or a type other than the recorded ones."""
+    recorded = facts.options
     if any(getattr(recorded, name) != value for name, value in how.given.items()):
         return f"it is kept already, with other options: {words_of(recorded)}"
+    if how.shape not in (None, facts.shape) or how.dtype not in (None, facts.dtype):
+        return f"it is kept already, as {shape_text(facts)}"
     return ""
 
 

@@ -51,9 +51,11 @@ def do_diff(asked: argparse.Namespace, console: Console) -> int:
 
 def say_difference(asked: argparse.Namespace, console: Console, it: _showing.Compared) -> None:
     """Prints how two lists of samples differ."""
-    is_equal_long = len(it.before) == len(it.after)
+    is_script = asked.script or len(it.before) != len(it.after)
     names = _showing.names_between(it)
-    if asked.script or (not is_equal_long) or (it.grid is None and not asked.json):
+    if is_script and asked.json:
+        console.say_json({"script": b"".join(_showing.script_between(it)).decode("ascii")})
+    elif is_script or (it.grid is None and not asked.json):
         for line in _showing.script_between(it):
             console.write(line)
     elif asked.json:

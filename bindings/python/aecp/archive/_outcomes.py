@@ -9,7 +9,7 @@ from dataclasses import dataclass, field
 from typing import Any, Callable
 
 from aecp._console import reason
-from aecp.archive._form import Damaged, Range, Refused
+from aecp.archive._form import Damaged, Facts, Range, Refused
 from aecp.archive._paths import Found
 from aecp.options import Options
 
@@ -98,6 +98,12 @@ def ranges_text(ranges: tuple[Range, ...], count: int) -> str:
 def ranges_json(ranges: tuple[Range, ...]) -> list[dict[str, int]]:
     """Returns ranges as JSON has them."""
     return [{"first": it.first, "length": it.length} for it in ranges]
+
+
+def shape_text(facts: Facts) -> str:
+    """Returns the words for the recorded shape and type."""
+    shape = "a list" if facts.shape is None else "x".join(map(str, facts.shape))
+    return f"{shape} of {facts.dtype or 'no recorded type'}"
 
 
 def words_of(options: Options) -> str:
