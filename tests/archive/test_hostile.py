@@ -212,6 +212,48 @@ def test_a_field_twice_is_refused_or_the_last_one(place: str) -> None:
     assert parts.groups
 
 
+def test_a_trailer_of_an_impossible_length_is_not_read(place: str) -> None:
+    """The foot of a sparse file of 20 GiB names a trailer of as many bytes."""
+    from plain_form import ended
+
+    size = 20 << 30
+    path = write(place, "f.aec", b"")
+    os.truncate(path, size - 32)
+    with open(path, "ab") as file:
+        file.write(ended(b"", length=size - 32))
+    for verb in ("check", "info", "rescue"):
+        assert "impossible length" in command(place, verb, "f.aec", how=How(seconds=20)).said, verb
+
+
+def test_a_history_of_too_many_entries(place: str) -> None:
+    """The writer refuses to write such a history, and the reader to read it."""
+    path = keep(place, "f", walk(1, 300))
+    parts = parts_at(path)
+    parts.history = parts.history * (1 << 14)
+    write(place, "f.aec", parts.sealed())
+    assert command(place, "check", "f.aec").status == 0
+    parts.history.append(parts.history[0])
+    write(place, "f.aec", parts.sealed())
+    assert "16384 entries" in command(place, "check", "f.aec").said
+
+
+@pytest.mark.parametrize("part", ["trailer", "history"])
+def test_json_of_too_many_values_is_not_parsed(place: str, part: str) -> None:
+    """Some kilobytes, packed, of lists within a list would take a hundred megabytes and more."""
+    import zlib
+
+    from plain_form import ended
+
+    path = keep(place, "f", walk(1, 300))
+    parts, many = parts_at(path), zlib.compress(b"[" + b"[]," * 1_300_000 + b"[]]", 9)
+    if part == "history":
+        parts.history = many  # type: ignore[assignment]
+        write(place, "f.aec", parts.sealed())
+    else:
+        write(place, "f.aec", parts.stream + ended(many))
+    assert "too many values" in command(place, "check", "f.aec").said
+
+
 def test_bombs_in_trailer_head_and_tail(place: str) -> None:
     import base64
     import zlib

@@ -113,6 +113,17 @@ def test_an_original_that_became_a_link_is_not_read(place: str, outside: str) ->
         pass
 
 
+def test_a_device_that_became_a_link_is_not_written(place: str, outside: str) -> None:
+    from aecp.archive import _restoring
+
+    os.symlink("/dev/null", os.path.join(place, "out"))
+    with pytest.raises(OSError):
+        _restoring.without_links(os.path.join(place, "out"), 0)
+    with pytest.raises(archive.Exists):
+        _restoring.without_links(os.path.join(outside, "file"), 0)
+    assert read(outside, "file") == b"untouched"
+
+
 def test_a_hidden_file_that_is_removed_before_it_is_locked(place: str) -> None:
     """As by another run, which takes it for one that a killed run has left: another one is made."""
     write(place, "f", USUAL.stored(walk(1, 500)))

@@ -163,20 +163,6 @@ def test_only_the_groups_needed_are_read(large: Any, tmp_path: Any) -> None:
             list(file)
 
 
-def test_bad_ranges_that_touch_are_one(large: Any, tmp_path: Any) -> None:
-    """Neighbours among the damaged groups are one range, and others are ranges of their own."""
-    path, _ = large
-    other = str(tmp_path / "f.aec")
-    with open(path, "rb") as source, open(other, "wb") as target:
-        target.write(source.read())
-    groups = parts_at(path).groups
-    starts = [it.interval * 64 for it in groups]
-    for number in (0, 1, 2, 5):
-        flip(other, groups[number].bit + 5000)
-    with aecp.open(other) as file:
-        assert [tuple(it) for it in file.bad_ranges()] == [(0, starts[3]), (starts[5], starts[6] - starts[5])]
-
-
 def damaged() -> Any:
     from aecp.archive import Damaged
 
