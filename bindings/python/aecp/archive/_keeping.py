@@ -67,6 +67,7 @@ def keep(how: Keeping, found: Found) -> Outcome:
     """Keeps a file, or returns why it can't. Raises what reading and writing raise."""
     target = target_of(how, found)
     clean(os.path.dirname(target) or ".")
+    _saving.remove_empty(target)
     if not os.path.lexists(target):
         try:
             return keep_new(how, found, target)
