@@ -225,6 +225,19 @@ def test_a_trailer_of_an_impossible_length_is_not_read(place: str) -> None:
         assert "impossible length" in command(place, verb, "f.aec", how=How(seconds=20)).said, verb
 
 
+def test_a_group_of_more_code_than_a_group_has(place: str) -> None:
+    """A reader holds a group in memory. Its CRC and its samples are right, but it is that of four groups."""
+    import crafted
+    import plain_form
+
+    path = keep(place, "f", noise(1, 60000))
+    parts = parts_at(path)
+    del parts.groups[1:4]
+    crafted.fixed_groups(parts, plain_form)
+    write(place, "f.aec", parts.sealed())
+    assert "the index is damaged: group 0" in command(place, "check", "f.aec").said
+
+
 def test_a_history_of_too_many_entries(place: str) -> None:
     """The writer refuses to write such a history, and the reader to read it."""
     path = keep(place, "f", walk(1, 300))
