@@ -4,14 +4,15 @@ from __future__ import annotations
 
 import os
 import threading
+import time
 from typing import Any
 
 import aecp
 import pytest
 from aecp import archive
 from aecp.archive import _originals, _saving
-from making import FAST, USUAL, keep, leftovers, made, noise, old_pair, read, samples_at, sound_parts, walk, words_of, write
-from running import How, Hooks, command, done
+from making import FAST, USUAL, flip, keep, leftovers, made, noise, old_pair, read, samples_at, sound_parts, walk, words_of, write
+from running import How, Hooks, Started, command, done, start
 from test_keep_remove import patch_calls
 
 STORED = FAST.stored(walk(1, 20000))
@@ -152,6 +153,29 @@ def test_a_link_to_the_file_that_was_locked_is_not_replaced(place: str) -> None:
             os.rename(path, moved)
             os.symlink(moved, path)
     assert os.path.islink(path) and sound_parts(moved) and leftovers(place) == []
+
+
+def test_repair_waits_for_a_lock(place: str) -> None:
+    """Another run may be editing the file."""
+    path = keep(place, "f", walk(1, 3000))
+    flip(path, 4000)
+    damaged, go, ready = read(path), os.pipe(), os.pipe()
+
+    def holding() -> None:
+        with _saving.locked(path):
+            os.write(ready[1], b"x")
+            os.read(go[0], 1)
+
+    holder = Started(place, holding, How())
+    os.read(ready[0], 1)
+    running = start(place, "keep", "f", *words_of(USUAL), "--repair", "--jobs", "1", how=How(seconds=60))
+    for _ in range(30):
+        time.sleep(0.05)
+        assert read(path) == damaged
+    os.write(go[1], b"x")
+    assert holder.ended().status == 0
+    ran = running.ended()
+    assert ran.status == 0 and "1 repaired" in ran.out and samples_at(path) == walk(1, 3000), ran
 
 
 def test_the_note_of_an_old_pair_goes_last(place: str) -> None:

@@ -90,6 +90,16 @@ def test_messages_about_kept_files_elsewhere_name_them(place: str) -> None:
     assert "g: FILE.aec isn't sound: " in refused(place, "keep", "g", *words_of(USUAL)).err
 
 
+def test_json_says_which_originals_are_removed(place: str) -> None:
+    for name in "abc":
+        keep(place, name, walk(1, 500))
+    done(place, "edit", "b.aec", "-", given=b"append 7\n")
+    found = json.loads(command(place, "keep", "a", "b", *words_of(USUAL), "--remove", "--json").out)
+    assert [(it["file"], it["kind"], it.get("removed", False)) for it in found["files"]] == [("a", "skipped", True), ("b", "refused", False)]
+    found = json.loads(done(place, "keep", "c", *words_of(USUAL), "--json").out)
+    assert "removed" not in found["files"][0] and sorted(it for it in os.listdir(place) if "." not in it) == ["b", "c"]
+
+
 def test_two_originals_whose_kept_files_would_have_one_name(place: str) -> None:
     for folder, data in (("x", DATA), ("y", DATA[::-1])):
         os.mkdir(os.path.join(place, folder))
