@@ -95,7 +95,8 @@ def test_json_says_which_originals_are_removed(place: str) -> None:
         keep(place, name, walk(1, 500))
     done(place, "edit", "b.aec", "-", given=b"append 7\n")
     found = json.loads(command(place, "keep", "a", "b", *words_of(USUAL), "--remove", "--json").out)
-    assert [(it["file"], it["kind"], it.get("removed", False)) for it in found["files"]] == [("a", "skipped", True), ("b", "refused", False)]
+    said = [(it["file"], it["kind"], it.get("removed", False)) for it in found["files"]]
+    assert said == [("a", "skipped", True), ("b", "refused", False)]
     found = json.loads(done(place, "keep", "c", *words_of(USUAL), "--json").out)
     assert "removed" not in found["files"][0] and sorted(it for it in os.listdir(place) if "." not in it) == ["b", "c"]
 
