@@ -101,6 +101,17 @@ def test_json_says_which_originals_are_removed(place: str) -> None:
     assert "removed" not in found["files"][0] and sorted(it for it in os.listdir(place) if "." not in it) == ["b", "c"]
 
 
+def test_an_empty_kept_file_is_made_anew(place: str) -> None:
+    """And said, since a file that a fault of the disk has emptied may have had edits."""
+    path = keep(place, "f", walk(1, 500))
+    os.truncate(path, 0)
+    ran = done(place, "keep", "f", *words_of(USUAL), "--anyway")
+    assert "f: FILE.aec was empty, and is made anew" in ran.err and "1 kept" in ran.out, ran
+    assert samples_at(path) == walk(1, 500)
+    os.truncate(path, 1)
+    assert "isn't sound" in refused(place, "keep", "f", *words_of(USUAL)).err
+
+
 def test_two_originals_whose_kept_files_would_have_one_name(place: str) -> None:
     for folder, data in (("x", DATA), ("y", DATA[::-1])):
         os.mkdir(os.path.join(place, folder))

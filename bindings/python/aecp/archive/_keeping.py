@@ -67,10 +67,11 @@ def keep(how: Keeping, found: Found) -> Outcome:
     """Keeps a file, or returns why it can't. Raises what reading and writing raise."""
     target = target_of(how, found)
     clean(os.path.dirname(target) or ".")
-    _saving.remove_empty(target)
+    text = _saving.remove_empty(target)
     if not os.path.lexists(target):
         try:
-            return keep_new(how, found, target)
+            outcome = keep_new(how, found, target)
+            return replace(outcome, said=outcome.said or text)
         except Exists:  # another run was faster
             pass
     return keep_again(how, found, target)

@@ -332,8 +332,11 @@ def remove_leftover(path: str, is_empty: bool = False) -> None:
             os.close(file)
 
 
-def remove_empty(path: str) -> None:
-    """Removes an empty FILE.aec that `rename_over_empty` of a killed run has left."""
+def remove_empty(path: str) -> str:
+    """Removes an empty FILE.aec, such as `rename_over_empty` of a killed run leaves. Returns what
+    there is to say of it."""
     with contextlib.suppress(OSError):
         if os.lstat(path).st_size == 0:
             remove_leftover(path, is_empty=True)
+            return "" if os.path.lexists(path) else "FILE.aec was empty, and is made anew"
+    return ""
