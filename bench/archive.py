@@ -73,11 +73,13 @@ def detector(seed: int, samples: int) -> bytes:
 
 
 def write_large(path: str, size: int) -> None:
-    piece = detector(1, MIB // 2)
+    """Writes samples whose noise is another in each MiB: else zstd would find the same bytes again."""
+    piece, noisy = detector(1, MIB // 2), int.from_bytes(b"\x0f\0" * (MIB // 2), "little")
     with open(path, "wb") as file:
         for number in range(size // MIB):
             cut = 2 * (number * 7919 % (MIB // 2))
-            file.write(piece[cut:] + piece[:cut])
+            noise = int.from_bytes(random.Random(number).randbytes(MIB), "little") & noisy
+            file.write((int.from_bytes(piece[cut:] + piece[:cut], "little") ^ noise).to_bytes(MIB, "little"))
 
 
 def ends(place: str, full: bool) -> None:

@@ -220,8 +220,11 @@ def main() -> None:
     folder, first, count = sys.argv[1], int(sys.argv[2]), int(sys.argv[3])
     here = os.path.dirname(os.path.abspath(__file__))
     sys.path[:0] = [here, os.path.dirname(here)]
-    import aecp.archive  # noqa: F401 - so that children needn't
+    import aecp.archive._verbs  # noqa: F401 - so that children needn't
     import aecp.cli  # noqa: F401
+    from aecp.library import LIBRARY
+
+    LIBRARY.load_now()
 
     with open(os.path.join(folder, "sound.aec"), "rb") as file:
         sound = file.read()

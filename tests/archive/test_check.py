@@ -81,6 +81,15 @@ def test_each_damage_is_found_and_no_other(place: str, times: int) -> None:
         assert tree(folder) == before, "nothing is written"
 
 
+def test_the_sum_of_the_original_is_compared(place: str) -> None:
+    """Samples, stream and history belong together, but the file that was kept had another sum."""
+    path = keep(place, "f", walk(1, 3000))
+    write(place, "f.aec", forged(parts_at(path), "source"))
+    assert "those of the original" in refused(place, "check", "f.aec").said
+    refused(place, "back", "f.aec", "out")
+    assert "out" not in os.listdir(place)
+
+
 def test_damaged_groups_are_named_with_their_samples(place: str) -> None:
     samples = noise(1, 60000)
     path = keep(place, "f", samples)
@@ -243,6 +252,11 @@ def test_limit(place: str) -> None:
     ran = refused(place, "check", "f.aec", "--limit", "99999")
     assert "99999" in ran.said.replace(",", "")
     done(place, "check", "f.aec", "--limit", "100000")
+    write(place, "g", FAST.stored([0] * 1000))
+    refused(place, "keep", "g", "-n", "16", "--limit", "999")
+    assert "g.aec" not in os.listdir(place)
+    done(place, "keep", "g", "-n", "16", "--limit", "1000")
+    refused(place, "keep", "g", "-n", "16", "--limit", "999")
 
 
 def test_each_flipped_byte_behind_the_stream(place: str) -> None:

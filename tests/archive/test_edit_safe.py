@@ -143,6 +143,22 @@ def test_another_coders_stream_comes_back_by_undo(place: str) -> None:
     assert parts_at(path).stream == stream
 
 
+def test_a_long_edit_can_be_undone(place: str) -> None:
+    """What undoes an edit is never a script that is longer than a script may be."""
+    samples = noise(1, 500) * 20  # the lines of a script repeat, and the bits of the stream don't
+    path = keep(place, "f", samples, FAST)
+    stream = parts_at(path).stream
+
+    def limited() -> None:
+        from aecp.archive import _editing, _stored
+
+        _editing.MOST_SCRIPT = _stored.MOST_SCRIPT = 1000  # type: ignore[misc]
+
+    done(place, "edit", "f.aec", "-", given=b"remove 500 1000\n", how=How(before=limited))
+    done(place, "undo", "f.aec", how=How(before=limited))
+    assert parts_at(path).stream == stream
+
+
 @pytest.mark.parametrize("words,cut", [("edit f.aec -", 0), ("edit f.aec -", 3), ("undo f.aec", 0), ("undo f.aec", 3)])
 def test_a_wrong_coder_is_noticed(place: str, words: str, cut: int) -> None:
     """A stream that is cut, or that decodes to other samples, never replaces the file."""

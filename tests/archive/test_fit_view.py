@@ -141,3 +141,4 @@ def test_view_of_frames(place: str) -> None:
     done(place, "view", "f.aec", "o.pgm", "--frame", "2", "--min", "20", "--max", "22")
     got: Any = read(place, "o.pgm")
     assert got.startswith(b"P5\n3 4\n255\n") and got[-12:] == bytes([0, 127, 255] * 4), got
+    assert "none of its 3 frames" in refused(place, "view", "f.aec", "p.pgm", "--frame", "3").err

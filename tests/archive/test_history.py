@@ -147,6 +147,11 @@ def pixels(count: int) -> dict[str, Any]:
     return {"pixels": {"count": count, "gaps": "", "values": ""}}
 
 
+def undo_of(entry: dict[str, Any], edit: int) -> dict[str, Any]:
+    """Returns an entry that says that an edit was undone, with the state after another entry."""
+    return {"what": "undo", "edit": edit, **{name: entry[name] for name in ("when", "by", "before", "after")}}
+
+
 FORGERIES = {
     "same as a later one": lambda it: it[1].update(script={"same": 2}),
     "same as itself": lambda it: it[1].update(script={"same": 1}),
@@ -173,7 +178,9 @@ FORGERIES = {
     "too many pixels": lambda it: it[2].update(script=pixels(2**32)),
     "a shape of other samples": lambda it: it[2].update(shape=[3, 999]),
     "a shape that is a text": lambda it: it[2].update(shape="30x100"),
-    "an undo of no edit": lambda it: it.append({**it[2], "what": "undo", "edit": 0}),
+    "an undo of no edit": lambda it: it.append(undo_of(it[2], 0)),
+    "an undo of an edit that isn't undone": lambda it: it.append(undo_of(it[2], 2)),
+    "an undo of itself": lambda it: it.append(undo_of(it[2], 3)),
     "no list": lambda it: it.clear(),
     "an entry more": lambda it: it.append(dict(it[2])),
     "an unknown entry": lambda it: it.append({"what": "other", "when": it[0]["when"], "by": it[0]["by"]}),
@@ -288,7 +295,9 @@ def test_a_damaged_history_costs_no_samples(place: str) -> None:
         refused(place, *words, given=b"append 1\n")
         assert read(path) == before
     done(place, "keep", "f", *USUAL.options(), "--repair")
-    assert sound_parts(path).stream == parts.stream
+    repaired = sound_parts(path)
+    assert repaired.stream == parts.stream and [it["what"] for it in repaired.history] == ["keep"]
+    assert repaired.history[0]["after"] == parts.history[0]["after"]
 
 
 def test_forget_moves_the_places_of_undone_edits(place: str) -> None:

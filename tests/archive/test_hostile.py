@@ -168,6 +168,32 @@ def test_fields_are_demanded_exactly(place: str) -> None:
     assert USUAL.bits == 16
 
 
+@pytest.mark.parametrize("foot", [{"flags": 1}, {"flags": 2**31}, {"version": 1}, {"version": 3}, {"crc": 1}, {"foot_crc": 1}])
+def test_the_foot_is_demanded_exactly(place: str, foot: dict[str, int]) -> None:
+    """A later form may say by a flag that its parts mean something else."""
+    path = keep(place, "f", walk(1, 300))
+    write(place, "f.aec", parts_at(path).sealed(**foot))
+    assert command(place, "check", "f.aec").status == 1
+    with pytest.raises(aecp.archive.Damaged):
+        aecp.open(path).close()
+
+
+def test_objects_in_the_trailer_are_demanded_exactly(place: str) -> None:
+    """A field more or less in an object within the trailer is refused."""
+    path = keep(place, "f", walk(1, 300))
+    sound = parts_at(path)
+    objects = {name: it for name, it in sound.fields.items() if isinstance(it, dict)}
+    assert set(objects) == {"options", "samples", "stream", "source", "index", "history"}
+    for name, it in objects.items():
+        changes = [{**it, "more": 1}] + [{key: it[key] for key in it if key != gone} for gone in it]
+        for change in changes:
+            parts = sound.copy()
+            parts.fields[name] = change
+            write(place, "f.aec", parts.sealed(with_sums=False))
+            with pytest.raises(aecp.archive.Damaged):
+                aecp.open(path).close()
+
+
 def test_a_field_twice_is_refused_or_the_last_one(place: str) -> None:
     import zlib
 
@@ -184,6 +210,61 @@ def test_a_field_twice_is_refused_or_the_last_one(place: str) -> None:
     write(place, "f.aec", front + ended(zlib.compress(text) + b"more"))
     assert command(place, "check", "f.aec").status == 1
     assert parts.groups
+
+
+def test_a_trailer_of_an_impossible_length_is_not_read(place: str) -> None:
+    """The foot of a sparse file of 20 GiB names a trailer of as many bytes."""
+    from plain_form import ended
+
+    size = 20 << 30
+    path = write(place, "f.aec", b"")
+    os.truncate(path, size - 32)
+    with open(path, "ab") as file:
+        file.write(ended(b"", length=size - 32))
+    for verb in ("check", "info", "rescue"):
+        assert "impossible length" in command(place, verb, "f.aec", how=How(seconds=20)).said, verb
+
+
+def test_a_group_of_more_code_than_a_group_has(place: str) -> None:
+    """A reader holds a group in memory. Its CRC and its samples are right, but it is that of four groups."""
+    import crafted
+    import plain_form
+
+    path = keep(place, "f", noise(1, 60000))
+    parts = parts_at(path)
+    del parts.groups[1:4]
+    crafted.fixed_groups(parts, plain_form)
+    write(place, "f.aec", parts.sealed())
+    assert "the index is damaged: group 0" in command(place, "check", "f.aec").said
+
+
+def test_a_history_of_too_many_entries(place: str) -> None:
+    """The writer refuses to write such a history, and the reader to read it."""
+    path = keep(place, "f", walk(1, 300))
+    parts = parts_at(path)
+    parts.history = parts.history * (1 << 14)
+    write(place, "f.aec", parts.sealed())
+    assert command(place, "check", "f.aec").status == 0
+    parts.history.append(parts.history[0])
+    write(place, "f.aec", parts.sealed())
+    assert "16384 entries" in command(place, "check", "f.aec").said
+
+
+@pytest.mark.parametrize("part", ["trailer", "history"])
+def test_json_of_too_many_values_is_not_parsed(place: str, part: str) -> None:
+    """Some kilobytes, packed, of lists within a list would take a hundred megabytes and more."""
+    import zlib
+
+    from plain_form import ended
+
+    path = keep(place, "f", walk(1, 300))
+    parts, many = parts_at(path), zlib.compress(b"[" + b"[]," * 1_300_000 + b"[]]", 9)
+    if part == "history":
+        parts.history = many  # type: ignore[assignment]
+        write(place, "f.aec", parts.sealed())
+    else:
+        write(place, "f.aec", parts.stream + ended(many))
+    assert "too many values" in command(place, "check", "f.aec").said
 
 
 def test_bombs_in_trailer_head_and_tail(place: str) -> None:

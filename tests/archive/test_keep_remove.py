@@ -102,19 +102,22 @@ def append(path: str) -> None:
 
 
 def patch_calls(number: int, action: Any) -> None:
-    """Calls action() before the os call of this process with a number. The calls are those that look at names or change them."""
+    """Calls action() before the os call of this process with a number, counted from 1 at the first call that names the original, a.
+    The calls are those that look at names or files. Calls before that are Python's own, such as those of argparse. Removals aren't
+    counted: no call lies between the last look at the original and its removal."""
     count = [0]
 
     def patched(real: Any) -> Any:
         def made(*words: Any, **more: Any) -> Any:
-            count[0] += 1
-            if count[0] == number:
-                action()
+            if count[0] or (words and isinstance(words[0], str) and os.path.basename(words[0]) == "a"):
+                count[0] += 1
+                if count[0] == number:
+                    action()
             return real(*words, **more)
 
         return made
 
-    for name in ("open", "read", "pread", "stat", "lstat", "fstat", "fsync", "rename", "replace", "link", "unlink", "close"):
+    for name in ("open", "read", "pread", "stat", "lstat", "fstat", "fsync", "rename", "replace", "link", "close"):
         setattr(os, name, patched(getattr(os, name)))
 
 

@@ -139,6 +139,29 @@ def test_fits_headers(place: str) -> None:
     assert read(place, "a.fits") == whole
 
 
+def fits_part(first: str, bits: int, sizes: tuple[int, ...], data: bytes) -> bytes:
+    """Returns a header and data, each filled up to whole blocks of 2,880 bytes."""
+    cards = [first, f"BITPIX  = {bits:20}", f"NAXIS   = {len(sizes):20}"]
+    cards += [f"NAXIS{i + 1}  = {it:20}" for i, it in enumerate(sizes)]
+    if first.startswith("XTENSION"):
+        cards += [f"PCOUNT  = {0:20}", f"GCOUNT  = {1:20}"]
+    head = "".join(f"{it:<80}" for it in [*cards, "END"]).encode()
+    return head + b" " * (-len(head) % 2880) + data + bytes(-len(data) % 2880)
+
+
+def test_a_fits_image_after_one_of_floats(place: str) -> None:
+    """The first image of whole numbers is kept, and what is before it is its head. The floats look like a line of a header."""
+    data = Settings(bits=16, msb_first=True, signed=True).stored(walk(1, 6000))
+    first = fits_part("SIMPLE  =                    T", -32, (10, 11), b"BITPIX  =                    8".ljust(440))
+    whole = first + fits_part("XTENSION= 'IMAGE   '", 16, (100, 60), data)
+    write(place, "a.fits", whole)
+    done(place, "keep", "a.fits", "--remove")
+    parts = sound_parts(os.path.join(place, "a.fits.aec"))
+    assert (parts.fields["shape"], parts.fields["dtype"], parts.fields["samples"]["count"]) == ([60, 100], ">i2", 6000)
+    done(place, "back", "a.fits.aec")
+    assert read(place, "a.fits") == whole
+
+
 def test_skip_bytes(place: str) -> None:
     whole = b"header of 23 bytes ....\n"[:23] + DATA
     write(place, "a.edf", whole)

@@ -183,17 +183,19 @@ def test_back_waits_for_no_pipe(place: str) -> None:
 def test_leftovers_that_are_not_ours(place: str, outside: str) -> None:
     """Hidden names that are links, folders, pipes or another's files lead nowhere, and stop nothing."""
     keep(place, "f", walk(1, 500))
-    os.symlink(os.path.join(outside, "file"), os.path.join(place, ".aecp-abcdefgh.new"))
-    os.mkdir(os.path.join(place, ".aecp-bcdefghi.new"))
-    os.mkfifo(os.path.join(place, ".aecp-cdefghij.new"))
-    os.link(os.path.join(outside, "file"), os.path.join(place, ".aecp-defghijk.new"))
-    os.symlink("/dev/zero", os.path.join(place, ".aecp-efghijkl.new"))
+    planted = [os.path.join(place, f".aecp-{number:08x}.new") for number in range(5)]
+    os.symlink(os.path.join(outside, "file"), planted[0])
+    os.mkdir(planted[1])
+    os.mkfifo(planted[2])
+    os.link(os.path.join(outside, "file"), planted[3])
+    os.symlink("/dev/zero", planted[4])
     before = tree(outside)
     for words in (["edit", "f.aec", "-"], ["undo", "f.aec"], ["keep", ".", *words_of(USUAL), "--anyway"], ["check", "."]):
         ran = command(place, *words, given=b"append 1\n", how=How(seconds=15))
         assert ran.status == 0, ran
     assert tree(outside) == before
-    assert os.stat(os.path.join(outside, "file")).st_mode & 0o777 == os.stat(os.path.join(outside, "file")).st_mode & 0o777
+    # The hard link was a regular file that nobody has locked: its name goes, and the file outside stays.
+    assert sorted(leftovers(place)) == sorted(os.path.basename(it) for it in planted if it != planted[3])
 
 
 def test_a_fifo_at_each_name(place: str) -> None:

@@ -148,6 +148,7 @@ def test_cut_streams(place: str, times: int) -> None:
             whole += 1
         assert got[: 2 * whole] == stored[: 2 * whole], number
         assert not any(got[2 * whole + 2 * 16 :]), number
+        assert len(got) == len(stored), "each sample has its place"
 
 
 def forged(path: str, change: Any) -> None:
@@ -177,6 +178,28 @@ def test_a_damaged_index(place: str) -> None:
     if ran.status == 1 and not os.path.exists(os.path.join(place, "out")):
         ran = command(place, "rescue", "f.aec", "out", *words_of(USUAL), "--count", "30000")
     assert read(place, "out") == USUAL.stored(samples), ran
+
+
+def test_what_is_around_the_samples_is_rescued(place: str) -> None:
+    """With a damaged group or a damaged index, but not with a range of samples."""
+    array = numpy.array(noise(1, 30000), dtype="<u2")
+    numpy.save(os.path.join(place, "a.npy"), array)
+    with open(os.path.join(place, "a.npy"), "ab") as file:
+        file.write(b"the tail")
+    whole = read(place, "a.npy")
+    done(place, "keep", "a.npy", "--anyway")
+    path = os.path.join(place, "a.npy.aec")
+    sound, parts = read(path), parts_at(path)
+    done(place, "rescue", "a.npy.aec", "part", "--range", "5:7")
+    assert read(place, "part") == array[5:12].tobytes()
+    flip(path, 8 * (len(parts.stream) + 20) + 3)
+    done(place, "rescue", "a.npy.aec", "index")
+    assert read(place, "index") == whole
+    write(place, "a.npy.aec", sound)
+    flip(path, parts.groups[1].bit + 100)
+    assert command(place, "rescue", "a.npy.aec", "group").status == 1
+    got, first = read(place, "group"), whole.index(array.tobytes())
+    assert len(got) == len(whole) and got[:first] == whole[:first] and got.endswith(b"the tail")
 
 
 def test_count(place: str) -> None:

@@ -165,6 +165,27 @@ def test_each_system_call(place: str, name: str, after: bool) -> None:
     assert number > 4, f"{name} makes only {number} calls"
 
 
+@pytest.mark.parametrize("name", ["keep", "keep --remove"])
+@pytest.mark.parametrize("after", [False, True], ids=["before", "after"])
+def test_each_system_call_without_hard_links(place: str, name: str, after: bool) -> None:
+    """Without links and renameat2, a stop can leave an empty FILE.aec. The next `keep` replaces it, and no original is lost."""
+    trial, number, empties = Trial(place, BY_NAME[name]), 0, 0
+    while True:
+        number += 1
+        trial.begin()
+        hooks = Hooks(stop=number, after=after, refuse=("link", "linkat", "renameat2"))
+        ran = start(trial.folder, *trial.verb.words, how=How(hooks=hooks)).ended()
+        path, original = os.path.join(trial.folder, "f.aec"), os.path.join(trial.folder, "f")
+        is_empty = os.path.exists(path) and os.path.getsize(path) == 0
+        empties += is_empty
+        assert is_empty or trial.target_in(trial.folder) in (trial.old, trial.new), f"call {number}"
+        assert not is_empty or read(original) == STORED, f"call {number}"
+        trial.go_on(f"{name} stopped at call {number}")
+        if ran.status == 0:
+            break
+    assert number > 4 and empties
+
+
 @pytest.mark.parametrize("name", BY_NAME)
 @pytest.mark.parametrize("error", [28, 5], ids=["full", "broken"])
 def test_each_call_that_fails(place: str, name: str, error: int) -> None:
@@ -207,7 +228,9 @@ def test_random_moments(place: str, name: str, times: int) -> None:
         running = start(trial.folder, *trial.verb.words, how=How(trial.verb.given))
         time.sleep(chance.random() * 1.1 * whole)
         running.kill()
-        stopped += running.ended().status != 0
+        is_stopped = running.ended().status != 0
+        stopped += is_stopped
+        whole *= 1.1 if is_stopped else 0.8  # the first run may have taken longer, beside other work
         trial.judge(f"{name} stopped at random moment {number}")
     assert stopped > rounds // 12, f"only {stopped} of {rounds} runs were stopped"
 

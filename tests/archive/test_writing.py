@@ -2,6 +2,7 @@
 
 from __future__ import annotations
 
+import dataclasses
 import io
 import os
 import random
@@ -217,6 +218,25 @@ def test_what_was_written_is_decoded_before_it_appears(tmp_path: Any, monkeypatc
     from aecp.archive import Refused
 
     with pytest.raises(Refused):
+        made(str(tmp_path / "f.aec"), walk(1, 3000))
+    assert os.listdir(tmp_path) == []
+
+
+@pytest.mark.parametrize("part", ["trailer", "history"])
+def test_what_was_written_is_read_again_before_it_appears(tmp_path: Any, monkeypatch: Any, part: str) -> None:
+    """A file that a reader would refuse, or that says something else, is noticed."""
+    from aecp.archive import Refused, _writer
+
+    real = _writer.ending
+    history = _writer.packed_history([])
+
+    def ending(facts: Any, index: bytes, entries: bytes) -> bytes:
+        if part == "history":
+            return real(facts, index, history)
+        return real(dataclasses.replace(facts, written="yesterday"), index, entries)
+
+    monkeypatch.setattr(_writer, "ending", ending)
+    with pytest.raises(Refused, match="can't be read again"):
         made(str(tmp_path / "f.aec"), walk(1, 3000))
     assert os.listdir(tmp_path) == []
 

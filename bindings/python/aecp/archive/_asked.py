@@ -164,9 +164,17 @@ class Counts:
         self.kinds[outcome.kind] = self.kinds.get(outcome.kind, 0) + 1
         self.bytes += outcome.bytes
         self.coded += outcome.coded
-        said = {"file": shown(found.name), "kind": outcome.kind, "text": outcome.said}
+        said = {"file": found.name, "kind": outcome.kind, "text": outcome.said}
         sizes = {"bytes": outcome.bytes, "coded": outcome.coded}
         self.files.append({**said, **sizes, **outcome.more})
+
+    def add_passed(self, passed: list[Passed]) -> None:
+        """Counts paths that aren't worked on."""
+        for it in passed:
+            kind = "refused" if it.is_bad else "passed"
+            self.kinds[kind] = self.kinds.get(kind, 0) + 1
+            said = {"file": it.name, "kind": kind, "text": it.why}
+            self.files.append({**said, "bytes": 0, "coded": 0})
 
     def text(self, names: dict[str, str]) -> str:
         """Returns the numbers of files in words."""

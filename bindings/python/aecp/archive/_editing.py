@@ -146,7 +146,7 @@ def undoing_of(result: Result, edits: Sequence[Edit], kept: ArchiveFile) -> Undo
         changed = sum(last - first for first, last in differing_runs(old, new, store.width))
         values = Values(encode(old, options))
         return Undoing(changed, b"".join(values.lines(places_in(result), options)), values)
-    lines, changed = Lines(kept.facts.stream.bytes), 0
+    lines, changed = Lines(min(kept.facts.stream.bytes, MOST_SCRIPT)), 0
     for exchange in result.exchanges():
         changed += add_inverse(lines, exchange, reader, store)
     return Undoing(changed, lines.script)

@@ -34,6 +34,7 @@ from aecp.archive._strict import (
 from aecp.options import FLAGS, NUMBERS, Options
 
 FORMAT = 2  # of the trailer, and the version in the foot
+NO_TRAILER = "it has no trailer at its end: it is no kept file, is cut, or has bytes after its end"
 MAGIC = b"aecp\r\n\x1a\n"
 FOOT = struct.Struct("<8sIIQI")  # magic, version, flags, length and CRC-32 of the trailer
 CRC = struct.Struct("<I")  # CRC-32 of the 28 bytes before it
@@ -254,7 +255,7 @@ def packed_side(side: bytes) -> str:
 def foot_of(data: bytes) -> Part:
     """Returns the length and the CRC-32 of the trailer that a foot names. Raises Damaged."""
     if len(data) != FOOT_BYTES or not data.startswith(MAGIC):
-        raise Damaged("no trailer", "it has no trailer at its end: it is no kept file, or is cut")
+        raise Damaged("no trailer", NO_TRAILER)
     foot, (crc,) = data[: FOOT.size], CRC.unpack(data[FOOT.size :])
     _, version, flags, length, trailer_crc = FOOT.unpack(foot)
     if zlib.crc32(foot) != crc:

@@ -11,13 +11,14 @@ from dataclasses import dataclass, replace
 from typing import BinaryIO, Optional
 
 from aecp import streams
+from aecp._console import shown
 from aecp.archive import _saving
 from aecp.archive._file import ArchiveFile, opened
 from aecp.archive._form import MOST_SIDE, Damaged, Exists, Facts, Refused, Source
 from aecp.archive._headers import Layout, layout_of, options_of
 from aecp.archive._history import Entry, keep_entry
 from aecp.archive._originals import Reading, original, read_all, same, sha256_of
-from aecp.archive._outcomes import Outcome, words_of
+from aecp.archive._outcomes import Outcome, damage_named, shape_text, words_of
 from aecp.archive._pairs import converted, note_at
 from aecp.archive._paths import STREAM, Found, place_below
 from aecp.archive._stored import Scripted
@@ -66,9 +67,11 @@ def keep(how: Keeping, found: Found) -> Outcome:
     """Keeps a file, or returns why it can't. Raises what reading and writing raise."""
     target = target_of(how, found)
     clean(os.path.dirname(target) or ".")
+    text = _saving.remove_empty(target)
     if not os.path.lexists(target):
         try:
-            return keep_new(how, found, target)
+            outcome = keep_new(how, found, target)
+            return replace(outcome, said=outcome.said or text)
         except Exists:  # another run was faster
             pass
     return keep_again(how, found, target)
@@ -214,16 +217,27 @@ def removed(path: str, file: BinaryIO, before: os.stat_result, outcome: Outcome)
     return replace(outcome, more={"removed": True})
 
 
+def name_of(how: Keeping, target: str) -> str:
+    """Returns what a message calls the kept file, after the name of the original."""
+    return "FILE.aec" if how.to is None else shown(target)
+
+
 def keep_again(how: Keeping, found: Found, target: str) -> Outcome:
     """Returns the outcome for a file that is kept already: skipped, changed, repaired or
     refused."""
+    with damage_named(name_of(how, target)):
+        return kept_outcome(how, found, target)
+
+
+def kept_outcome(how: Keeping, found: Found, target: str) -> Outcome:
+    """Does what keep_again does. Raises Damaged without the name of the kept file."""
     note = ""
     if is_old(target):
         convert(target)
         note = "its two files of the older form became one"
     if how.repair:
         with _saving.locked(target) as status:
-            outcome = repaired(found, target, status)
+            outcome = repaired(how, found, target, status)
     else:
         outcome = compared(how, found, target, note)
     if not how.remove or outcome.kind == "changed":
@@ -231,7 +245,8 @@ def keep_again(how: Keeping, found: Found, target: str) -> Outcome:
     with original(found.path) as file, opened(target) as kept:
         before = os.fstat(file.fileno())
         if not is_restored(kept, file, before.st_size):
-            why = "it isn't removed: FILE.aec was edited since, or the file has changed"
+            name = name_of(how, target)
+            why = f"it isn't removed: {name} was edited since, or the file has changed"
             return replace(outcome, kind="refused", said=why)
         _saving.sync(target)  # it may be a copy that isn't on the disk yet
         return removed(found.path, file, before, outcome)
@@ -273,15 +288,20 @@ def compared(how: Keeping, found: Found, target: str, note: str) -> Outcome:
         if is_same and (status.st_mtime_ns != source.mtime_ns or how.rehash):
             is_same = sha256_of(file) == source.sha256
     if not is_same:
-        why = "it has changed since it was kept: move FILE.aec away to keep it anew"
-        return Outcome("changed", why)
-    return Outcome("skipped", note or other_options(how, facts.options))
+        why = "it has changed since it was kept"
+        if how.to is not None:
+            why += ", or another file of its name was kept"
+        return Outcome("changed", f"{why}: move {name_of(how, target)} away to keep it anew")
+    return Outcome("skipped", note or other_options(how, facts))
 
 
-def other_options(how: Keeping, recorded: Options) -> str:
-    """Returns a text if the user gave options other than the recorded ones."""
+def other_options(how: Keeping, facts: Facts) -> str:
+    """Returns a text if the user gave options, a shape or a type other than the recorded ones."""
+    recorded = facts.options
     if any(getattr(recorded, name) != value for name, value in how.given.items()):
         return f"it is kept already, with other options: {words_of(recorded)}"
+    if how.shape not in (None, facts.shape) or how.dtype not in (None, facts.dtype):
+        return f"it is kept already, as {shape_text(facts)}"
     return ""
 
 
@@ -298,7 +318,7 @@ def is_restored(kept: ArchiveFile, file: BinaryIO, size: int) -> bool:
     return read_all(file, len(tail) + 1) == tail
 
 
-def repaired(found: Found, target: str, status: os.stat_result) -> Outcome:
+def repaired(how: Keeping, found: Found, target: str, status: os.stat_result) -> Outcome:
     """Makes a locked kept file anew from its original, if it is damaged."""
     try:
         with ArchiveFile.open(target) as kept:
@@ -309,8 +329,8 @@ def repaired(found: Found, target: str, status: os.stat_result) -> Outcome:
             except Damaged:
                 history = history_or_none(kept)
     except Damaged as error:
-        text = f"it can't be repaired: {error}. Move FILE.aec away, and keep the file anew"
-        raise Refused(text) from None
+        text = f"{name_of(how, target)} can't be repaired: {error}"
+        raise Refused(f"{text}. Move it away, and keep the file anew") from None
     with original(found.path) as file:
         rebuild(file, target, status, facts, history)
     return Outcome("repaired", "", found.size, facts.stream.bytes)

@@ -51,9 +51,11 @@ def do_diff(asked: argparse.Namespace, console: Console) -> int:
 
 def say_difference(asked: argparse.Namespace, console: Console, it: _showing.Compared) -> None:
     """Prints how two lists of samples differ."""
-    is_equal_long = len(it.before) == len(it.after)
+    is_script = asked.script or len(it.before) != len(it.after)
     names = _showing.names_between(it)
-    if asked.script or (not is_equal_long) or (it.grid is None and not asked.json):
+    if is_script and asked.json:
+        console.say_json({"script": b"".join(_showing.script_between(it)).decode("ascii")})
+    elif is_script or (it.grid is None and not asked.json):
         for line in _showing.script_between(it):
             console.write(line)
     elif asked.json:
@@ -206,13 +208,15 @@ def do_rescue(asked: argparse.Namespace, console: Console) -> int:
     options = options_of(asked) if asked.bits is not None else None
     if asked.count is not None and options is None:
         raise Wrong("--count needs -n: without -n the file's own count is taken")
+    if part is not None and options is not None:
+        raise Wrong("--range and -n exclude each other: the index of the file finds the range")
     if "-" == asked.out == asked.ranges:
         raise Wrong("only one of OUT and --ranges can be standard output")
 
     def work() -> int:
         rescued = rescue_file(asked, part, options)
         text = f"{shown(asked.file)}: {rescued.text}"
-        value = _restoring.rescued_json(shown(asked.file), rescued)
+        value = _restoring.rescued_json(asked.file, rescued)
         if asked.ranges is not None:
             write_ranges(asked.ranges, value["lost"])
         if asked.json:
@@ -243,7 +247,7 @@ def rescue_file(
                     raise Refused("its index is damaged: leave --range away")
                 return _restoring.rescue_without_index(kept, file, asked.fill)
     except Damaged as error:
-        text = f"{error}: give -n, --count, and the other options, if you know them"
+        text = f"{error}. Give -n, --count and the other options, if you know them"
         raise Refused(text) from None
 
 

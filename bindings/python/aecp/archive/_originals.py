@@ -13,6 +13,7 @@ from aecp.archive._form import MOST_SIDE, Refused, Source
 
 PIECE = 4 << 20  # bytes that are read at once
 FRONT = 1 << 18  # bytes of the samples' start that a hint tries
+LATEST = (1 << 63) - 1  # the last time that a trailer can name, in the year 2262
 
 
 @contextlib.contextmanager
@@ -69,8 +70,9 @@ class Reading:
 
     def source(self, status: os.stat_result) -> Source:
         """Returns what is recorded of the original."""
-        sha256 = self.digest.hexdigest()
-        return Source(self.size, sha256, status.st_mtime_ns, self.head, self.tail)
+        sha256, time_ns = self.digest.hexdigest(), status.st_mtime_ns
+        time_ns = min(max(time_ns, -LATEST), LATEST)  # some file systems have later times
+        return Source(self.size, sha256, time_ns, self.head, self.tail)
 
 
 def same(first: os.stat_result, second: os.stat_result) -> bool:

@@ -2,12 +2,14 @@
 
 from __future__ import annotations
 
+import contextlib
 import os
+from collections.abc import Iterator
 from dataclasses import dataclass, field
 from typing import Any, Callable
 
 from aecp._console import reason
-from aecp.archive._form import Damaged, Range, Refused
+from aecp.archive._form import Damaged, Facts, Range, Refused
 from aecp.archive._paths import Found
 from aecp.options import Options
 
@@ -66,8 +68,19 @@ class Unchanged:
         return self.work(found)
 
 
+@contextlib.contextmanager
+def damage_named(name: str) -> Iterator[None]:
+    """Adds the name of the kept file to the text that says how it is damaged."""
+    try:
+        yield
+    except Damaged as error:
+        raise Damaged(error.kind, f"{name} isn't sound: {error}", error.ranges) from None
+
+
 def advice(error: Damaged) -> str:
     """Returns what to do about damage."""
+    if error.kind in ("bad index", "bad history"):
+        return "; `aecp rescue` writes the samples"
     return "; `aecp rescue` writes all other samples" if error.kind == "bad group" else ""
 
 
@@ -85,6 +98,12 @@ def ranges_text(ranges: tuple[Range, ...], count: int) -> str:
 def ranges_json(ranges: tuple[Range, ...]) -> list[dict[str, int]]:
     """Returns ranges as JSON has them."""
     return [{"first": it.first, "length": it.length} for it in ranges]
+
+
+def shape_text(facts: Facts) -> str:
+    """Returns the words for the recorded shape and type."""
+    shape = "a list" if facts.shape is None else "x".join(map(str, facts.shape))
+    return f"{shape} of {facts.dtype or 'no recorded type'}"
 
 
 def words_of(options: Options) -> str:

@@ -138,6 +138,18 @@ def originals_in(
             yield file_of(entry.path, os.path.join(top, below), False)
 
 
+def names_apart(found: list[Found], passed: list[Passed]) -> list[Found]:
+    """Returns the files without those whose FILE.aec below the folder of --to would have the name
+    of another one's."""
+    first: dict[str, Found] = {}
+    for it in found:
+        other = first.setdefault(it.below, it)
+        if other.path != it.path:
+            why = f"its FILE.aec would have the name of that of {shown(other.name)}"
+            passed.append(Passed(it.name, f"{why}: keep it in another folder", True))
+    return [it for it in found if first[it.below].path == it.path]
+
+
 def kept_path(path: str) -> str:
     """Returns the path of the kept file that a path names: its own, that of its original, or that
     of its note."""
@@ -161,10 +173,14 @@ def kept_files(paths: Iterable[str], passed: list[Passed]) -> Iterator[Found]:
             if os.path.lexists(path):
                 why = "it isn't kept: there is no such FILE.aec"
             passed.append(Passed(path, why, True))
+        is_empty, before = os.path.isdir(path), len(passed)
         for it in found:
+            is_empty = False
             if it.path not in seen:
                 seen.add(it.path)
                 yield it
+        if is_empty and not any(it.is_bad for it in passed[before:]):
+            passed.append(Passed(path, "there is no kept file in it", True))
 
 
 def kept_in(folder: str, passed: list[Passed]) -> Iterator[Found]:

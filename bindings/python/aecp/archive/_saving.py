@@ -197,9 +197,12 @@ def link_and_unlink(hidden: str, path: str) -> None:
 
 
 def rename_over_empty(hidden: str, path: str) -> None:
-    """Makes an empty file of the new name, and renames over it."""
+    """Makes an empty file of the new name, and renames over it. It is locked, so that others don't
+    take it for one that a killed run has left."""
     empty = os.open(path, os.O_WRONLY | MAKING, 0o600)
     try:
+        with contextlib.suppress(OSError):  # some file systems have no locks
+            fcntl.flock(empty, fcntl.LOCK_EX)
         os.rename(hidden, path)
     except BaseException:
         unlink_if_same(path, empty)
@@ -316,12 +319,24 @@ def remove_leftovers(folder: str) -> None:
             remove_leftover(os.path.join(folder, name))
 
 
-def remove_leftover(path: str) -> None:
-    """Removes a hidden file, if it can be locked: then no run that is alive has it."""
+def remove_leftover(path: str, is_empty: bool = False) -> None:
+    """Removes a hidden file, if it can be locked: then no run that is alive has it. With `is_empty`,
+    only if it is empty."""
     with contextlib.suppress(OSError, Refused):
         file = open_regular(path)
         try:
             lock_or_refuse(file, wait=False)
-            unlink_if_same(path, file)
+            if not is_empty or os.fstat(file).st_size == 0:
+                unlink_if_same(path, file)
         finally:
             os.close(file)
+
+
+def remove_empty(path: str) -> str:
+    """Removes an empty FILE.aec, such as `rename_over_empty` of a killed run leaves. Returns what
+    there is to say of it."""
+    with contextlib.suppress(OSError):
+        if os.lstat(path).st_size == 0:
+            remove_leftover(path, is_empty=True)
+            return "" if os.path.lexists(path) else "FILE.aec was empty, and is made anew"
+    return ""

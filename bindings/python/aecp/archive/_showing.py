@@ -14,7 +14,7 @@ from aecp._console import shown
 from aecp.archive._file import ArchiveFile
 from aecp.archive._form import Facts, Refused, Source, State
 from aecp.archive._history import Entry
-from aecp.archive._outcomes import words_of
+from aecp.archive._outcomes import shape_text, words_of
 from aecp.archive._restoring import in_range, output
 from aecp.archive._scripts import Store, change_of, difference, differing_runs
 from aecp.archive._tables import Grid, cell_of, grid_of, named
@@ -80,8 +80,7 @@ def info_lines(kept: ArchiveFile) -> list[str]:
         f"stream   {stream.bytes} bytes{ratio}, SHA-256 {stream.sha256}",
     ]
     if facts.shape is not None or facts.dtype is not None:
-        shape = "x".join(map(str, facts.shape)) if facts.shape is not None else "-"
-        lines.append(f"shape    {shape} of {facts.dtype or 'no recorded type'}")
+        lines.append(f"shape    {shape_text(facts)}")
     if facts.source is not None:
         head, tail = len(facts.source.head), len(facts.source.tail)
         sides = f", {head} before the samples and {tail} after them" if head or tail else ""

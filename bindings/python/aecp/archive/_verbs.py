@@ -31,7 +31,7 @@ from aecp.archive._headers import layout_of
 from aecp.archive._headers import options_of as dtype_options
 from aecp.archive._originals import original
 from aecp.archive._outcomes import Outcome, Unchanged
-from aecp.archive._paths import STREAM, Found, Passed, kept_files, originals
+from aecp.archive._paths import STREAM, Found, Passed, kept_files, names_apart, originals
 from aecp.archive._pool import Failed
 
 Verb = Callable[[argparse.Namespace, Console], int]
@@ -114,8 +114,11 @@ def do_keep(asked: argparse.Namespace, console: Console) -> int:
     if found and lacks_bits(how, found[0]):
         text = f"-n N is needed: {shown(found[0].name)} has no header that says its bits"
         raise Wrong(f"{text} (.npy and FITS files have)")
+    if how.to is not None:
+        found = names_apart(found, passed)
     status = say_passed(console, passed)
     counts, hints = Counts(), []
+    counts.add_passed(passed)
     for it, outcome in dealt(asked, console, partial(_keeping.keep, how), found):
         counts.add(it, outcome)
         if outcome.said:
@@ -196,7 +199,7 @@ def do_info(asked: argparse.Namespace, console: Console) -> int:
         def work() -> int:
             with opened(it.path, asked.limit) as kept:
                 if asked.json:
-                    said.append(_showing.info_json(shown(it.name), kept))
+                    said.append(_showing.info_json(it.name, kept))
                 else:
                     console.say("\n  ".join([shown(it.name), *_showing.info_lines(kept)]))
             return 0

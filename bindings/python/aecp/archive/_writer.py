@@ -39,6 +39,23 @@ from aecp.options import Options
 from aecp.streams import Encoder
 
 PIECE = 1 << 20  # bytes that are coded, or read, at once
+UNREADABLE = "what was written can't be read again"
+
+
+class Written:
+    """The bytes of a file that is being written."""
+
+    status: Optional[os.stat_result] = None
+
+    def __init__(self, file: BinaryIO) -> None:
+        self._file, self.size = file, file.seek(0, os.SEEK_END)
+
+    def read(self, at: int, size: int) -> bytes:
+        self._file.seek(at)
+        return self._file.read(size)
+
+    def close(self) -> None:
+        """Leaves the file open."""
 
 
 class Writer:
@@ -176,9 +193,9 @@ class Writer:
         expected: the sum that the samples must have, if it is known.
 
         Raises as end; Refused if the shape or the dtype doesn't fit, a side of the source is too
-        long, or the samples have another sum.
+        long, the samples have another sum, or a reader would refuse the file.
         """
-        state = self.end()
+        state, history = self.end(), list(history)
         if expected is not None and state.samples != expected:
             raise Refused("the new stream's samples have another SHA-256 than expected")
         facts = Facts(
@@ -197,7 +214,18 @@ class Writer:
         self._file.seek(self._stream_size)
         self._file.write(ending(facts, self._index, packed_history(history)))
         self._file.flush()
+        self._read_back(facts, history)
         return facts
+
+    def _read_back(self, facts: Facts, history: list[Entry]) -> None:
+        """Raises Refused if a reader wouldn't find these facts and this history in the file."""
+        try:
+            with ArchiveFile(Written(self._file), None) as kept:
+                is_same = kept.facts == facts and kept.history() == history
+        except Damaged as error:
+            raise Refused(f"{UNREADABLE}: {error}. Please report this") from None
+        if not is_same:
+            raise Refused(f"{UNREADABLE}: it says something else. Please report this")
 
     def _judge_index(self, facts: Facts) -> None:
         """Raises Refused if a reader would refuse the index: only for a stream that is another
