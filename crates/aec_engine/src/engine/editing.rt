@@ -335,8 +335,8 @@ pub fn edit_at_once<C: Codec + Drop, Q: Source, R: Source, W: Sink>(
 /// at the first edit that is refused for its place, the limit, its values or lack of calls, and the
 /// fault names its line. Edits may be applied in another order than the script's, or many at a
 /// time. If one that is applied alone fails with `Memory`, the fault names its line. All other
-/// faults name no line. On these refusals nothing is written and `begin` isn't called. After `begin` it fails
-/// only with `Write`, with a prefix of the bytes written.
+/// faults name no line. On these refusals nothing is written and `begin` isn't called. After
+/// `begin` it fails only with `Write`, with a prefix of the bytes written.
 pub fn edit<Q: Source, R: Source, W: Sink>(
     alloc: Global,
     params: &Params,

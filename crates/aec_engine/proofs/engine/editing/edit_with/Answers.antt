@@ -17,7 +17,8 @@ returns-in_err-bits-clause-leaves g c =
     let exit = err_from_is_err_and c.from_residual-in_err-bits.result c.from_residual-in_err-bits.ensures.1 in
     leaves_unedited _ _ exit.0 (Plain c.in_err-bits.field-0.0) _ _ _ _ _
     (g.W.Sink.taken c.args.sink.now) (g.W.Sink.mark c.args.sink.now) (g.W.Sink.begun c.args.sink.now) (g.W.Sink.failed c.args.sink.now) exit.1 exit.2
-    (gives_no_bits c.args.terms.params c.args.terms.limits c.args.terms.count _ _ _ _ _ _ c.in_err-bits.field-0.0 c.bytes.ensures.value c.in_ok-script.ensures.ok
+    (gives_no_bits c.args.terms.params c.args.terms.limits c.args.terms.count _ _ _ _ _ _ c.in_err-bits.field-0.0
+    c.bytes.ensures.value c.in_ok-script.ensures.ok
     c.in_err-bits.ensures.refuses)
 
 pub returns-in_err-carried-clause-leaves : goal.returns-in_err-carried-clause-leaves
