@@ -1,5 +1,5 @@
 -- Edits of a script that are applied as one.
-use Rattle.std.proofs.Common.{◌≡◌, ◌⊎◌, ℕ, ◌+◌, ◌-◌, ◌^◌, ◌<◌, ◌≤◌, inl, inr, suc, Bool, true, false, Option, Some, None, is_some, Result, Ok, Err, ℤ, List, [], ◌∷◌, ◌++◌, length, slice_index, refl, sym, ap, ◌∙◌, subst, arith, length-append}
+use Rattle.std.proofs.Common.{◌≡◌, ◌⊎◌, ℕ, ◌+◌, ◌<◌, ◌≤◌, inl, inr, suc, Bool, true, false, Option, Some, None, is_some, Ok, Err, ℤ, List, [], ◌∷◌, ◌++◌, length, slice_index, refl, sym, ap, ◌∙◌, subst, arith, length-append}
 use Rattle.std.specs.Prelude.{MatchOption, ⊤}
 use Rattle.std.specs.Option.{option_map_or}
 use Rattle.aec_params.specs.declared.fault.Fault.{Fault}

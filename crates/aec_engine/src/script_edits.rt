@@ -1,9 +1,9 @@
 //! Judges whole scripts first, and reads each line again when its edit is applied.
 
-ghost use Rattle.std.specs.Prelude.{◌≡◌, ◌≢◌, ◌+◌, ◌^◌, ◌<◌, ◌≤◌, ℕ, Some, None, true, false, length, IfOk, IfErr, IfSome, MatchOption};
+ghost use Rattle.std.specs.Prelude.{◌≡◌, ◌≢◌, ◌+◌, ◌^◌, ◌<◌, ◌≤◌, ℕ, Some, None, IfOk, IfErr, IfSome, MatchOption};
 ghost use Rattle.aec_params.specs.declared.fault.Fault.TheVariants.{Memory, Script as ScriptFault};
 ghost use Rattle.aec_engine.specs.Scripts.{listed, listing_of, meaning_of, unknown};
-ghost use Rattle.aec_engine.specs.ScriptLines.{after_listed, text_left};
+ghost use Rattle.aec_engine.specs.ScriptLines.{text_left};
 ghost use Rattle.aec_engine.specs.Planning.{listing_in, text_behind};
 ghost use Rattle.aec_engine.specs.EditsAhead.{AreAhead, AreKnown, TakesNext, TakesSome, behind, left_in, no_edits, unread};
 

@@ -1,4 +1,4 @@
-use Rattle.std.proofs.Common.{◌≡◌, ◌-◌, ◌^◌, Some, None, length, refl, ap, arith}
+use Rattle.std.proofs.Common.{◌-◌, ◌^◌, Some, None, length, refl, ap, arith}
 use Rattle.std.proofs.lemmas.Result.{err_from_is_err_and}
 use Rattle.aec_edit.proofs.BatchLemmas.{due_now}
 use Rattle.aec_edit.proofs.StepLemmas.{stop_with}
