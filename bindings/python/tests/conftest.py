@@ -13,7 +13,7 @@ from hypothesis import HealthCheck, settings
 
 MODULE = Path(__file__).resolve().parents[1]
 TOP = MODULE.parents[1]  # of a checkout: an sdist has only the folder MODULE
-SECONDS = 1200
+SECONDS = 120  # of a test without the mark `seconds`
 QUIET = [HealthCheck.too_slow, HealthCheck.filter_too_much]
 
 # For the tests, and for the processes that they start.
@@ -36,6 +36,7 @@ def pytest_addoption(parser):
 
 
 def pytest_configure(config):
+    config.addinivalue_line("markers", "seconds(number): how long the test may take")
     settings.load_profile("thorough" if config.getoption("--thorough") else "usual")
     path = importlib.import_module("aecp.library").place_of_library()
     if os.path.exists(path):
@@ -55,7 +56,9 @@ def _limited(request):
         raise TimeoutError("the test takes too long")
 
     before = signal.signal(signal.SIGALRM, late)
-    signal.alarm(SECONDS * (10 if request.config.getoption("--thorough") else 1))
+    mark = request.node.get_closest_marker("seconds")
+    times = 10 if request.config.getoption("--thorough") else 1
+    signal.alarm((mark.args[0] if mark else SECONDS) * times)
     yield
     signal.alarm(0)
     signal.signal(signal.SIGALRM, before)

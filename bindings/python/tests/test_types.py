@@ -15,6 +15,7 @@ def test_the_module_has_types():
     assert os.path.exists(os.path.join(MODULE, "py.typed"))
 
 
+@pytest.mark.seconds(1200)
 def test_mypy():
     """mypy --strict finds nothing in the module."""
     mypy = shutil.which("mypy")
