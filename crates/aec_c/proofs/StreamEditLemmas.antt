@@ -125,7 +125,7 @@ module _ (s : Settings) (count : Option ℕ) (from source : Taking) (script code
       → LeavesEdited s most count from source sink r → r ≡ Ok tt → IsEditing s count script coded (Ok held)
   edited_uncounted sink held r empty holds leaves is = by_counted leaves.counted leaves.leaves (sym is ∙ leaves.uncounted)
     where
-      by_counted : (counted : Result ℕ EditFault) → LeavesRecoded s most count from source sink counted → Ok tt ≡ answer_by (λ calls. tt) counted
+      by_counted : (counted : Result ℕ EditFault) → LeavesRecoded s most count from source sink counted → Ok (tt {0}) ≡ answer_by (λ calls. tt {0}) counted
           → IsEditing s count script coded (Ok held)
       by_counted (Ok calls) leaves same = edited_ok sink held calls (Ok calls) empty holds leaves refl
       by_counted (Err fault) leaves same = absurd (cc)
@@ -135,7 +135,7 @@ module _ (s : Settings) (count : Option ℕ) (from source : Taking) (script code
       → LeavesEdited s most count from source sink r → r ≡ Err fault → IsEditing s count script coded (Err e)
   refused_uncounted sink r fault e memory other leaves is = by_counted leaves.counted leaves.leaves (sym is ∙ leaves.uncounted)
     where
-      by_counted : (counted : Result ℕ EditFault) → LeavesRecoded s most count from source sink counted → Err fault ≡ answer_by (λ calls. tt) counted
+      by_counted : (counted : Result ℕ EditFault) → LeavesRecoded s most count from source sink counted → Err fault ≡ answer_by (λ calls. tt {0}) counted
           → IsEditing s count script coded (Err e)
       by_counted (Ok calls) leaves same = absurd (cc)
       by_counted (Err why) leaves same = let named : why ≡ fault = cc in edited_err sink (Err why) fault e memory other leaves (ap Err named)

@@ -261,9 +261,9 @@ fit_first f limit count s calls edits counted few =
     record { counted = counted; few = few; due = ap (λ k. first_refusal f limit s k 0 edits) (sym none) }
 
 -- what is due if as many calls are left as the codec can still make
-pub due_now : (f : Format) (limit : ℕ) (s : List ℤ) (calls left : ℕ) (edits : List Edit) (due : Option Stop) → 2 ^ 64 - 1 - left ≡ calls
-    → first_refusal f limit s (2 ^ 64 - 1 - left) 0 edits ≡ due → first_refusal f limit s calls 0 edits ≡ due
-due_now f limit s calls left edits due same is = subst (λ k. first_refusal f limit s k 0 edits ≡ due) same is
+pub due_now : (f : Format) (limit : ℕ) (s : List ℤ) (calls more : ℕ) (edits : List Edit) (due : Option Stop) → 2 ^ 64 - 1 - more ≡ calls
+    → first_refusal f limit s (2 ^ 64 - 1 - more) 0 edits ≡ due → first_refusal f limit s calls 0 edits ≡ due
+due_now f limit s calls more edits due same is = subst (λ k. first_refusal f limit s k 0 edits ≡ due) same is
 
 -- a refusal of an edit is due if none is
 pub refused_none : (f : Format) (limit : ℕ) (s : List ℤ) (calls : ℕ) (e : Edit) (fault : Fault) → due_refusal f limit s calls e ≡ None

@@ -5,7 +5,7 @@ use Rattle.aec_c.proofs.stream_edits.edited_bytes.Goals as goal
 pub returns-in-Ok-clause-ok : goal.returns-in-Ok-clause-ok
 returns-in-Ok-clause-ok c =
     edited_uncounted c.args.params.now c.args.count _ _ c.args.script.now c.args.bytes.now c.requires.allowed c.new-from.ensures refl c.new-source.ensures refl
-    _ c.into_inner.result.items _ _ (c.new-sink.ensures.taken ∙ ap Some c.new.ensures.items) c.into_inner.ensures
+    _ c.into_inner.result.items _ (c.new-sink.ensures.taken ∙ ap Some c.new.ensures.items) c.into_inner.ensures
     (rw c.limits.ensures at c.in-Ok.ensures.leaves) refl
 
 pub returns-in-Ok-clause-counted : goal.returns-in-Ok-clause-counted
