@@ -38,7 +38,7 @@ abbrev pub none_applied : EditFault → EditReply
 none_applied fault = record { reply = refused_for (fault_in fault); line = line_in fault; samples = 0 }
 
 -- a refusal of edits, with the line of the edit at its place; without a line if the place is after
--- the last edit, which means that memory for all of them was refused
+-- the last edit: then an allocation for all edits together failed
 abbrev pub refusal_on : List ℕ → Stop → EditFault
 refusal_on lines stop = option_map_or (λ line. Line line stop.fault) (slice_get lines stop.place) (Plain stop.fault)
 
@@ -60,7 +60,8 @@ pub record AppliesEdits (edits : List Edit) (lines : List ℕ) (before after : O
   pub err : IfErr answer (λ stop. stop.fault ≢ Memory → after.workspace ≡ before.workspace)
 
 -- why the edits of a script are not tried: `aecp_edit` would refuse the script too, for its length
--- or for its first line that is no edit; or memory for its edits was refused
+-- or for its first line that is no edit; or memory was refused for its edits, of which it has one at
+-- least, and it isn't too long
 abbrev pub RefusesScript : List ℕ → Fault → Type 0
 RefusesScript script fault =
     (script_refusal most.bytes (input_of script false) ≡ Some fault)

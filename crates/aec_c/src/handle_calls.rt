@@ -116,7 +116,8 @@ pub extern "C" fn aecp_insert(
 }
 
 /// Applies all edits of a script, or none of them. Replies how many intervals were coded, and how
-/// many samples there are then. A refused script changes no sample; the reply names its line.
+/// many samples there are then. A refused script changes no sample. If one edit is refused, the
+/// reply has its line.
 #[unsafe(no_mangle)]
 pub extern "C" fn aecp_apply(
     alloc: Global,

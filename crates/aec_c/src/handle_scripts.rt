@@ -34,7 +34,7 @@ fn check_length(script: &[u8]) -> Result<(), Fault>
 }
 
 /// Returns the edits of a script. Fails with `StreamTooLong`; then with `Script` at the first line
-/// that is no edit; and with `Memory`.
+/// that is no edit, or with `Memory`, if an edit comes before that line.
 fn edits_in(alloc: Global, script: &[u8]) -> Result<Script, Fault>
     ensures ok { IfOk result
         (λ _. script_refusal most.bytes (input_of script.now false) ≡ None) }

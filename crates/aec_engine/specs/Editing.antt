@@ -59,8 +59,8 @@ script_left s caps script samples =
     let read : Listing = listing_of script.bytes in
     edits_left f caps.samples (first_calls f samples) samples read.edits read.lines
 
--- what carrying out a script results in: the bytes of a stream, and how often the coder has been
--- called
+-- what carrying out a script results in: the bytes of a stream, and how many calls of the coder the
+-- samples and the edits need, applied one after the other
 pub record Recoded : Type 0 where
   pub bytes : List ℕ
   pub calls : ℕ

@@ -35,8 +35,7 @@ pub data StopsEditing (f : Format) (limit calls : ℕ) (s : List ℤ) (edits : L
   lacks_memory : (line : ℕ) → LacksMemoryOn f limit calls s edits lines line
       → StopsEditing f limit calls s edits lines (Line line Memory)
 
--- why edits that are applied as one were not: one is refused for a reason other than memory, or
--- memory was lacking
+-- why edits were not applied as one: memory was lacking, or one is refused for another reason
 abbrev pub StopsAsOne : Format → ℕ → ℕ → List ℤ → List Edit → List ℕ → EditFault → Type 0
 StopsAsOne f limit calls s edits lines fault =
     (fault ≡ Plain Memory) ⊎ (edits_left f limit calls s edits lines ≡ Err fault)
@@ -55,6 +54,6 @@ pub record CarriesOut (f : Format) (limit : ℕ) (s : List ℤ) (calls reads : �
   pub run : StopsAtRefusal f limit s calls reads edits end left calls_after reads_after
   pub named : result ≡ named_by lines end
 
--- the result for a workspace with these samples, whose codec was called this often
+-- the result for a workspace with these samples, which need this many calls of the codec
 abbrev pub recoded_of : Format → List ℤ → ℕ → Recoded
 recoded_of f samples calls = record { bytes = bytes_of (code_of f samples); calls = calls }

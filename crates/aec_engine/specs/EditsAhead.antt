@@ -56,7 +56,7 @@ abbrev pub StopsAt : EditsAhead → ℕ → ℕ → Type 0
 StopsAt ahead count calls = MatchOption ahead.next ⊤ (λ next. (2 ^ 62 ≤ calls) ⊎ (IsInside count next.edit → ⊥))
 
 -- The edit that is next was moved to the end of a list of edits with their lines, and the edits
--- after it are left. Or none was left.
+-- after it are left. If none was left, nothing was moved.
 pub record TakesNext (old : EditsAhead) (from : Script) (new : EditsAhead) (to : Script) (more : Bool) : Type 0 where
   pub same : after_listed from.edits.items from.lines.items (left_in old)
       ≡ after_listed to.edits.items to.lines.items (left_in new)
@@ -64,8 +64,8 @@ pub record TakesNext (old : EditsAhead) (from : Script) (new : EditsAhead) (to :
   pub fewer : more ≡ true → length (left_in new).edits < length (left_in old).edits
   pub none : more ≡ false → left_in new ≡ no_edits
 
--- Edits were taken out, each with its line, and those after them are left: one at least, if one was
--- left.
+-- The next edits were taken out, each with its line: at least one if any was left. The edits after
+-- them are left.
 pub record TakesSome (old new : EditsAhead) (some : Script) : Type 0 where
   pub same : left_in old ≡ after_listed some.edits.items some.lines.items (left_in new)
   pub counted : length some.edits.items ≡ length some.lines.items

@@ -133,7 +133,7 @@ impl<'p, 'a> EditsAhead<'p, 'a> {
     pub(crate) fn are_few(&self) -> bool {
         let text = self.rest.unwrap_or(&[]);
         let ends = text.iter().filter(|byte| **byte == b'\n');
-        ends.take(MIN_LINES_AT_ONCE).count() < MIN_LINES_AT_ONCE
+        ends.take(MIN_LINES_AT_ONCE - 1).count() < MIN_LINES_AT_ONCE - 1
     }
 
     /// Returns how many bytes of the text aren't read yet.
@@ -158,8 +158,8 @@ impl<'p, 'a> EditsAhead<'p, 'a> {
         Ok(true)
     }
 
-    /// Takes out the next edits and their lines: at least one, if one is left, and as many as are
-    /// applied as one.
+    /// Takes out the next edits and their lines: at least one, if one is left, and then those whose
+    /// lines begin in the next 256 KiB of the text.
     pub(crate) fn take_some(&mut self, alloc: Global) -> Result<Script, Fault>
         requires ahead { AreAhead self.old }
         ensures taken { IfOk result (TakesSome self.old self.new) }

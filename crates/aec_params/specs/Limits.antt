@@ -7,7 +7,7 @@ abbrev pub most_samples : ℕ
 most_samples = 2 ^ 32
 
 -- the numbers of all blocks of a reading are below this: a block has at least one sample, and the
--- last coded data set may have blocks past the count, but fewer than an interval
+-- last coded data set may have blocks past the count, but fewer than an interval (twice would do)
 abbrev pub most_blocks : ℕ
 most_blocks = 4 * most_samples
 

@@ -22,7 +22,7 @@ pub(crate) fn line_of(script: &Script, place: usize) -> u64
     script.lines[place]
 }
 
-/// Applies all edits of a script, or none, as if `left` calls of the codec were left. Returns how
+/// Applies all edits of a script as one, as if `left` calls of the codec were left. Returns how
 /// many calls they need one after the other. Fails with the first edit that is refused, and its
 /// line, or with plain `Memory`.
 fn carry_as_one<C: Codec>(
@@ -59,8 +59,7 @@ fn carry_as_one<C: Codec>(
 }
 
 /// Applies the edits that are ahead, many at a time, as if `left` calls of the codec were left.
-/// Returns how many calls are then left, if each edit makes the calls that it needs alone: the
-/// codec is called at most as often. Fails with the first edit that is refused, and its line; or
+/// Returns how many calls are then left, if each edit makes the calls that it needs alone. Fails with the first edit that is refused, and its line; or
 /// with plain `Memory`. Some of the edits may have been applied by then.
 pub(crate) fn carry_at_once<C: Codec>(
     alloc: Global,

@@ -85,7 +85,8 @@ fn carry_rest<C: Codec>(
 
 /// Applies the edits that are ahead: many at a time, if `at_once` is set and they aren't few, else
 /// one by one. Returns how often the codec was called before, plus how many calls the edits need
-/// one after the other. Fails as `carry_rest` does, or with plain `Memory`.
+/// one after the other. Fails with the first refused edit and its line, or with `Memory`, which has
+/// a line only if the edit was applied alone.
 fn carry_ahead<C: Codec>(
     alloc: Global,
     workspace: &mut Workspace<C>,
@@ -115,8 +116,7 @@ fn carry_ahead<C: Codec>(
 }
 
 /// A workspace with the samples that a script leaves, and how many calls of the codec these samples
-/// need: those of loading, and those of each edit by itself. If edits were applied many at a time,
-/// the codec was called at most as often.
+/// need: those of loading, and those of each edit by itself.
 #[derive(Drop)]
 struct Carried<C: Codec + Drop> {
     workspace: Workspace<C>,
@@ -288,7 +288,8 @@ pub fn edit_over<C: Codec + Drop, Q: Source, R: Source, W: Sink>(
 }
 
 /// Does what `edit` does, over a codec of intervals that has coded nothing, and returns the
-/// workspace whose stream it wrote. Fails as `edit` does.
+/// workspace whose stream it wrote. Applies edits many at a time: no clause says how often it calls
+/// the codec. Fails as `edit` does.
 pub fn edit_at_once<C: Codec + Drop, Q: Source, R: Source, W: Sink>(
     alloc: Global,
     codec: C,
