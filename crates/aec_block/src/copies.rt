@@ -1,8 +1,8 @@
 //! The numbers of the copies of large functions. The compiler inlines a large function only if it
 //! has one caller. So such a function has a const parameter `COPY`, and each caller passes a number
 //! of its own, with the caller's name. A number changes no result. A new caller takes the next
-//! number: `checks/copies.py` fails if two numbers are equal, or if two calls of one function for one
-//! block size pass the same number.
+//! number: `checks/copies.py` fails if two numbers are equal, or if two calls of one function for
+//! one block size pass the same number.
 
 /// In `reading::values`, for any number of values.
 pub(crate) const READ_SPLIT_APART: usize = 0;

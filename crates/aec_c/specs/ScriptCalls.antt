@@ -60,8 +60,8 @@ pub record AppliesEdits (edits : List Edit) (lines : List ℕ) (before after : O
   pub err : IfErr answer (λ stop. stop.fault ≢ Memory → after.workspace ≡ before.workspace)
 
 -- why the edits of a script are not tried: `aecp_edit` would refuse the script too, for its length
--- or for its first line that is no edit; or memory was refused for its edits, of which it has one at
--- least, and it isn't too long
+-- or for its first line that is no edit; or memory was refused for its edits, of which it has one
+-- at least, and it isn't too long
 abbrev pub RefusesScript : List ℕ → Fault → Type 0
 RefusesScript script fault =
     (script_refusal most.bytes (input_of script false) ≡ Some fault)

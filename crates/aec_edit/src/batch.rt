@@ -34,8 +34,8 @@ impl<C: Codec> Workspace<C> {
 
     /// Judges edits as `apply_all` does, but as if `left` calls of the codec were left, and applies
     /// none. Returns how many calls the edits need one after the other. Fails with the first edit
-    /// that doesn't fit the samples that the edits before it leave, or that needs more of the `left`
-    /// calls than the edits before it leave.
+    /// that doesn't fit the samples that the edits before it leave, or that needs more of the
+    /// `left` calls than the edits before it leave.
     pub fn judge_all(&self, edits: &[Edit], left: u64) -> Result<u64, Stop>
         ensures ok { OnOk result (first_refusal (C.format self.now.codec) self.now.limit
             self.now.samples (2 ^ 64 - 1 - left) 0 edits.now ≡ None) }

@@ -59,8 +59,9 @@ fn carry_as_one<C: Codec>(
 }
 
 /// Applies the edits that are ahead, many at a time, as if `left` calls of the codec were left.
-/// Returns how many calls are then left, if each edit makes the calls that it needs alone. Fails with the first edit that is refused, and its line; or
-/// with plain `Memory`. Some of the edits may have been applied by then.
+/// Returns how many calls are then left, if each edit makes the calls that it needs alone. Fails
+/// with the first edit that is refused, and its line; or with plain `Memory`. Some of the edits may
+/// have been applied by then.
 pub(crate) fn carry_at_once<C: Codec>(
     alloc: Global,
     workspace: &mut Workspace<C>,
