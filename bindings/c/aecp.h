@@ -146,12 +146,14 @@ typedef struct {
     uint64_t samples;
 } aecp_edit_reply;
 
-/* Applies a script of edits, as docs/COMMAND.md describes it, to the first `count` samples of a stream, or to all with AECP_ALL, and writes
- * the edited stream to `out`. All lines apply, or none. Returns `reply->reply.fault`. Faults, in this order: options; SCRIPT; those of
- * aecp_decode except NO_ROOM; those of one edit, with its line: OUT_OF_RANGE, TOO_MANY_SAMPLES, SAMPLE_RANGE, SPENT, MEMORY; NO_ROOM.
- * Allocates at most the sum of: five times the longer of both streams; twice the script; 40 bytes for each 12 bytes of the script, up to
- * 640 KiB; eight bytes for each sample of three intervals; 16 bytes for each interval; 16 for each value of the longest line. Trap: keep
- * `samples` with the edited stream. With AECP_ALL the filler of the last block becomes samples. */
+/* Applies a script of edits, as docs/COMMAND.md describes it, to the first `count` samples of a stream, or to all with AECP_ALL, and
+ * writes the edited stream to `out`. All lines apply, or none. Returns `reply->reply.fault`. Faults, in this order: options; SCRIPT; those
+ * of aecp_decode except NO_ROOM; those of one edit, with its line: OUT_OF_RANGE, TOO_MANY_SAMPLES, SAMPLE_RANGE, SPENT; NO_ROOM. Instead
+ * of these, except options, MEMORY may be returned, with a line only if the edit there was applied alone. Edits after the
+ * overwrites at the start of the script are applied together, if they are on eight lines or more. Allocates at most the sum of: six times the longer of both streams;
+ * twice the script; 40 bytes for each 12 bytes of the script, up to 640 KiB; 24 bytes for each byte of the script, up to 6 MiB; eight
+ * bytes for each sample of four intervals; 32 bytes for each interval; 16 for each value of the longest line. Trap: keep `samples` with
+ * the edited stream. With AECP_ALL the filler of the last block becomes samples. */
 uint32_t aecp_edit(const aecp_options *options, uint64_t count, const void *script, size_t script_len, const uint8_t *coded,
                    size_t coded_len, uint8_t *out, size_t out_len, aecp_edit_reply *reply);
 
@@ -217,8 +219,9 @@ uint32_t aecp_insert(aecp_handle *handle, uint64_t first, const int64_t *values,
  * of intervals that it coded: it codes each changed interval once, however many edits change it, and copies the code of the others. So it
  * is faster than the five calls for many edits, and slower for one. Returns `reply->reply.fault`. Faults, in this order: NOT_OPEN;
  * STREAM_TOO_LONG, if the script is longer than 2^40 bytes; SCRIPT; those of one edit, with its line: OUT_OF_RANGE, TOO_MANY_SAMPLES,
- * SAMPLE_RANGE, SPENT; MEMORY, without a line. Allocates at most the sum of: twice the new code; 16 bytes for each interval; 24 for each
- * byte of the script; eight for each sample of three intervals. Trap: it builds the whole new code, even for a single edit. */
+ * SAMPLE_RANGE, SPENT. MEMORY, without a line, may be returned instead of SCRIPT and of these. Allocates at most the sum of: twice the new
+ * code; 16 bytes for each interval; 24 for each byte of the script; eight for each sample of three intervals. Trap: it builds the whole
+ * new code, even for a single edit. */
 uint32_t aecp_apply(aecp_handle *handle, const void *script, size_t script_len, aecp_edit_reply *reply);
 
 /* Writes `len` samples, from sample `first` on, to `out`. Faults: OUT_OF_RANGE, MEMORY, NO_ROOM, NOT_OPEN. Allocates at most

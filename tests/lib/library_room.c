@@ -4,7 +4,8 @@
  * opens what the call needs. The words "refuse" and "grant" on standard error mark the call, in
  * which allocated bytes count. Prints the fault, the length of the result, the length of the code of
  * all samples, and aecp_bound of COUNT. The calls inserts, overwrites and appends apply a script of COUNT
- * such lines, and their result is the edited stream. */
+ * such lines by aecp_apply, the calls edit_inserts, edit_overwrites and edit_appends by aecp_edit. Their
+ * result is the edited stream. */
 #include <aecp.h>
 #include <inttypes.h>
 #include <stdio.h>
@@ -28,6 +29,20 @@ static int is(const char *name) {
     return !strcmp(call, name);
 }
 
+/* Whether the call applies a script of COUNT lines by aecp_edit. */
+static int is_edit(void) {
+    return !strncmp(call, "edit_", 5);
+}
+
+/* Whether the lines of such a script, for aecp_edit or aecp_apply, have this name. */
+static int lines_are(const char *name) {
+    return !strcmp(is_edit() ? call + 5 : call, name);
+}
+
+static int is_list(void) {
+    return lines_are("inserts") || lines_are("overwrites") || lines_are("appends");
+}
+
 /* Fills the samples with noise of all their bits. */
 static void fill(size_t width) {
     uint32_t state = 1;
@@ -43,7 +58,7 @@ static int is_made(const char *kind) {
     size_t width = options.bits > 16 ? 4 : options.bits > 8 ? 2 : 1;
     aecp_reply reply;
     samples_len = width * total;
-    room = aecp_bound(&options, total) + samples_len;
+    room = aecp_bound(&options, total + (is_list() ? count : 0)) + samples_len;
     samples = calloc(samples_len + 1, 1);
     coded = malloc(room);
     back = malloc(room);
@@ -56,13 +71,10 @@ static int is_made(const char *kind) {
     return 1;
 }
 
-static int is_list(void) {
-    return is("inserts") || is("overwrites") || is("appends");
-}
-
 /* Writes a script of COUNT lines of equal length, at scattered places. Returns whether it could. */
 static int is_written(void) {
-    const char *form = is("appends") ? "append 1\n" : is("inserts") ? "insert %07u 1\n" : "overwrite %07u 1\n";
+    const char *line = lines_are("inserts") ? "insert %07u 1\n" : "overwrite %07u 1\n";
+    const char *form = lines_are("appends") ? "append 1\n" : line;
     char *at = script = malloc(20 * count + 1);
     uint32_t state = 1;
     for (uint64_t i = 0; script && i < count; i++) {
@@ -83,7 +95,7 @@ static int is_opened(void) {
     }
     if (is("next")) return !aecp_reader_open(&options, count, coded, coded_len, &reader, &reply);
     if (is_list() && !is_written()) return 0;
-    if (is("read") || is("write") || is("asked") || is_list())
+    if (is("read") || is("write") || is("asked") || (is_list() && !is_edit()))
         return !aecp_load(&options, AECP_ALL, coded, coded_len, &handle, &reply);
     return 1;
 }
@@ -107,6 +119,14 @@ static uint32_t edited(aecp_reply *reply) {
     const char *script = "append 1 2 3\n";
     aecp_edit_reply made;
     aecp_edit(&options, count, script, strlen(script), coded, coded_len, back, room, &made);
+    *reply = made.reply;
+    return made.reply.fault;
+}
+
+/* Writes the stream that the script leaves. */
+static uint32_t edited_by_list(aecp_reply *reply) {
+    aecp_edit_reply made;
+    aecp_edit(&options, AECP_ALL, script, strlen(script), coded, coded_len, back, room, &made);
     *reply = made.reply;
     return made.reply.fault;
 }
@@ -142,7 +162,7 @@ static uint32_t made(aecp_reply *reply) {
     if (is("next")) return read_all(reply);
     if (is("read")) return aecp_read(&handle, 0, count, numbers, count, reply);
     if (is("write")) return aecp_write(&handle, back, room, reply);
-    if (is_list()) return applied(reply);
+    if (is_list()) return is_edit() ? edited_by_list(reply) : applied(reply);
     return is("asked") ? asked(reply) : 99;
 }
 
@@ -159,7 +179,7 @@ int main(int words_len, char **words) {
     if (write(2, "refuse\n", 7) != 7) return 2;
     uint32_t number = made(&reply);
     if (write(2, "grant\n", 6) != 6) return 2;
-    if (is_list() && number == 0 && aecp_write(&handle, 0, 0, &reply) != AECP_NO_ROOM) return 4;
+    if (is_list() && !is_edit() && number == 0 && aecp_write(&handle, 0, 0, &reply) != AECP_NO_ROOM) return 4;
     printf("%" PRIu32 " %" PRIu64 " %zu ", number, reply.len, coded_len);
     printf("%" PRIu64 "\n", aecp_bound(&options, count));
     return 0;

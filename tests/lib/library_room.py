@@ -82,15 +82,18 @@ def of_decode_at(call, lengths):
     return lengths.code + 24 * blocks * size
 
 
-def of_edit(call, lengths):
-    """The script of library_room.c has 13 bytes and three values."""
-    intervals = -(-(call.samples + 3) // call.settings.interval_len())
-    streams = 5 * max(lengths.code, lengths.result)
-    return streams + 2 * 13 + 3 * interval(call) + 16 * intervals + 16 * 3
-
-
 # The bytes of a line of each script of library_room.c.
 LINES = {"inserts": 17, "overwrites": 20, "appends": 9}
+
+
+def of_edit(call, lengths):
+    """The script of library_room.c has 13 bytes and three values, or lines of one value each."""
+    lines = LINES.get(call.name.removeprefix("edit_"))
+    count, script, values = (call.count, lines * call.count, 1) if lines else (3, 13, 3)
+    intervals = -(-(call.samples + count) // call.settings.interval_len())
+    listed = min(40 * script // 12, 640 * KIB) + min(24 * script, 6 * MIB)
+    streams = 6 * max(lengths.code, lengths.result)
+    return streams + 2 * script + listed + 4 * interval(call) + 32 * intervals + 16 * values
 
 
 def of_apply(call, lengths):
@@ -135,6 +138,7 @@ SAID = {
     "read": of_read,
     "write": of_write,
     **dict.fromkeys(LINES, of_apply),
+    **{f"edit_{name}": of_edit for name in LINES},
     "next": of_none,
     "asked": of_none,
 }
@@ -163,6 +167,10 @@ CALLS = [
     *(Call(name, "noise", SHORT, 2 * MIB, count) for name in LINES for count in (1, 10_000)),
     *(Call(name, "zeros", LONGEST, 2 * MIB, count) for name in LINES for count in (1, 100)),
     *(Call(name, "noise", SINGLE, 10_000, 70_000) for name in LINES),
+    *(Call(f"edit_{name}", "noise", SHORT, 2 * MIB, 10_000) for name in LINES),
+    *(Call(f"edit_{name}", "zeros", LONGEST, 2 * MIB, 100) for name in LINES),
+    *(Call(f"edit_{name}", "noise", SINGLE, 10_000, 70_000) for name in LINES),
+    *(Call(f"edit_{name}", "noise", SINGLE, 2 * MIB, 10_000) for name in LINES),
     Call("asked", "noise", LONG, MIB, 1000),
 ]
 

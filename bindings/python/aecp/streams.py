@@ -22,8 +22,8 @@ def edit(coded: Readable, count: Optional[int], script: Union[str, Readable], op
     script: text, or a contiguous buffer. Its lines are such as `insert 100 7 8 9`, `append V..`, `overwrite FIRST V..`, `remove FIRST
     LEN` and `truncate COUNT`. Places count from 0, in the result of the lines above.
 
-    Raises ScriptRefused if a `line` is no edit; what decode_bytes raises; RangeRefused, SampleRefused, LimitPassed or NoMemory, with its
-    `line`, if an edit is refused.
+    Raises ScriptRefused if a `line` is no edit; what decode_bytes raises; RangeRefused, SampleRefused or LimitPassed, with its `line`, if
+    an edit is refused; NoMemory, with a `line` only if the edit there was applied alone.
     """
     source, text = Source(coded, "coded"), Source(script.encode() if isinstance(script, str) else script, "script", "text or bytes")
     given, number, edited = c_options(options), number_of(count), EditReply()

@@ -126,8 +126,8 @@ pub(crate) fn script_of(edits: &[Edit<'_>]) -> Result<String, Error> {
 ///
 /// # Errors
 /// [`Error::Options`]; [`Error::Script`]; then the errors of [`decode`](crate::decode); then, with
-/// the line of the edit, [`Error::Range`], [`Error::Sample`], [`Error::Limit`], [`Error::Spent`],
-/// [`Error::Memory`].
+/// the line of the edit, [`Error::Range`], [`Error::Sample`], [`Error::Limit`], [`Error::Spent`];
+/// [`Error::Memory`], with a line only if the edit there was applied alone.
 ///
 /// ```
 /// use aecp::{decode, edit, encode, Error, Options};
