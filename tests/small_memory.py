@@ -126,8 +126,10 @@ def try_resident(program, tally):
 def editing_bound(stream, script, interval, intervals):
     """Returns the bytes that `--edit` takes at most, as COMMAND says: of the longer stream, the script, the samples of an interval, and the
     number of intervals."""
-    values = max(len(line.split()) for line in script.splitlines() or [b""])
-    return 3 * stream + 2 * len(script) + 48 * interval + 16 * (intervals + values) + 5 * MIB // 2
+    lines = script.splitlines() or [b""]
+    values = max(len(line.split()) for line in lines)
+    together = 6 * MIB if len(lines) >= 8 and not lines[0].startswith(b"overwrite") else 0
+    return 4 * stream + 2 * len(script) + 48 * interval + 32 * intervals + 16 * values + 5 * MIB // 2 + together
 
 
 def try_editing(program, tally):
@@ -143,6 +145,9 @@ def try_editing(program, tally):
             ("overwrites", b"".join(b"overwrite %d 7\n" % place for place in range(0, times * MIB, times * MIB // 40))),
             ("values in one line", b"append" + b" 9" * more),
             ("an insertion in front", b"insert 0 7"),
+            ("an insertion in the middle", b"insert 5000000 7"),
+            ("scattered insertions", b"".join(b"insert %d 7\n" % (i * 2654435761 % (times * MIB)) for i in range(30_000))),
+            ("lines of one value", b"append 7\n" * 100_000),
             ("a removal in front", b"remove 0 1"),
         ):
             program.write("script", script)
