@@ -4,6 +4,7 @@ So an edit is checked and undone without holding the samples."""
 from __future__ import annotations
 
 import hashlib
+import itertools
 from array import array
 from collections.abc import Iterable, Iterator
 from typing import Any, NamedTuple, Optional
@@ -14,6 +15,7 @@ from aecp.archive._index import Group
 from aecp.archive._scripts import Edit, Store
 
 AT_ONCE = 1 << 16  # values that are stored as bytes at once
+MOST_PARTS = 256  # parts of a block of a result
 
 
 class Part(NamedTuple):
@@ -47,49 +49,69 @@ class Result:
 
     def __init__(self, count: int, edits: Iterable[Edit] = ()) -> None:
         self.first_count = self.count = count
-        # The parts before a place of the result, and those after it, the next one last.
-        self._before: list[Part] = []
-        self._after: list[Part] = [Part(0, count)] if count else []
-        self._place = 0
+        # The parts in order, in blocks; and how many samples each block has. So an edit passes
+        # over blocks and over the parts of one block, wherever its place is.
+        self._blocks: list[list[Part]] = [[Part(0, count)] if count else []]
+        self._lengths = [count]
         for edit in edits:
             self.apply(edit)
 
     def apply(self, edit: Edit) -> None:
         """Applies an edit."""
         first, end = edit.exchanged(self.count)
-        self._go_to(first)
-        self._remove(end - first)
+        self._remove(first, end - first)
         if edit.values:
-            self._before.append(Part(0, len(edit.values), edit.values))
-            self._place += len(edit.values)
+            self._insert(first, Part(0, len(edit.values), edit.values))
         self.count += len(edit.values) - (end - first)
 
-    def _go_to(self, place: int) -> None:
-        """Moves to a place of the result. A part that contains it is cut in two."""
-        while self._place > place:
-            part = self._before.pop()
-            self._after.append(part)
-            self._place -= part.length
-        while self._place < place:
-            part = self._after.pop()
-            length = min(part.length, place - self._place)
-            if length < part.length:
-                self._after.append(part.cut(length, part.length - length))
-            self._before.append(part.cut(0, length))
-            self._place += length
+    def _cut(self, place: int) -> tuple[int, int]:
+        """Returns the block and the index of the part that begins at a place of the result; the end
+        of the last block if none does. A part that contains the place is cut in two."""
+        number = 0
+        while number + 1 < len(self._blocks) and place >= self._lengths[number]:
+            place -= self._lengths[number]
+            number += 1
+        block, index = self._blocks[number], 0
+        while index < len(block) and place >= block[index].length:
+            place -= block[index].length
+            index += 1
+        if place:
+            part = block[index]
+            block[index : index + 1] = [part.cut(0, place), part.cut(place, part.length - place)]
+            index += 1
+        return number, index
 
-    def _remove(self, length: int) -> None:
-        """Removes samples after the place."""
+    def _remove(self, place: int, length: int) -> None:
+        """Removes samples from a place on."""
+        number, index = self._cut(place)
         while length > 0:
-            part = self._after.pop()
-            if part.length > length:
-                self._after.append(part.cut(length, part.length - length))
-            length -= part.length
+            block = self._blocks[number]
+            if index == len(block):
+                number, index = number + 1, 0
+                continue
+            part = block[index]
+            gone = min(part.length, length)
+            block[index : index + 1] = [part.cut(gone, part.length - gone)] if gone < part.length else []
+            self._lengths[number] -= gone
+            length -= gone
+        if not all(self._lengths):
+            self._blocks = [it for it in self._blocks if it] or [[]]
+            self._lengths = [it for it in self._lengths if it] or [0]
+
+    def _insert(self, place: int, part: Part) -> None:
+        """Inserts samples at a place. A block that gets too long is cut in two."""
+        number, index = self._cut(place)
+        block = self._blocks[number]
+        block.insert(index, part)
+        self._lengths[number] += part.length
+        if len(block) > MOST_PARTS:
+            halves = [block[: MOST_PARTS // 2], block[MOST_PARTS // 2 :]]
+            self._blocks[number : number + 1] = halves
+            self._lengths[number : number + 1] = [sum(it.length for it in half) for half in halves]
 
     def parts(self) -> Iterator[Part]:
         """Yields the parts of the result in order."""
-        yield from self._before
-        yield from reversed(self._after)
+        return itertools.chain.from_iterable(self._blocks)
 
     def exchanges(self) -> Iterator[Exchange]:
         """Yields what was replaced, removed or inserted, in order. The places are those of the
