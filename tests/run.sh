@@ -46,7 +46,8 @@ worked-pages on_program tests/worked_pages.py
 pictures python3 bench/pictures.py --check
 instructions on_program tests/instructions_bounded.py'
 
-# The parts that need the kit, or programs and records that the gate leaves.
+# The parts that need the kit, or programs and records that the gate leaves. `check` runs the other parts with a program: those without one
+# check this repository.
 with_kit='gate|kept-program|refused-calls|instructions'
 of_library='library python3 tests/library.py PROGRAM FOLDER
 module python3 tests/module.py --program PROGRAM FOLDER
@@ -59,7 +60,7 @@ if [ "${1:-}" = check ]; then
         echo "there is no program $checked: make check PROGRAM=/usr/bin/aec-proved" >&2
         exit 1
     fi
-    parts=$(echo "$parts" | grep -vE "^($with_kit) ")
+    parts=$(echo "$parts" | grep ' on_program ' | grep -vE "^($with_kit) ")
     if [ -n "${3:-}" ]; then
         parts=$(printf '%s\n%s' "$parts" "$of_library" | sed "s|PROGRAM FOLDER|$checked $3|; s| FOLDER\$| $3|")
     fi

@@ -170,7 +170,7 @@ def table(sizes: Sizes, files: int) -> list[str]:
     for it in rows:
         mark = "  the fewest bytes" if it.bytes == least else ""
         mark = "  recommended" if it is rows[0] else mark
-        samples = f"{it.samples} samples"
+        samples = f"{min(it.samples, sizes.whole // width)} samples"
         lines.append(f"{it.bytes:12}  {samples:>16}  {words_of(it.options)}{mark}")
     return lines + better_storage(sizes) + facts(sizes)
 
