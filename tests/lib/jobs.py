@@ -33,6 +33,8 @@ JOBS = [
     Job("decoding without a count", ["-d"], CHANGED_STREAM, CHANGED),
     Job("a range", ["--range", "19:3", "--count", "48"], CHANGED_STREAM, b"\0\1\0"),
     Job("an edit", ["--edit", "script", "--count", "48"], STILL_STREAM, CHANGED_STREAM, SCRIPT),
+    # On eight lines and more edits are applied as one; the last ones undo each other.
+    Job("edits as one", ["--edit", "script", "--count", "48"], STILL_STREAM, CHANGED_STREAM, SCRIPT + b"insert 9 5\nremove 9 1\n" * 4),
 ]
 
 # Blocks of ten samples, one in an interval. The edit appends a block with three samples.
