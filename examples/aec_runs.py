@@ -4,6 +4,7 @@ refusals of one line."""
 import functools
 import inspect
 import os
+import re
 import subprocess
 import sys
 import tempfile
@@ -17,6 +18,10 @@ class Refused(Exception):
 class WrongWords(Exception):
     """The user's words are wrong, whatever the files contain. The text is the line that the user
     reads."""
+
+
+class WrongUse(Exception):
+    """A function doesn't take so many words. The user reads which words it takes."""
 
 
 def read_file(path):
@@ -124,7 +129,7 @@ def perform(doc, **actions):
     first = sys.argv[1] if len(sys.argv) > 1 else ""
     if first not in actions and first not in ("-h", "--help"):
         names = ", ".join(actions)
-        sys.exit(complain(f"the first word must be one of {names}; --help tells more", 2))
+        sys.exit(complain(f"the first word must be one of {names}; see --help", 2))
     call(doc, actions.get(first), first, sys.argv[2:])
 
 
@@ -135,6 +140,34 @@ def parameters_of(action):
     named = [it.name for it in taken if it.kind is it.KEYWORD_ONLY]
     places = [it for it in taken if it.kind is not it.KEYWORD_ONLY]
     return [it.name.upper() + ".." * (it.kind is it.VAR_POSITIONAL) for it in places], named
+
+
+def usage_of(doc, action, name):
+    """Returns what a function takes: the words that `doc` shows after the script's name and
+    `name`, or else the names of the parameters."""
+    words, names = parameters_of(action)
+    shown = re.findall(rf"^ +\S+\.py {re.escape(name)} (\S+(?: \S+)*)", doc, re.M)
+    more = "".join(f" [--{it} {found_value(doc, it)}]" for it in names)
+    return f"{name} takes the words {', or '.join(shown or [' '.join(words)])}{more}"
+
+
+def found_value(doc, name):
+    """Returns what `doc` calls the value of an option."""
+    found = re.search(rf"--{name} ([A-Z]+)", doc)
+    return found[1] if found else name[0].upper()
+
+
+def help_of(doc, action, name):
+    """Returns the part of a script's text about one of its functions: the lines about its words,
+    and the paragraphs that begin with one of these words."""
+    heads = r"^ +\S+\.py (\S+) .*\n(?:^(?! +\S+\.py ) +.*\n)*"
+    lines = [it[0] for it in re.finditer(heads, doc, re.M) if it[1] == name]
+    if not lines:
+        return doc.strip()
+    taken = set(re.findall(r"[\w-]+", usage_of(doc, action, name))) - {name}
+    paragraphs = [it for it in doc.split("\n\n")[1:] if not it.startswith(" ")]
+    parts = [it.strip() for it in paragraphs if re.findall(r"[\w-]+", it)[0] in taken]
+    return "\n\n".join(["".join(lines).rstrip("\n"), *parts])
 
 
 def parted(words, names):
@@ -156,28 +189,31 @@ def parted(words, names):
 
 def call(doc, action, name, words):
     """Does for one function what `perform` describes."""
-    if name in ("-h", "--help") or words[:1] in (["-h"], ["--help"]):
+    if name in ("-h", "--help"):
         print(doc.strip())
         sys.exit(0)
+    if words[:1] in (["-h"], ["--help"]):
+        print(help_of(doc, action, name))
+        sys.exit(0)
     try:
-        sys.exit(called_with(action, name, words))
+        sys.exit(called_with(action, words))
+    except WrongUse:
+        sys.exit(complain(f"{usage_of(doc, action, name)}; see --help", 2))
     except WrongWords as wrong:
-        sys.exit(complain(f"{wrong}; --help tells more", 2))
+        sys.exit(complain(f"{wrong}; see --help", 2))
     except Refused as refusal:
         sys.exit(complain(refusal, 1))
     except OSError as fault:
         sys.exit(complain(f"{fault.filename}: {fault.strerror}" if fault.filename else fault, 1))
 
 
-def called_with(action, name, words):
+def called_with(action, words):
     """Calls a function with the user's words. Returns what the function returns."""
-    wanted, names = parameters_of(action)
-    places, named = parted(words, names)
+    places, named = parted(words, parameters_of(action)[1])
     try:
         inspect.signature(action).bind(*places, **named)
     except TypeError:
-        more = "".join(f" [--{it} {it[0].upper()}]" for it in names)
-        raise WrongWords(f"{name} takes the words {' '.join(wanted)}{more}") from None
+        raise WrongUse from None
     return action(*places, **named)
 
 

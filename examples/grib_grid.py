@@ -3,23 +3,18 @@ message stores them. Uses eccodes' Python where it is installed; without it, onl
 library, which is enough for latitude/longitude grids and Gaussian grids of the whole globe."""
 
 import math
+from collections.abc import Mapping
 from dataclasses import dataclass
-from functools import cached_property
-from typing import NamedTuple
+from itertools import accumulate
 
 from aec_runs import Refused
+from grib_nearest import Point, Points, Rows, Scattered, degrees_between
 
 UNKNOWN = 0xFFFFFFFF
 EASTWARD = (0, 64)  # scanning modes: rows of points to the east, from the north or from the south
 REGULAR, GAUSSIAN = 0, 40  # grid definition templates 3.0 and 3.40
 NO_BITMAP = 255
-
-
-class Point(NamedTuple):
-    """A place of the earth, in degrees."""
-
-    latitude: float
-    longitude: float
+SLACK = 1e-6  # degrees that a latitude and a longitude lose by rounding
 
 
 @dataclass
@@ -27,13 +22,14 @@ class Grid:
     """The points of a field, in the order in which the message stores them."""
 
     row_lengths: list[int] | None  # of all points; None if the points lie in no rows
-    points: list[Point] | None  # None if they aren't known
-    places: dict[int, int]  # by the number of a point that has a value
+    points: Points | None  # None if they aren't known
+    places: Mapping[int, int] | range  # by the number of a point that has a value
 
     def located(self):
         """Returns the points that have a value, by place."""
         self.require_points()
-        return [self.points[number] for number in self.places]
+        points = list(self.points)
+        return [points[number] for number in self.places]
 
     def require_points(self):
         """Refuses a grid whose points aren't known."""
@@ -48,35 +44,28 @@ class Grid:
             raise Refused(f"there is no row {row} with a column {column}")
         return self.place_of(sum(self.row_lengths[:row]) + column)
 
-    def nearest(self, latitude, longitude):
-        """Returns the place of the point that is nearest on the sphere."""
+    def nearest(self, latitude, longitude, within=None):
+        """Returns the place of the point that is nearest on the sphere, and the point. Refuses a
+        point that is farther than `within` degrees, or than a step of the grid at that point."""
         self.require_points()
-        wanted = direction(Point(latitude, longitude))
-        near = max(range(len(self.points)), key=lambda it: dot(wanted, self.directions[it]))
-        return self.place_of(near)
-
-    @cached_property
-    def directions(self):
-        """Returns the unit vectors to all points."""
-        return [direction(it) for it in self.points]
+        wanted = Point(latitude, longitude)
+        number = self.points.nearest(wanted)
+        point = self.points[number]
+        away, limit = degrees_between(wanted, point), within
+        if limit is None:
+            limit = self.points.step(number)
+        if away > limit + SLACK:
+            what = "a step of the grid" if within is None else "--within"
+            where = f"the nearest point, {point.latitude:.6f} {point.longitude:.6f}"
+            more = "" if within is not None else ". --within DEGREES sets another limit"
+            raise Refused(f"{where}, is {away:.6g} degrees away, but {what} is {limit:.6g}{more}")
+        return self.place_of(number), point
 
     def place_of(self, point):
         """Returns the place of a point, by its number. Refuses a point that has no value."""
         if point not in self.places:
             raise Refused("the bitmap says that this point has no value")
         return self.places[point]
-
-
-def direction(point):
-    """Returns the unit vector to a point."""
-    latitude, longitude = math.radians(point.latitude), math.radians(point.longitude)
-    level = math.cos(latitude)
-    return level * math.cos(longitude), level * math.sin(longitude), math.sin(latitude)
-
-
-def dot(one, other):
-    """Returns the product of two vectors, which is greater the nearer their points are."""
-    return one[0] * other[0] + one[1] * other[1] + one[2] * other[2]
 
 
 def number(data, octet, length):
@@ -102,7 +91,7 @@ def places_of(message, points, count):
     """Returns the place of each point that has a value."""
     section = message.section(6) if 6 in message.sections else bytes([0, 0, 0, 6, 6, NO_BITMAP])
     if section[5] == NO_BITMAP:
-        return {it: it for it in range(count)}
+        return range(count)
     if section[5] != 0:
         raise Refused("the bitmap isn't in the message: give places")
     bits = "".join(f"{byte:08b}" for byte in section[6:])
@@ -144,12 +133,35 @@ def points_of_eccodes(message, rows):
     try:
         if rows is None and eccodes.codes_get(handle, "scanningMode") != 64:
             return None
-        pairs = (eccodes.codes_get_array(handle, key) for key in ("latitudes", "longitudes"))
-        return [Point(float(north), float(east)) for north, east in zip(*pairs)]
+        keys = ("latitudes", "longitudes")
+        latitudes, longitudes = (eccodes.codes_get_array(handle, it).tolist() for it in keys)
     except eccodes.CodesInternalError:
         return None
     finally:
         eccodes.codes_release(handle)
+    found = None if rows is None else in_rows(latitudes, longitudes, rows)
+    if found is None:
+        found = Scattered(list(map(Point, latitudes, longitudes)), columns_of(message.section(3)))
+    return found
+
+
+def in_rows(latitudes, longitudes, rows):
+    """Returns points as rows of these lengths, None if a row has several latitudes."""
+    starts = list(accumulate(rows, initial=0))
+    parts = list(zip(starts, starts[1:]))
+    if len(latitudes) != starts[-1] or any(len(set(latitudes[a:b])) > 1 for a, b in parts):
+        return None
+    parts = [(first, end) for first, end in parts if end > first]
+    lists = [longitudes[first:end] for first, end in parts]
+    lists = [lists[0] if it == lists[0] else it for it in lists]  # equal rows share one list
+    return Rows([latitudes[first] for first, _ in parts], lists)
+
+
+def columns_of(section):
+    """Returns the length of a row of a grid whose points lie in equal rows, else None. The length
+    is at the same octets in the templates for projections."""
+    columns, rows = number(section, 31, 4), number(section, 35, 4)
+    return columns if 0 < columns * rows == number(section, 7, 4) else None
 
 
 def own_points(section, rows):
@@ -166,12 +178,11 @@ def own_points(section, rows):
         return None
     else:
         latitudes = spread(north, south, len(rows))
-    span = (east - west) % 360 or 360 * (east != west)
-    points = []
-    for latitude, length in zip(latitudes, rows):
+    span, lists = (east - west) % 360 or 360 * (east != west), {}
+    for length in set(rows):
         longitudes = spread(west, west + (360 - 360 / length if is_reduced else span), length)
-        points += [Point(latitude, it % 360 if it >= 360 else it) for it in longitudes]
-    return points
+        lists[length] = [it % 360 if it >= 360 else it for it in longitudes]
+    return Rows(latitudes, [lists[length] for length in rows])
 
 
 def spread(first, last, count):

@@ -7,6 +7,7 @@ from fractions import Fraction
 from typing import NamedTuple
 
 from aec_runs import Refused, WrongWords, read_file, whole_number
+from grib_nearest import Point
 
 
 class Change(NamedTuple):
@@ -15,6 +16,7 @@ class Change(NamedTuple):
     place: int
     value: Fraction
     line: str  # what a message calls it
+    point: Point | None = None  # if the line gives a latitude and a longitude
 
 
 def value_of(text, wrong):
@@ -25,15 +27,17 @@ def value_of(text, wrong):
         raise wrong(f"{text} is no value") from None
 
 
-def changes_of(table, count, find_grid):
+def changes_of(table, count, find_grid, within=None):
     """Returns the changes that a table wants in a message of `count` values. Calls `find_grid` with
-    this number if the table has no places. Refuses a line that is wrong, and two for one place."""
+    this number if the table has no places. Refuses a line that is wrong, two for one place, and a
+    point that is farther than `within` degrees, or than a step of the grid."""
     rows, changes, lines = rows_of_table(table), [], {}
     grid = None if not rows or "place" in rows[0][1] else find_grid(count)
     for line, row in rows:
         name = f"line {line} of {table}: "
         try:
-            change = Change(place_in(row, count, grid), value_of(row["value"], Refused), name)
+            place, point = place_in(row, count, grid, within)
+            change = Change(place, value_of(row["value"], Refused), name, point)
         except (Refused, WrongWords) as fault:
             raise Refused(f"{name}{fault}") from fault
         if change.place in lines:
@@ -72,8 +76,9 @@ def judged_names(table, names):
     return names
 
 
-def place_in(row, count, grid):
-    """Returns the place that a row of a table means."""
+def place_in(row, count, grid, within):
+    """Returns the place that a row of a table means, and the point if the row has coordinates."""
+    point = None
     if "place" in row:
         place = whole_number(row["place"], "place")
     elif "row" in row:
@@ -84,7 +89,7 @@ def place_in(row, count, grid):
         latitude, longitude = map(float, degrees)
         if not -90 <= latitude <= 90 or not -360 <= longitude <= 360:
             raise Refused(f"{row['latitude']} {row['longitude']} is no place of the earth")
-        place = grid.nearest(latitude, longitude)
+        place, point = grid.nearest(latitude, longitude, within)
     if place >= count:
         raise Refused(f"position outside the {count} samples")
-    return place
+    return place, point

@@ -16,6 +16,7 @@ import tempfile
 from lib.program import Program, Tally, asked_of
 from lib.recipe_calls import EXAMPLES, called, hiding
 from lib.recipe_messages import try_bad_messages, try_message
+from lib.recipe_nearest import try_limits, try_nearest
 from lib.settings import Settings
 
 import szip_chunks
@@ -204,9 +205,9 @@ def try_packet_words(words, aec, script, tally):
     usage = "read takes the words AEC FILE FOLDER SECONDARY OPTIONS.."
     for given, status, text in (
         (["all", "4", *words], 1, "all: File exists"),
-        (["new", "x", *words], 2, "x is no length of a secondary header; --help tells more"),
-        (["new", "4", "-n", "33"], 2, "aec: bits per sample must be 1 to 32; --help tells more"),
-        (["new"], 2, f"{usage}; --help tells more"),
+        (["new", "x", *words], 2, "x is no length of a secondary header; see --help"),
+        (["new", "4", "-n", "33"], 2, "aec: bits per sample must be 1 to 32; see --help"),
+        (["new"], 2, f"{usage}; see --help"),
     ):
         answer = script.run(PACKETS, "read", aec.path, "p", *given)
         tally.check(f"packets: {given}", answer, (status, f"space_packets.py: {text}\n"))
@@ -242,7 +243,7 @@ def try_statuses(aec, script, tally):
             tally.holds(status == 0 and said.count("\n") > 1, f"{name} {words}: {status} {said}")
         for words in ([], ["one", "two", "three", "four"], ["--no-such-word", "x", "y"]):
             status, said = script.run(path, *words, **more)
-            is_so = status == 2 and said.count("\n") == 1 and "--help tells more" in said
+            is_so = status == 2 and said.count("\n") == 1 and "see --help" in said
             tally.holds(is_so, f"{name} {words}: {status} {said}")
     runs, shell = os.path.join(EXAMPLES, "run.sh"), Program("/bin/sh", aec.folder)
     for words, wanted in (([], 2), ([aec.path, "x"], 2), (["none"], 1)):
@@ -279,7 +280,9 @@ def main():
         for number in asked.numbers:
             try_message(number, random.Random(f"{asked.seed} {number}"), aec, tally)
             try_chunk(number, random.Random(f"{asked.seed} {number}"), aec, tally)
+            try_nearest(number, random.Random(f"{asked.seed} {number}"), tally)
         try_bad_messages(aec, script, tally)
+        try_limits(tally)
         try_layouts(aec, tally)
         try_packets(aec, script, tally)
         try_sample_packets(aec, script, tally)

@@ -17,10 +17,12 @@ import tempfile
 import eccodes
 from lib.program import Program, Tally, asked_of
 from lib.recipe_calls import called
+from lib.recipe_nearest import first_of_all
 
 import grib_ccsds
 import grib_grid
 from aec_runs import bytes_of_sample, samples_of
+from grib_nearest import Point, Rows
 
 MISSING = 9999.0
 SIGNED, PREPROCESS, ANY_EVEN_BLOCK = 1, 8, 64  # bits of ccsdsFlags
@@ -232,10 +234,39 @@ def try_grids(aec, tally):
         aec.write("message", eccodes.codes_get_message(handle))
         section = grib_ccsds.message_of(aec.file("message"), "1").section(3)
         wanted = points_of(handle)
-        found = grib_grid.own_points(section, grib_grid.rows_of(section)) or []
+        found = list(grib_grid.own_points(section, grib_grid.rows_of(section)) or [])
         near = [max(abs(a - b) for a, b in zip(*pair)) < 2e-5 for pair in zip(found, wanted)]
         is_so = len(found) == len(wanted) and all(near)
         tally.holds(is_so, f"points of {name}: {found[:2]}, {wanted[:2]}")
+
+
+def try_nearest_points(seed, aec, tally):
+    """Compares the nearest points that the script finds in eccodes' points with those of a search
+    over all: in rows, and in a projected grid. Each point of the grid and of the middle between it
+    and the next in its row is within a step."""
+    chance = random.Random(f"{seed} nearest")
+    grids = ("regular_ll_sfc_grib2", "regular_gg_sfc_grib2", "reduced_gg_pl_32_grib2", "polar_stereographic_sfc_grib2")
+    for name in grids:
+        handle = eccodes.codes_grib_new_from_samples(name)
+        if name == grids[-1]:
+            eccodes.codes_set(handle, "jScansPositively", 1)  # in which order eccodes lists points
+        aec.write("message", eccodes.codes_get_message(handle))
+        count = eccodes.codes_get(handle, "numberOfValues")
+        grid = grib_grid.grid_of(grib_ccsds.message_of(aec.file("message"), "1"), count)
+        listed = list(grid.points)
+        near = [(round(it.latitude, 6), round(it.longitude, 6)) for it in listed] == points_of(handle)
+        tally.holds(near and isinstance(grid.points, Rows) == (name != grids[-1]), f"grid {name}")
+        for _ in range(20):
+            one = chance.randrange(count - 1)
+            middle = Point(*(sum(it) / 2 for it in zip(listed[one], listed[one + 1])))
+            for wanted in (listed[one], middle, Point(chance.uniform(-90, 90), chance.uniform(-180, 360))):
+                number = first_of_all(listed, wanted)
+                tally.check(f"nearest in {name}: {wanted}", grid.points.nearest(wanted), number)
+            status, said = called(grid.nearest, *listed[one])
+            tally.check(f"a point of {name}: {said}", status, 0)
+            if abs(listed[one].longitude - listed[one + 1].longitude) < 90:
+                status, said = called(grid.nearest, *middle)
+                tally.check(f"between points of {name}: {said}", status, 0)
 
 
 def main():
@@ -246,6 +277,7 @@ def main():
         for number in asked.numbers:
             try_case(number, asked.seed, aec, tally)
         try_grids(aec, tally)
+        try_nearest_points(asked.seed, aec, tally)
     tally.print()
     return 1 if tally.failed else 0
 

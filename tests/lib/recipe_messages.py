@@ -9,6 +9,7 @@ from lib.settings import Settings
 
 import grib_ccsds
 
+PACK_ANEW = "`grib_set -r -s packingType=grid_ccsds FILE message.grib` packs it by CCSDS"
 SIGN = 1 << 15  # of the two bytes of a scale factor
 HEAD = 16  # bytes of section 0
 GRIB = os.path.join(EXAMPLES, "grib_ccsds.py")
@@ -111,7 +112,7 @@ def bad_messages(good, settings):
         (good[:-4] + b"7778", f"the message is cut or damaged: at byte {size - 4} no section fits"),
         (good[:8] + bytes(8), "the message is cut or damaged: at byte 16 no section fits"),
         (made(edition=1), "the message has edition 1, not 2"),
-        (made(template=40), "the field has data representation template 5.40, not 5.42"),
+        (made(template=40), f"the field has data representation template 5.40, not 5.42: {PACK_ANEW}"),
         (made(bits=0), "the field is constant: it has no stream"),
         (made(bits=33), "a value has 33 bits, more than 32"),
         (made(b"\0\x78", 40), "intervals are padded (flag 32): -p of aec has another rule"),
@@ -164,8 +165,9 @@ def try_words(aec, script, tally):
     """Tries words that the script refuses, missing files, and an OUT that is also read."""
     for words, wanted, text in (
         (["edit", aec.path, "script", "m", "m"], 1, "m is read, so it can't be written too"),
-        (["edit", aec.path, "m", "m"], 2, "edit takes the words AEC SCRIPT FILE OUT [--message M]"),
-        (["options"], 2, "options takes the words FILE"),
+        (["edit", aec.path, "m", "m"], 2, "edit takes the words AEC SCRIPT FILE OUT [--message N]; see --help"),
+        (["options"], 2, "options takes the words FILE [--message N]; see --help"),
+        (["values"], 2, "values takes the words AEC FILE [FIRST:LEN] [--message N]; see --help"),
         ([], 2, "the first word must be one of options, values, set, take, put, edit"),
         (["change", "m"], 2, "the first word must be one of options, values, set, take, put, edit"),
         (["options", "none"], 1, "none: No such file or directory"),
@@ -177,7 +179,10 @@ def try_words(aec, script, tally):
         (["values", aec.path, "m", "3"], 2, "3 is no FIRST:LEN"),
         (["values", aec.path, "m", "3:-1"], 2, "-1 is no number of values"),
         (["values", aec.path, "m", "7:2"], 1, "aec: position outside the 8 samples"),
-        (["set", aec.path, "m", "o"], 2, "set takes the words AEC FILE TABLE OUT, or AEC FILE"),
+        (["set", aec.path, "m", "o"], 2, "set takes the words AEC FILE TABLE OUT, or AEC FILE PLACE VALUE OUT [--"),
+        (["set", aec.path, "m", "o"], 2, "OUT [--message N] [--within DEGREES]; see --help"),
+        (["set", aec.path, "m", "t", "o", "--within", "x"], 2, "x is no value"),
+        (["set", aec.path, "m", "t", "o", "--within", "-1"], 2, "-1 is no distance in degrees"),
         (["set", aec.path, "m", "none", "o"], 1, "none: No such file or directory"),
         (["set", aec.path, "m", "-1", "1", "o"], 2, "-1 is no place"),
         (["set", aec.path, "m", "0", "x", "o"], 2, "x is no value"),
@@ -188,9 +193,15 @@ def try_words(aec, script, tally):
         status, said = script.run(GRIB, *words)
         is_so = status == wanted and said.count("\n") == 1 and text in said
         tally.holds(is_so, f"grib_ccsds.py {words}: {status}, {said}")
-    for words in (["--help"], ["edit", "--help"]):
+    for words, begin, parts, others in (
+        (["--help"], "The coded stream", ["set AEC FILE TABLE OUT", "AEC is this project's", "--within DEGREES"], []),
+        (["edit", "--help"], "    grib_ccsds.py edit AEC SCRIPT", ["the count", "AEC is this", "SCRIPT has"], ["TABLE", "--within"]),
+        (["set", "-h"], "    grib_ccsds.py set AEC FILE", ["PLACE VALUE", "TABLE names", "`--within", "`--message"], ["SCRIPT", " put "]),
+        (["options", "--help"], "    grib_ccsds.py options FILE", ["`--message"], ["AEC", "values"]),
+    ):
         status, said = script.run(GRIB, *words)
-        tally.holds(status == 0 and said.startswith("The coded stream"), f"help {words}: {said}")
+        is_so = status == 0 and said.startswith(begin) and all(it in said for it in parts)
+        tally.holds(is_so and not any(it in said for it in others), f"help {words}: {said}")
 
 
 # Octets 15 to 72 of section 3, template 3.0: 4 columns from 10 degrees east to 25, 2 rows from 50
@@ -220,16 +231,16 @@ def try_tables(aec, tally):
     plain = message(stream, 8, settings, 8)  # of no known grid
     step = 2.0**-9
 
-    def changed(place):
-        return f"place {place}: {250 + place * step} becomes 250.0\n"
+    def changed(place, point=""):
+        return f"place {place}{point}: {250 + place * step} becomes 250.0\n"
 
     for data, text, wanted in (
         (good, b"place value\n3 250\n0 250\n", f"{changed(0)}{changed(3)}"),
         (good, b"# spikes\n\nrow,column,value\n1,2,250\n", changed(6)),
-        (good, b"Latitude;Longitude;Value\n41;-346;250\n", changed(5)),
+        (good, b"Latitude;Longitude;Value\n41;-346;250\n", changed(5, ", latitude 40.000000, longitude 15.000000")),
         (good, b"place latitude longitude value\n5 0 0 250\n", changed(5)),
         (masked, b"row\tcolumn\tvalue\r\n1\t2\t250\r\n", changed(5)),
-        (masked, b"latitude longitude value\n60 24 250\n", changed(2)),
+        (masked, b"latitude longitude value\n59 24 250\n", changed(2, ", latitude 50.000000, longitude 25.000000")),
         (plain, b"value place\n250 7\n", changed(7)),
     ):
         aec.write("m", data)
@@ -237,6 +248,7 @@ def try_tables(aec, tally):
         status, said = called(grib_ccsds.put_values, aec.path, aec.file("m"), table, out)
         tally.holds(status == 0 and said.startswith(wanted), f"table {text}: {said}")
     second = "line 2 of {t}: "
+    far = "the nearest point, 50.000000 10.000000, is 10.1 degrees away, but a step of the grid is 10"
     for data, text, wanted in (
         (good, b"place value\n3 250\n8 250\n", "line 3 of {t}: position outside the 8 samples"),
         (good, b"place value\n3 250\n\n3 250.1\n", "line 4 of {t}: place 3 is also that of line 2"),
@@ -251,6 +263,7 @@ def try_tables(aec, tally):
         (good, b"row column value\n0 4 250\n", "line 2 of {t}: there is no row 0 with a column 4"),
         (good, b"row column value\n2 0 250\n", "line 2 of {t}: there is no row 2 with a column 0"),
         (good, b"latitude longitude value\n91 0 250\n", f"{second}91 0 is no place"),
+        (good, b"latitude longitude value\n50 10 250\n60.1 10 250\n", f"line 3 of {{t}}: {far}"),
         (masked, b"row column value\n0 1 250\n", f"{second}the bitmap says that this point"),
         (masked, b"place value\n6 250\n", "line 2 of {t}: position outside the 6 samples"),
         (plain, b"row column value\n0 0 250\n", f"{second}the points of this grid"),
@@ -262,6 +275,13 @@ def try_tables(aec, tally):
         status, said = called(grib_ccsds.put_values, aec.path, aec.file("m"), table, out)
         is_so = status == 1 and said.startswith(wanted.format(t=table)) and aec.read("o") == b"old"
         tally.holds(is_so, f"table {text}: {said}")
+    aec.write("m", good)
+    aec.write("t", b"latitude longitude value\n60.1 10 250\n")
+    for within, wanted in (("10.2", 0), ("10", 1)):
+        aec.write("o", b"old")
+        status, said = called(grib_ccsds.put_values, aec.path, aec.file("m"), table, out, within=within)
+        is_so = status == wanted and (aec.read("o") == b"old") == (status == 1)
+        tally.holds(is_so, f"within {within}: {status} {said}")
     answer = called(grib_ccsds.put_values, aec.path, aec.file("m"), table, table)
     tally.check("a table as OUT: status", answer[0], 1)
     aec.write("m", masked)
