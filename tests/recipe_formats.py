@@ -16,7 +16,7 @@ import tempfile
 from lib.program import Program, Tally, asked_of
 from lib.recipe_calls import EXAMPLES, called, hiding
 from lib.recipe_messages import try_bad_messages, try_message
-from lib.recipe_nearest import try_limits, try_nearest
+from lib.recipe_nearest import try_halfway, try_limits, try_nearest
 from lib.settings import Settings
 
 import szip_chunks
@@ -283,6 +283,7 @@ def main():
             try_nearest(number, random.Random(f"{asked.seed} {number}"), tally)
         try_bad_messages(aec, script, tally)
         try_limits(tally)
+        try_halfway(tally)
         try_layouts(aec, tally)
         try_packets(aec, script, tally)
         try_sample_packets(aec, script, tally)

@@ -77,6 +77,15 @@ def try_nearest(number, chance, tally):
         tally.check(f"grid {number}: {wanted} in {listed[:50]}", points.nearest(wanted), first_of_all(listed, wanted))
 
 
+def try_halfway(tally):
+    """Tests points halfway between two rows, an eighth of a degree apart: the products of the two
+    nearest points differ by rounding alone, and the greater one must be found."""
+    latitudes, longitudes = spread(90, -90, 1441), spread(0, 357.5, 9)
+    for pair in zip(latitudes, latitudes[1:]):
+        points, wanted = Rows(list(pair), [longitudes] * 2), Point(sum(pair) / 2, longitudes[4])
+        tally.check(f"halfway: {wanted}", points.nearest(wanted), first_of_all(points, wanted))
+
+
 REGIONAL = Rows(spread(60, 53, 8), [spread(0, 11, 12)] * 8)
 GLOBAL = Rows(spread(90, -90, 721), [spread(0, 359.75, 1440)] * 721)
 REDUCED = Rows([80.0, 40.0, -40.0, -80.0], [spread(0, 270, 4), spread(0, 330, 12), spread(0, 330, 12), spread(0, 270, 4)])
