@@ -1,9 +1,12 @@
 #!/usr/bin/env python3
-"""Compares the instructions of two libraries: library.py FOLDER
+"""Compares two libraries, from buffer to buffer: library.py FOLDER [--seconds]
 
 Counts with `valgrind --tool=callgrind` how many instructions libaecp.a of FOLDER ('ours') and libaec ('theirs') take for a sample
-in one call, from buffer to buffer, on one MiB of the samples of bench.py. Both decode the stream that libaec's client has coded.
-Prints a table in Markdown, and tests nothing. Needs libaec's header, library and client (named by the environment variable
+in one call, on one MiB of the samples of bench.py. Both decode the stream that libaec's client has coded. With --seconds instead
+compares processor time, on 16 MiB: a process calls both in turn, RUNS times, and the least of each counts. Then libaecp.so of
+FOLDER is measured if it has no libaecp.a, as the folder of x86-64-v3.
+
+Prints tables in Markdown, and tests nothing. Needs libaec's header, library and client (named by the environment variable
 LIBAEC, else /usr/bin/aec).
 """
 
@@ -14,20 +17,28 @@ import subprocess
 import sys
 import tempfile
 
-from bench import INPUTS, MIB
+from bench import INPUTS, MIB, geometric_mean
+from instructions import MEAN
 
 BLOCKS = [8, 16, 64]
 INTERVAL = 128
+# For --seconds: how often each call runs, the MiB of samples, and pairs of J and r.
+RUNS = 9
+SIZE = 16
+SETTINGS = [(16, 128), (8, 2), (64, 128)]
 # The bytes of a stored sample, by its bits.
-STORAGE = {8: 1, 12: 2, 16: 2, 32: 4}
+STORAGE = {1: 1, 8: 1, 12: 2, 16: 2, 32: 4}
 
 HERE = os.path.dirname(os.path.abspath(__file__))
 
 
 def built(folder, library):
-    program = os.path.join(folder, "library")
+    """Builds bench/library.c with the library of a folder. Returns the path of the program."""
+    program, ours = os.path.join(folder, "library"), os.path.join(os.path.abspath(library), "libaecp.a")
+    if not os.path.exists(ours):
+        ours = ours.removesuffix(".a") + ".so"
     words = ["cc", "-O2", "-I", os.path.join(HERE, "..", "bindings", "c"), "-o", program, os.path.join(HERE, "library.c")]
-    subprocess.run([*words, os.path.join(library, "libaecp.a"), "-laec"], check=True)
+    subprocess.run([*words, ours, "-laec", f"-Wl,-rpath,{os.path.dirname(ours)}"], check=True)
     return program
 
 
@@ -44,23 +55,56 @@ def stream_of_theirs(options, raw, words):
     return raw + ".aec"
 
 
-def main():
+def measurements(raw, piece, options, settings):
+    """Yields each J and r, with the words that a call of coding needs, then those of decoding."""
+    bits = options[1]
+    for block, interval in settings:
+        numbers = [bits, str(int("-s" in options)), str(block), str(interval)]
+        coded = stream_of_theirs(options, raw, ["-j", str(block), "-r", str(interval)])
+        yield block, interval, (["encode", *numbers, raw, str(2 * piece)], ["decode", *numbers, coded, str(piece)])
+
+
+def instructions(program, raw):
+    """Prints the table of instructions."""
     print("| Input | J | coding, ours | theirs | ratio | decoding, ours | theirs | ratio |")
     print("|---|---|---|---|---|---|---|---|")
+    for name, options, made in INPUTS:
+        with open(raw, "wb") as file:
+            file.write(made(random.Random(1)))
+        samples = MIB // STORAGE[int(options[1])]
+        for block, _, calls in measurements(raw, MIB, options, [(block, INTERVAL) for block in BLOCKS]):
+            cells = []
+            for words in calls:
+                our, their = [counted([program, whose, *words])[0] for whose in ("ours", "theirs")]
+                cells += [f"{our / samples:.0f}", f"{their / samples:.0f}", f"{our / their:.2f}"]
+            print(f"| {name} | {block} | {' | '.join(cells)} |", flush=True)
+
+
+def seconds(program, raw):
+    """Prints the speeds of ours and libaec's seconds divided by ours, then the geometric means of these ratios over MEAN."""
+    print("| Input | J, r | coding, MiB/s | times as fast | decoding, MiB/s | times as fast |")
+    print("|---|---|---|---|---|---|")
+    ratios = {setting: ([], []) for setting in SETTINGS}
+    for name, options, made in INPUTS:
+        with open(raw, "wb") as file:
+            file.write(made(random.Random(1)) * SIZE)
+        for block, interval, calls in measurements(raw, SIZE * MIB, options, SETTINGS):
+            cells = []
+            for way, words in enumerate(calls):
+                ran = subprocess.run([program, "both", *words, str(RUNS)], capture_output=True, text=True, check=True)
+                our, their = map(float, ran.stdout.split())
+                ratios[block, interval][way].extend([their / our] * (name in MEAN))
+                cells += [f"{SIZE / our:.0f}", f"{their / our:.2f}"]
+            print(f"| {name} | {block}, {interval} | {' | '.join(cells)} |", flush=True)
+    print("\n| J, r | coding, times as fast | decoding, times as fast |\n|---|---|---|")
+    for (block, interval), ways in ratios.items():
+        print(f"| {block}, {interval} | {' | '.join(f'{geometric_mean(way):.2f}' for way in ways)} |")
+
+
+def main():
     with tempfile.TemporaryDirectory() as folder:
         program, raw = built(folder, sys.argv[1]), os.path.join(folder, "raw")
-        for name, options, made in INPUTS:
-            with open(raw, "wb") as file:
-                file.write(made(random.Random(1)))
-            bits, samples = options[1], MIB // STORAGE[int(options[1])]
-            for block in BLOCKS:
-                numbers = [bits, str(int("-s" in options)), str(block), str(INTERVAL)]
-                coded = stream_of_theirs(options, raw, ["-j", str(block), "-r", str(INTERVAL)])
-                cells = []
-                for call, source, most in (("encode", raw, 2 * MIB), ("decode", coded, MIB)):
-                    our, their = [counted([program, whose, call, *numbers, source, str(most)])[0] for whose in ("ours", "theirs")]
-                    cells += [f"{our / samples:.0f}", f"{their / samples:.0f}", f"{our / their:.2f}"]
-                print(f"| {name} | {block} | {' | '.join(cells)} |", flush=True)
+        (seconds if "--seconds" in sys.argv[2:] else instructions)(program, raw)
 
 
 if __name__ == "__main__":
