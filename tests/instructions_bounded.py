@@ -8,7 +8,10 @@ same in every run, so a higher one means that the program does more, or that the
 Counts too, with `--tool=cachegrind`, the mispredicted branches a block in coding, without those of the program's start, in valgrind's
 model of a processor. Fails if there are more than 10 % above MISPREDICTED: a test of a sample became a branch.
 
-`--measure` prints new rows of both tables, for a change that takes fewer, or more for a good reason.
+Counts how many times as many instructions a script of overwrites takes as an empty script. Fails if there are more than 10 % above
+EDITED: overwrites are applied one by one where that takes longer than all together, or the other way round.
+
+`--measure` prints new rows of the tables, for a change that takes fewer, or more for a good reason.
 
 Prints the counts that fail and, last, how many checks passed. Ends with status 1 if one failed. Without valgrind all checks are skipped,
 with status 0; if the variable CI is set, that is a failure.
@@ -17,6 +20,7 @@ with status 0; if the variable CI is set, that is a failure.
 import os
 import random
 import shutil
+import subprocess
 import sys
 import tempfile
 from concurrent.futures import ThreadPoolExecutor
@@ -30,6 +34,7 @@ from instructions import STORAGE, counted, mispredicted
 SAMPLES = 200_000
 MOST_ABOVE = 1.03
 MOST_MISPREDICTED_ABOVE = 1.1
+MOST_EDITED_ABOVE = 1.1
 SEED = 1
 
 
@@ -86,6 +91,13 @@ MISPREDICTED = {
     ("detector", 8, 2): 0.53,
 }
 
+# J, r, and the number of overwrites at scattered places of the detector's samples, in ascending order; and how many times as many
+# instructions the proved program took as with an empty script.
+EDITED = {
+    (8, 2, 1_000): 1.0,
+    (64, 64, 1_000): 3.0,
+}
+
 
 def prepared(cell, folder):
     """Writes the samples of a cell to a file. Returns the options of its jobs, and the path."""
@@ -116,20 +128,38 @@ def mispredicted_of(path, cell):
     return more * cell[1] / SAMPLES
 
 
+def edited_of(path, cell):
+    """Returns how many times as many instructions the overwrites of a cell take as an empty script."""
+    block_size, interval, lines = cell
+    places = sorted(random.Random(SEED).sample(range(SAMPLES), lines))
+    with tempfile.TemporaryDirectory() as folder:
+        options, raw = prepared(("detector", block_size, interval), folder)
+        coded, script, edited = (os.path.join(folder, name) for name in ("coded", "script", "edited"))
+        subprocess.run([path, *options, raw, coded], check=True)
+        counts = []
+        for text in ("".join(f"overwrite {place} 7\n" for place in places), ""):
+            with open(script, "w", encoding="ascii") as file:
+                file.write(text)
+            counts.append(counted([path, "--edit", script, *options, "--count", str(SAMPLES), coded, edited]))
+    return counts[0] / counts[1]
+
+
 def on_each(cells, count, path):
     """Returns the counts of each cell, made on all cores at once."""
     with ThreadPoolExecutor(os.cpu_count() or 1) as pool:
         return dict(zip(cells, pool.map(lambda cell: count(path, cell), cells)))
 
 
-def print_measured(instructions, branches):
+def print_measured(instructions, branches, edits):
     for (kind, block_size, interval), (coding, decoding) in instructions.items():
         print(f'    ("{kind}", {block_size}, {interval}): ({coding:.1f}, {decoding:.1f}),')
     for (kind, block_size, interval), count in branches.items():
         print(f'    ("{kind}", {block_size}, {interval}): {count:.2f},')
+    for (block_size, interval, lines), times in edits.items():
+        print(f"    ({block_size}, {interval}, {lines:_}): {times:.2f},")
 
 
-def compare(instructions, branches):
+def compare(instructions, branches, edits):
     tally = Tally()
     for (kind, block_size, interval), counts in instructions.items():
         for job, count, measured in zip(("coding", "decoding"), counts, MEASURED[kind, block_size, interval]):
@@ -144,6 +174,13 @@ def compare(instructions, branches):
         tally.holds(
             count <= measured * MOST_MISPREDICTED_ABOVE,
             f"{what} mispredicts {count:.2f} branches a block; {measured:.2f} were measured, and 10 % more are allowed",
+        )
+    for (block_size, interval, lines), times in edits.items():
+        measured = EDITED[block_size, interval, lines]
+        tally.holds(
+            times <= measured * MOST_EDITED_ABOVE,
+            f"{lines} overwrites with J {block_size}, r {interval} take {times:.2f} times the instructions of an empty script;"
+            f" {measured:.2f} were measured, and 10 % more are allowed",
         )
     return tally
 
@@ -162,10 +199,11 @@ def main():
     path = os.path.abspath(sys.argv[1])
     instructions = on_each(MEASURED, instructions_of, path)
     branches = on_each(MISPREDICTED, mispredicted_of, path)
+    edits = on_each(EDITED, edited_of, path)
     if "--measure" in sys.argv[2:]:
-        print_measured(instructions, branches)
+        print_measured(instructions, branches, edits)
         return 0
-    tally = compare(instructions, branches)
+    tally = compare(instructions, branches, edits)
     tally.print()
     return 1 if tally.failed else 0
 

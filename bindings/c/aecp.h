@@ -149,11 +149,11 @@ typedef struct {
 /* Applies a script of edits, as docs/COMMAND.md describes it, to the first `count` samples of a stream, or to all with AECP_ALL, and
  * writes the edited stream to `out`. All lines apply, or none. Returns `reply->reply.fault`. Faults, in this order: options; SCRIPT; those
  * of aecp_decode except NO_ROOM; those of one edit, with its line: OUT_OF_RANGE, TOO_MANY_SAMPLES, SAMPLE_RANGE, SPENT; NO_ROOM. Instead
- * of these, except options, MEMORY may be returned, with a line only if the edit there was applied alone. Edits after the
- * overwrites at the start of the script are applied together, if they are on eight lines or more. Allocates at most the sum of: six times the longer of both streams;
- * twice the script; 40 bytes for each 12 bytes of the script, up to 640 KiB; 24 bytes for each byte of the script, up to 6 MiB; eight
- * bytes for each sample of four intervals; 32 bytes for each interval; 16 for each value of the longest line. Trap: keep `samples` with
- * the edited stream. With AECP_ALL the filler of the last block becomes samples. */
+ * of these, except options, MEMORY may be returned, with a line only if the edit there was applied alone. Many edits are applied together
+ * (docs/SPEED.md says which). Allocates at most the sum of: six times the longer of both streams; twice the script; 40 bytes for each 12
+ * bytes of the script, up to 640 KiB; 24 bytes for each byte of the script, up to 6 MiB; eight bytes for each sample of four intervals; 32
+ * bytes for each interval; 16 for each value of the longest line. Trap: keep `samples` with the edited stream. With AECP_ALL the filler of
+ * the last block becomes samples. */
 uint32_t aecp_edit(const aecp_options *options, uint64_t count, const void *script, size_t script_len, const uint8_t *coded,
                    size_t coded_len, uint8_t *out, size_t out_len, aecp_edit_reply *reply);
 

@@ -14,7 +14,7 @@ use Rattle.aec_engine.specs.Planning.{planned_in}
 abbrev pub text_ahead : EditsAhead → Option Text
 text_ahead ahead = option_map (λ text. text.now) ahead.rest
 
--- the listing of the planned overwrites, and of its lines
+-- the listing of what comes after the next edit: planned overwrites, then the lines of the text
 abbrev pub behind : EditsAhead → Listing
 behind ahead = planned_in (drop ahead.taken ahead.window.now)
     (listing_from (ahead.lines_read + 1) (lines_left (text_ahead ahead)))

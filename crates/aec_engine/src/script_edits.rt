@@ -49,7 +49,7 @@ pub(crate) fn judge_script(bytes: &[u8]) -> Result<(), Fault>
 /// MiB at most, besides the values of one line.
 const MAX_BYTES_AT_ONCE: usize = 1 << 18;
 
-/// Edits on fewer lines than this are applied one by one.
+/// Edits on fewer lines than this, each with its line feed, are applied one by one.
 const MIN_LINES_AT_ONCE: usize = 8;
 
 /// An edit of a script and the number of its line.
@@ -60,8 +60,9 @@ pub(crate) struct NextEdit {
 }
 
 /// What is left of a script: its next edit, the planned overwrites and how many of them were read,
-/// how many lines of the text were read, and the text after these lines. Besides its text and its
-/// plan, only the values of one line are kept.
+/// how many lines of the text were read, and the text after these lines; and whether edits are
+/// applied while the samples are loaded. Besides its text and its plan, only the values of one line
+/// are kept.
 #[derive(Drop)]
 pub(crate) struct EditsAhead<'p, 'a> {
     pub(crate) next: Option<NextEdit>,
@@ -69,14 +70,16 @@ pub(crate) struct EditsAhead<'p, 'a> {
     taken: usize,
     lines_read: u64,
     rest: Option<&'a [u8]>,
+    pub(crate) is_early: bool,
 }
 
 impl<'p, 'a> EditsAhead<'p, 'a> {
-    /// Begins with all edits of a script ahead.
+    /// Begins with all edits of a script ahead, as its plan has them.
     pub(crate) fn new(alloc: Global, plan: &'p Plan<'a>) -> Result<EditsAhead<'p, 'a>, Fault>
         requires sound { (listing_in plan.now).bad ≡ None }
         requires few { plan.now.lines_read + text_left (text_behind plan.now) ≤ 2 ^ 63 }
         ensures all { IfOk result (λ ahead. left_in ahead ≡ listing_in plan.now) }
+        ensures early { IfOk result (λ ahead. ahead.is_early ≡ plan.now.is_early) }
         ensures ahead { IfOk result (λ ahead. AreAhead ahead) }
         ensures fault { IfErr result (λ e. e ≡ Memory) }
     {
@@ -86,6 +89,7 @@ impl<'p, 'a> EditsAhead<'p, 'a> {
             taken: 0,
             lines_read: plan.lines_read,
             rest: plan.rest,
+            is_early: plan.is_early,
         };
         ahead.advance(alloc)?;
         Ok(ahead)
@@ -98,6 +102,7 @@ impl<'p, 'a> EditsAhead<'p, 'a> {
             (λ cut. behind self.old ≡ listed cut.0 (meaning_of cut.1.now) (behind self.new)) }
         ensures done { result ≡ None → self.new ≡ self.old }
         ensures next { self.new.next ≡ self.old.next }
+        ensures early { self.new.is_early ≡ self.old.is_early }
         ensures known { AreKnown self.new }
         ensures shorter { IfSome result (λ _. unread self.new < unread self.old) }
     {
@@ -116,6 +121,7 @@ impl<'p, 'a> EditsAhead<'p, 'a> {
     pub(crate) fn advance(&mut self, alloc: Global) -> Result<(), Fault>
         requires known { AreKnown self.old }
         ensures ok { IfOk result (λ _. left_in self.new ≡ behind self.old) }
+        ensures early { self.new.is_early ≡ self.old.is_early }
         ensures ahead { IfOk result (λ _. AreAhead self.new) }
         ensures fault { IfErr result (λ e. e ≡ Memory) }
     {
@@ -129,7 +135,8 @@ impl<'p, 'a> EditsAhead<'p, 'a> {
         Ok(())
     }
 
-    /// Returns whether the text that isn't read yet has only a few lines.
+    /// Returns whether the text that isn't read yet has too few line feeds for edits to be applied
+    /// many at a time.
     pub(crate) fn are_few(&self) -> bool {
         let text = self.rest.unwrap_or(&[]);
         let ends = text.iter().filter(|byte| **byte == b'\n');

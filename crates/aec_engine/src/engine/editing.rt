@@ -115,8 +115,8 @@ fn carry_ahead<C: Codec>(
     Ok(workspace.calls())
 }
 
-/// A workspace with the samples that a script leaves, and how many calls of the codec these samples
-/// need: those of loading, and those of each edit by itself.
+/// A workspace with the samples that a script leaves, and how many calls of the codec it takes to
+/// load the samples and to apply the edits one after the other.
 #[derive(Drop)]
 struct Carried<C: Codec + Drop> {
     workspace: Workspace<C>,
@@ -198,7 +198,7 @@ fn edit_bits<C: Codec + Drop>(
     let params = terms.params;
     let (mut reader, judged) = judged_reader(alloc, &params, terms.limits, terms.count, bits)?;
     let room = Room::of(&params, judged);
-    let plan = plan_script(alloc, &params, judged.total, script)?;
+    let plan = plan_script(alloc, &params, judged.total, script, terms.at_once)?;
     let workspace = roomy_workspace(alloc, codec, terms.limits, room)?;
     edit_planned(alloc, &params, &mut reader, workspace, &plan, terms.at_once)
 }
@@ -214,8 +214,8 @@ fn deliver_code<C: Codec, W: Sink>(workspace: &Workspace<C>, sink: &mut W) -> Re
     workspace.write_to(sink)
 }
 
-/// Does what `edit` does, and returns the workspace whose stream it wrote, and the number of calls
-/// that its samples need.
+/// Does what `edit` does, and returns the workspace whose stream it wrote, and how many calls of
+/// the codec it takes to load the samples and to apply the edits one after the other.
 fn edit_with<C: Codec + Drop, Q: Source, R: Source, W: Sink>(
     alloc: Global,
     codec: C,
@@ -325,19 +325,24 @@ pub fn edit_at_once<C: Codec + Drop, Q: Source, R: Source, W: Sink>(
     }
 }
 
-// bare: it only calls `edit_at_once`, which has edits
+// bare: it only calls `edit_at_once`, which has must-fail edits
 /// Reads a script whole, then the source, applies the edits of the script to the samples that the
 /// source codes (the first `count`, or all without a count), and writes the bytes of the code of
 /// the samples that the edits leave.
 ///
-/// The refusals in their order: `Read`, `StreamTooLong` and `Memory` as they are met while the
-/// script is read, then `Script` (up to here nothing is taken from the source); those of `decode`;
-/// `Memory`, also if there is no room to read a line again before its edit is applied. The run ends
-/// at the first edit that is refused for its place, the limit, its values or lack of calls, and the
-/// fault names its line. Edits may be applied in another order than the script's, or many at a
-/// time. If one that is applied alone fails with `Memory`, the fault names its line. All other
-/// faults name no line. On these refusals nothing is written and `begin` isn't called. After
-/// `begin` it fails only with `Write`, with a prefix of the bytes written.
+/// The refusals in their order:
+///
+/// - `Read`, `StreamTooLong` and `Memory`, as they are met while the script is read; then `Script`.
+///   Up to here nothing is taken from the source.
+/// - Those of `decode`.
+/// - `Memory`, also if there is no room to read a line again before its edit is applied.
+/// - That of the first edit that is refused for its place, the limit, its values or lack of calls;
+///   the fault names its line.
+/// - `Write`, after `begin`; then a prefix of the bytes is written. On all other refusals nothing
+///   is written and `begin` isn't called.
+///
+/// Edits may be applied in another order than the script's, or many at a time. If one that is
+/// applied alone fails with `Memory`, the fault names its line. All other faults name no line.
 pub fn edit<Q: Source, R: Source, W: Sink>(
     alloc: Global,
     params: &Params,

@@ -88,7 +88,7 @@ fn is_inside(edit: &Edit, count: u64) -> bool
 }
 
 /// Applies the edits of a script that overwrite samples already loaded, up to the first other edit,
-/// and leaves the others ahead.
+/// and leaves the others ahead. Applies none if edits aren't applied early.
 ///
 /// These edits have the same result, whatever samples are loaded after them. If an edit is refused,
 /// the fault names its line. Fails with plain `Memory` if the allocation for the values of the next
@@ -103,14 +103,18 @@ fn carry_early<C: Codec>(
     ensures ok { IfOk result (λ _. CarriesEarly (C.format workspace.old.codec) workspace.old.limit
         (left_in ahead.old) workspace.old.samples (C.called workspace.old.codec)
         (left_in ahead.new) workspace.new.samples (C.called workspace.new.codec)) }
-    ensures stops { IfOk result (λ _. StopsAt ahead.new (length workspace.new.samples)
-        (C.called workspace.new.codec)) }
+    ensures stops { IfOk result (λ _. ahead.old.is_early ≡ true
+        → StopsAt ahead.new (length workspace.new.samples) (C.called workspace.new.codec)) }
+    ensures none { ahead.old.is_early ≡ false → workspace.new.samples ≡ workspace.old.samples }
     ensures ahead { IfOk result (λ _. AreAhead ahead.new) }
     ensures refuses { IfErr result (λ fault. (fault ≡ Plain Memory)
         ⊎ StopsEarly (C.format workspace.old.codec) workspace.old.limit (left_in ahead.old)
         workspace.old.samples fault) }
     ensures rules { KeepsRules C.format workspace.old workspace.new }
 {
+    if !ahead.is_early {
+        return Ok(());
+    }
     while let Some(next) = &ahead.next {
         if workspace.calls() >= MAX_EARLY_CALLS || !is_inside(&next.edit, workspace.count()) {
             return Ok(());
