@@ -94,8 +94,8 @@ MISPREDICTED = {
 # J, r, and the number of overwrites at scattered places of the detector's samples, in ascending order; and how many times as many
 # instructions the proved program took as with an empty script.
 EDITED = {
-    (8, 2, 1_000): 1.0,
-    (64, 64, 1_000): 3.0,
+    (8, 2, 1_000): 1.20,
+    (64, 64, 1_000): 2.33,
 }
 
 
