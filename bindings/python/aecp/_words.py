@@ -24,7 +24,7 @@ VERBS = {
         "aecp keep data -n 16 --to /mnt/disk       the same, as /mnt/disk/data/..\n"
         "aecp keep scan.fits cube.npy              bits, sign, byte order, shape from headers\n"
         "aecp keep scan.raw --repair               scan.raw.aec is damaged: writes it anew\n"
-        "aecp keep data --to /mnt/disk --repair    the same below /mnt/disk/data: give PATH again",
+        "aecp keep data --to /mnt/disk --repair    kept with --to: give the same PATH and DIR",
     ),
     "back": (
         "restores originals",
