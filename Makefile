@@ -246,10 +246,14 @@ dist: ## packs what levels has built, in dist/
 test-packages: ## installs and tries the packages of dist in empty roots
 	$(PYTHON) tests/packages.py
 
-# With `make contracts WORD..` the words are no targets. This is last, so that it holds for words that name targets, too.
+# With `make contracts WORD..` the words are no targets. This is last, so that it holds for words that name targets, too. A word with a
+# colon, such as Params::new, can't begin a rule, so `.DEFAULT` takes it.
 ifeq (contracts,$(firstword $(MAKECMDGOALS)))
 WORDS := $(wordlist 2,$(words $(MAKECMDGOALS)),$(MAKECMDGOALS))
-.PHONY: $(WORDS)
-$(WORDS):
+PLAIN_WORDS := $(foreach word,$(WORDS),$(if $(findstring :,$(word)),,$(word)))
+.PHONY: $(PLAIN_WORDS)
+$(PLAIN_WORDS):
+	@:
+.DEFAULT:
 	@:
 endif

@@ -153,7 +153,7 @@ def usage_of(doc, action, name):
 
 def found_value(doc, name):
     """Returns what `doc` calls the value of an option."""
-    found = re.search(rf"--{name} ([A-Z]+)", doc)
+    found = re.search(rf"--{name} ([A-Z,]+)", doc)
     return found[1] if found else name[0].upper()
 
 

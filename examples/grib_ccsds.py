@@ -20,15 +20,18 @@ FILE begins with a GRIB2 message. Places count from 0, without the points that a
 `--message N` takes message N of FILE, counted from 1, instead of the first. The other messages stay
 as they are.
 
+`--at LAT,LON` prints only the value at the point that is nearest to this latitude and longitude.
+
 TABLE names its columns in its first line, separated by blanks, tabs or commas: `value`, and
 `place`, or `row` and `column`, or `latitude` and `longitude`. Rows and columns count from 0, as the
 message stores them. If there is a place, the other columns are ignored, so the table that `values`
 prints is a TABLE. Lines that begin with # are skipped. If a line is wrong, no file is written. The
 TABLE - is standard input. A latitude and a longitude select the nearest point, and `set` prints
-which point that is. A point that is farther than one step of the grid is refused: farther than the
-largest distance between the nearest point and those next to it.
+which point that is.
 
-`--within DEGREES` sets another limit for the distance to the nearest point.
+`--within DEGREES` sets another limit for the distance to the nearest point. Without it, a point
+that is farther than one step of the grid is refused: farther than the largest distance between the
+nearest point and those next to it.
 
 SCRIPT has the edits that `aec --edit` takes.
 
@@ -50,7 +53,7 @@ from aec_runs import (
 )
 from grib_grid import grid_of
 from grib_messages import coding_of, message_of, packing_of, with_stream
-from grib_tables import Change, changes_of, value_of
+from grib_tables import Change, changes_of, nearest_point, value_of
 
 
 def judge_fit(coding, aec, stream):
@@ -123,11 +126,16 @@ def options(file, *, message="1"):
     print(" ".join(coding_of(message_of(file, message)).counted_words()))
 
 
-def values(aec, file, part=None, *, message="1"):
-    """Prints a table of the values of FIRST:LEN, or of all."""
+def values(aec, file, part=None, *, message="1", at=None, within=None):
+    """Prints a table of the values of FIRST:LEN, of the point nearest to `at`, or of all."""
+    if part is not None and at is not None:
+        raise WrongWords("FIRST:LEN and --at exclude each other")
+    limit = None if within is None else degrees_of(within)
     read = message_of(file, message)
     packing, count = packing_of(read), coding_of(read).count
     first, length = (0, count) if part is None else part_of(part)
+    if at is not None:
+        first, length = place_at(grid_of(read, count), at, limit), 1
     numbers = numbers_of(read, stored_in(read, aec, first, length))
     points = known_points(read, count)
     print("place value" if points is None else "place latitude longitude value")
@@ -142,6 +150,14 @@ def part_of(part):
     if not colon:
         raise WrongWords(f"{part} is no FIRST:LEN")
     return whole_number(first, "place"), whole_number(length, "number of values")
+
+
+def place_at(grid, at, within):
+    """Returns the place of the point that is nearest to the text LAT,LON."""
+    latitude, comma, longitude = at.partition(",")
+    if not comma:
+        raise WrongWords(f"{at} is no LAT,LON")
+    return nearest_point(grid, latitude, longitude, within)[0]
 
 
 def known_points(read, count):

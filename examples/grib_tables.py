@@ -85,11 +85,17 @@ def place_in(row, count, grid, within):
         numbers = (whole_number(row[it], it) for it in ("row", "column"))
         place = grid.place_in_row(*numbers)
     else:
-        degrees = (value_of(row[it], Refused) for it in ("latitude", "longitude"))
-        latitude, longitude = map(float, degrees)
-        if not -90 <= latitude <= 90 or not -360 <= longitude <= 360:
-            raise Refused(f"{row['latitude']} {row['longitude']} is no place of the earth")
-        place, point = grid.nearest(latitude, longitude, within)
+        place, point = nearest_point(grid, row["latitude"], row["longitude"], within)
     if place >= count:
         raise Refused(f"position outside the {count} samples")
     return place, point
+
+
+def nearest_point(grid, latitude, longitude, within=None):
+    """Returns the place of the point of a grid that is nearest to a latitude and a longitude, which
+    are texts, and the point. Refuses a point that is farther than `within` degrees, or than a step
+    of the grid."""
+    north, east = (float(value_of(it, Refused)) for it in (latitude, longitude))
+    if not -90 <= north <= 90 or not -360 <= east <= 360:
+        raise Refused(f"{latitude} {longitude} is no place of the earth")
+    return grid.nearest(north, east, within)

@@ -174,6 +174,7 @@ def try_values(what, read, data, chance, aec, tally):
     there = [(float(it[1]), float(it[2])) for it in lines if len(it) == 4]
     is_so = there == [read.where[i] for i in places[first : first + length]]
     tally.holds(is_so, f"{what}: latitudes and longitudes: {there[:3]}")
+    try_at(what, read, first, (aec.path, source), more, tally)
 
     least, most = read.value(0), read.value((1 << read.bits) - 1)
     step = read.value(1) - least
@@ -191,6 +192,20 @@ def try_values(what, read, data, chance, aec, tally):
         answer = called(grib_ccsds.put_values, aec.path, source, "0", repr(value), out, **more)
         is_so = answer[0] == 1 and "doesn't fit the packing" in answer[1]
         tally.holds(is_so, f"{what}: set {value}: {answer}")
+
+
+def try_at(what, read, place, paths, more, tally):
+    """Tests `values --at` at the point of a place, which must print the line of this place, far from
+    all points, and with other wrong words."""
+    at = "{},{}".format(*read.where[read.places()[place]])
+    wanted = called(grib_ccsds.values, *paths, f"{place}:1", **more)
+    tally.check(f"{what}: --at {at}", called(grib_ccsds.values, *paths, at=at, **more), wanted)
+    tally.holds(wanted[0] == 0 and f"\n{place} " in wanted[1], f"{what}: one value: {wanted}")
+    answer = called(grib_ccsds.values, *paths, at="-80,200", **more)
+    tally.holds(answer[0] == 1 and "degrees away" in answer[1], f"{what}: --at far away: {answer}")
+    for words, named in ((("0:1",), {"at": at}), ((), {"at": "48.2"}), ((), {"at": at, "within": "-1"})):
+        answer = called(grib_ccsds.values, *paths, *words, **named, **more)
+        tally.check(f"{what}: {words} {named}: {answer[1]}", answer[0], 2)
 
 
 def try_table(what, read, data, chance, aec, tally):

@@ -110,6 +110,29 @@ def test_repair_refuses(place: str, how: str) -> None:
     assert tree(place) == before
 
 
+def test_repair_keeps_nothing(place: str) -> None:
+    """A file without a kept file is refused, also where --to is given and a named file has only its last name below DIR."""
+    os.mkdir(os.path.join(place, "data"))
+    write(place, os.path.join("data", "a"), USUAL.stored(walk(1, 3000)))
+    words = [*words_of(USUAL), "--anyway", "--jobs", "1"]
+    done(place, "keep", "data", *words, "--to", "disk")
+    path = os.path.join(place, "disk", "data", "a.aec")
+    flip(path, 4000)
+    before = tree(place)
+    disk, other = (os.path.join(place, *names) for names in (("disk", "a.aec"), ("other", "data", "a.aec")))
+    for more, name in (
+        (["data/a", "--to", "disk"], disk),
+        (["data/a"], "data/a.aec"),
+        (["data"], "data/a.aec"),
+        (["data", "--to", "other"], other),
+    ):
+        ran = refused(place, "keep", *more, *words, "--repair")
+        assert f"aecp: data/a: there is no kept file {name} to repair" in ran.err and "1 refused" in ran.out, ran
+    assert tree(place) == before, "no file and no folder is made"
+    assert "1 repaired" in done(place, "keep", "data", "--to", "disk", "--repair").out
+    assert samples_at(path) == walk(1, 3000)
+
+
 def test_damage_is_not_counted_as_kept(place: str) -> None:
     """With the original at hand, `keep` of a folder doesn't call a file kept whose end is gone."""
     path = keep(place, "a", walk(1, 3000))

@@ -167,7 +167,7 @@ def try_words(aec, script, tally):
         (["edit", aec.path, "script", "m", "m"], 1, "m is read, so it can't be written too"),
         (["edit", aec.path, "m", "m"], 2, "edit takes the words AEC SCRIPT FILE OUT [--message N]; see --help"),
         (["options"], 2, "options takes the words FILE [--message N]; see --help"),
-        (["values"], 2, "values takes the words AEC FILE [FIRST:LEN] [--message N]; see --help"),
+        (["values"], 2, "values takes the words AEC FILE [FIRST:LEN] [--message N] [--at LAT,LON] [--within DEGREES]; see --help"),
         ([], 2, "the first word must be one of options, values, set, take, put, edit"),
         (["change", "m"], 2, "the first word must be one of options, values, set, take, put, edit"),
         (["options", "none"], 1, "none: No such file or directory"),
@@ -179,6 +179,10 @@ def try_words(aec, script, tally):
         (["values", aec.path, "m", "3"], 2, "3 is no FIRST:LEN"),
         (["values", aec.path, "m", "3:-1"], 2, "-1 is no number of values"),
         (["values", aec.path, "m", "7:2"], 1, "aec: position outside the 8 samples"),
+        (["values", aec.path, "m", "0:1", "--at", "48.2,16.4"], 2, "FIRST:LEN and --at exclude each other"),
+        (["values", aec.path, "m", "--at", "48.2"], 2, "48.2 is no LAT,LON"),
+        (["values", aec.path, "m", "--at=48.2,x"], 1, "x is no value"),
+        (["values", aec.path, "m", "--at", "-48.2,16.4"], 1, "where the points lie isn't known for this grid"),
         (["set", aec.path, "m", "o"], 2, "set takes the words AEC FILE TABLE OUT, or AEC FILE PLACE VALUE OUT [--"),
         (["set", aec.path, "m", "o"], 2, "OUT [--message N] [--within DEGREES]; see --help"),
         (["set", aec.path, "m", "t", "o", "--within", "x"], 2, "x is no value"),
@@ -291,6 +295,18 @@ def try_tables(aec, tally):
     )))
     answer = called(grib_ccsds.values, aec.path, aec.file("m"))
     tally.check("values with a bitmap", answer, (0, f"place latitude longitude value\n{wanted}"))
+    for at, within, place, text in (
+        ("49,-336", None, 2, ""),
+        ("39.9,19.9", "0.2", 5, ""),
+        ("50,15", None, None, "the bitmap says that this point has no value"),
+        ("60.1,10", None, None, far),
+        ("60.1,10", "10.2", 0, ""),
+        ("91,0", None, None, "91 0 is no place of the earth"),
+    ):
+        answer = called(grib_ccsds.values, aec.path, aec.file("m"), at=at, within=within)
+        line = "" if place is None else f"{wanted.splitlines()[place]}\n"
+        is_so = answer == (0, f"place latitude longitude value\n{line}") if line else answer[0] == 1 and text in answer[1]
+        tally.holds(is_so, f"values --at {at} --within {within}: {answer}")
 
 
 def try_several(aec, script, tally):

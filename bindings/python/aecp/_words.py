@@ -23,7 +23,8 @@ VERBS = {
         "aecp keep data -n 16                      every file in the folder data\n"
         "aecp keep data -n 16 --to /mnt/disk       the same, as /mnt/disk/data/..\n"
         "aecp keep scan.fits cube.npy              bits, sign, byte order, shape from headers\n"
-        "aecp keep scan.raw --repair               scan.raw.aec is damaged: writes it anew",
+        "aecp keep scan.raw --repair               scan.raw.aec is damaged: writes it anew\n"
+        "aecp keep data --to /mnt/disk --repair    kept with --to: give the same PATH and DIR",
     ),
     "back": (
         "restores originals",
@@ -50,7 +51,8 @@ VERBS = {
         "applies a script or a table of pixels",
         "Applies SCRIPT to each kept file. All lines apply, or none. SCRIPT is the argument that\n"
         "doesn't end in .aec. A table has a name ending in .csv or .tsv, and columns such as row,\n"
-        "column, value.",
+        "column, value. Frames, rows, columns and places count from 0: subtract 1 from those of\n"
+        "ds9 and FITS. A column named x means column, y means row.",
         "echo 'overwrite 20 1 2 3' | aecp edit scan.raw.aec -\n"
         "aecp edit data/*.aec bad_pixels.csv",
     ),
@@ -202,7 +204,8 @@ def add_keep(keep: Parser) -> None:
     )
     after.add_argument(
         "--repair", action="store_true",
-        help="write a damaged FILE.aec anew, if the file's checksum is recorded in it",
+        help="write a damaged FILE.aec anew, if the file's checksum is recorded in it; "
+        "keep no file that has no FILE.aec",
     )
     after.add_argument(
         "--remove", action="store_true",

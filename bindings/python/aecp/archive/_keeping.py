@@ -20,7 +20,7 @@ from aecp.archive._history import Entry, keep_entry
 from aecp.archive._originals import Reading, original, read_all, same, sha256_of
 from aecp.archive._outcomes import Outcome, damage_named, shape_text, words_of
 from aecp.archive._pairs import converted, note_at
-from aecp.archive._paths import STREAM, Found, place_below
+from aecp.archive._paths import Found, made_target, require_kept
 from aecp.archive._stored import Scripted
 from aecp.archive._whole import judge, sides, sound_pieces
 from aecp.archive._writer import Writer
@@ -64,8 +64,11 @@ class Plan:
 
 
 def keep(how: Keeping, found: Found) -> Outcome:
-    """Keeps a file, or returns why it can't. Raises what reading and writing raise."""
-    target = target_of(how, found)
+    """Keeps a file, or returns why it can't. Raises what reading and writing raise; with `repair`,
+    Refused for a file that isn't kept."""
+    if how.repair:
+        require_kept(found, how.to)
+    target = made_target(found, how.to)
     clean(os.path.dirname(target) or ".")
     text = _saving.remove_empty(target)
     if not os.path.lexists(target):
@@ -88,13 +91,6 @@ def keep_new(how: Keeping, found: Found, target: str) -> Outcome:
             return Outcome("passed", why)
         outcome = coded(how, plan, file, before, target)
         return removed(found.path, file, before, outcome) if how.remove else outcome
-
-
-def target_of(how: Keeping, found: Found) -> str:
-    """Returns the path of FILE.aec for an original. Its folder is made."""
-    if how.to is None:
-        return found.path + STREAM
-    return place_below(how.to, found.below + STREAM)
 
 
 @functools.lru_cache(maxsize=256)

@@ -8,7 +8,7 @@ import os
 import re
 import stat
 from collections.abc import Iterable, Iterator
-from typing import NamedTuple
+from typing import NamedTuple, Optional
 
 from aecp.archive import _saving
 from aecp.archive._form import Refused, shown
@@ -195,6 +195,25 @@ def kept_in(folder: str, passed: list[Passed]) -> Iterator[Found]:
             yield file_of(entry.path, os.path.join(top, below), False)
         elif not os.path.lexists(kept_path(entry.path)):
             passed.append(Passed(entry.path, "a note without its stream", True))
+
+
+def target_path(found: Found, to: Optional[str]) -> str:
+    """Returns the path of FILE.aec for an original: beside it, or below the folder of --to."""
+    return found.path + STREAM if to is None else os.path.join(to, found.below + STREAM)
+
+
+def made_target(found: Found, to: Optional[str]) -> str:
+    """Returns the path of FILE.aec for an original. Its folder is made. Raises Refused, OSError."""
+    return target_path(found, to) if to is None else place_below(to, found.below + STREAM)
+
+
+def require_kept(found: Found, to: Optional[str]) -> None:
+    """Raises Refused if an original has no FILE.aec that can be repaired."""
+    path = target_path(found, to)
+    if not os.path.lexists(path):
+        name = found.name + STREAM if to is None else path
+        hint = "" if to is None else ": give the same PATH and DIR as when it was kept"
+        raise Refused(f"there is no kept file {shown(name)} to repair{hint}")
 
 
 def place_below(folder: str, below: str) -> str:

@@ -31,7 +31,15 @@ from aecp.archive._headers import layout_of
 from aecp.archive._headers import options_of as dtype_options
 from aecp.archive._originals import original
 from aecp.archive._outcomes import Outcome, Unchanged
-from aecp.archive._paths import STREAM, Found, Passed, kept_files, names_apart, originals
+from aecp.archive._paths import (
+    STREAM,
+    Found,
+    Passed,
+    kept_files,
+    names_apart,
+    originals,
+    target_path,
+)
 from aecp.archive._pool import Failed
 
 Verb = Callable[[argparse.Namespace, Console], int]
@@ -82,8 +90,7 @@ def lacks_bits(how: _keeping.Keeping, found: Found) -> bool:
     """Returns whether the bits of a file that isn't kept yet are neither given nor in a header."""
     if "bits" in how.given or how.dtype is not None or how.repair:
         return False
-    target = found.path if how.to is None else os.path.join(how.to, found.below)
-    if os.path.lexists(target + STREAM):
+    if os.path.lexists(target_path(found, how.to)):
         return False
     try:
         with original(found.path) as file:
