@@ -49,8 +49,8 @@ typedef struct {
     bool even_blocks;    /* see block_size; violates the standard (AEC_NOT_ENFORCE) */
 } aecp_options;
 
-/* Options to begin with: block_size 16, interval 128. Traps: the program `aec` has 8 and 2 without options; `preprocess` is false
- * in `aecp_options o = {0}`. */
+/* The default options: block_size 16, interval 128. Traps: the program `aec` has 8 and 2 without options; `preprocess` is false in
+ * `aecp_options o = {0}`. */
 #define AECP_OPTIONS(n) {AECP_UINT32(n), 16, 128, false, false, false, true, false, false, false}
 
 /* How a call ended. If `fault` is 0, `len` is the length of the result, in bytes unless the call says otherwise. If `fault` is

@@ -2,7 +2,7 @@
 //! has one caller. So such a function has a const parameter `COPY`, and each caller passes a number
 //! of its own, with the caller's name. A number changes no result. A new caller takes the next
 //! number: `checks/copies.py` fails if two numbers are equal, or if two calls of one function for
-//! one block size pass the same number.
+//! one block size pass the same number. A public number is listed in docs/SURFACE.md.
 
 /// In `reading::values`, for any number of values.
 pub(crate) const READ_SPLIT_APART: usize = 0;

@@ -45,7 +45,7 @@ edits_left-all f limit calls after s (e ∷ edits) (Done coded ∷ done) (n ∷ 
     ∙ (ap (λ k. edits_left f limit k (samples_after s e) edits lines) (sym then)
     ∙ edits_left-all f limit answers.0 after (samples_after s e) edits done lines made answers.2 (omega (arith, enough)))
 
--- what stops the edits after an edit that is made stops all edits
+-- if the edits after an applied edit stop, all edits stop in the same way
 stops-behind : (f : Format) (limit calls between : ℕ) (s : List ℤ) (e : Edit) (n : ℕ) (edits : List Edit) (lines : List ℕ) (why : EditFault)
     → due_refusal f limit s calls e ≡ None → between ≡ calls + needed_calls f.most (length s) e
     → StopsEditing f limit between (samples_after s e) edits lines why → StopsEditing f limit calls s (e ∷ edits) (n ∷ lines) why

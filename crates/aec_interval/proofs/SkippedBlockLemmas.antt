@@ -108,7 +108,7 @@ module _ (s : Settings) (place most n at : ℕ) (old mid new : Cursor) (allowed 
 
 -- ---- how many blocks need no test
 
--- n of u blocks that need none, from block i on
+-- n of u blocks that need no test, from block i on
 pub fewer_samples : (s : Settings) (count : Option ℕ) (limit i n u : ℕ) → n ≤ u → (0 < u → (i + u) * s.block_size ≤ unwrap_or count limit)
     → 0 < n → (i + n) * s.block_size ≤ unwrap_or count limit
 fewer_samples s count limit i n u few within some =

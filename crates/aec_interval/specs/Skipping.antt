@@ -1,6 +1,6 @@
 -- Skipping coded data sets without making their samples: what the private functions of
--- `reading::skipping` compute, what a `StreamReader` that skips an interval returns, and why there
--- are samples all the same.
+-- `reading::skipping` compute, what a `StreamReader` that skips an interval returns, and that
+-- skipped coded data sets stand for samples.
 use Rattle.std.specs.Prelude.{◌≡◌, ◌<◌, ◌+◌, ◌-◌, ◌*◌, ◌%◌, ℕ, min, Bool, Option, Some, None, ℤ, List, length}
 use Rattle.aec_params.specs.declared.settings.Settings.{Settings}
 use Rattle.aec_params.specs.declared.fault.Fault.{Fault}
@@ -11,7 +11,6 @@ use Rattle.aec_params.specs.Faults.{IsFault}
 use Rattle.aec_interval.specs.Pieces.{Place, place_at, ReadsPiece, ReadsInterval, ReadsIntervals}
 
 -- from block `first` at position `start` on, some coded data sets lead to block i at position b
--- (serves `StreamReader::skip`, as `asked_len` does)
 pub record IsLedTo (s : Settings) (count : Option ℕ) (limit : ℕ) (bits : List Bool) (first start i b : ℕ) : Type 0 where
   pub sets : List CodedDataSet
   pub leads : LeadsTo s count limit bits first start sets i b

@@ -112,8 +112,7 @@ fn write_known_intervals<const N: usize>(
     requires held { AllByRecursion (IsHeld params.now) samples.now }
     ensures { Writes (stream_of params.now samples.now) out.old.list result out.new.list }
 {
-    // A copy that no other call can see stays in registers. Calls that stay out of line are lent
-    // copies of this copy.
+    // A local copy stays in registers. Calls that stay out of line are lent copies of it.
     let own = *params;
     let interval = own.interval();
     let mut start = out.len();

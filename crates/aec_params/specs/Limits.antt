@@ -6,8 +6,9 @@ use Rattle.std.specs.Prelude.{ℕ, ◌≤◌, ◌*◌, ◌^◌}
 abbrev pub most_samples : ℕ
 most_samples = 2 ^ 32
 
--- the numbers of all blocks of a reading are below this: a block has at least one sample, and the
--- last coded data set may have blocks past the count, but fewer than an interval (twice would do)
+-- 2^34. The numbers of all blocks of a reading are below this: a block has at least one sample, and
+-- the last coded data set may have blocks past the count, but fewer than an interval. Twice
+-- `most_samples` would suffice
 abbrev pub most_blocks : ℕ
 most_blocks = 4 * most_samples
 

@@ -116,7 +116,7 @@ fn load_each<T: ByteOrder>(params: &Params, bytes: &[u8], width: usize, out: &mu
         out.new }
     ensures held { (d : ℤ) (k : ℕ) → k < length out.new → IsHeld params.now (get_or out.new k d) }
 {
-    // A copy that no other call can see stays in registers.
+    // A local copy stays in registers.
     let params = *params;
     for i in 0..out.len() {
         out[i] = loaded_sample(&params, first_number::<T>(&bytes[width * i..], width));

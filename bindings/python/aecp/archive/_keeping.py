@@ -71,6 +71,7 @@ def keep(how: Keeping, found: Found) -> Outcome:
     target = made_target(found, how.to)
     clean(os.path.dirname(target) or ".")
     text = _saving.remove_empty(target)
+    # The folder is made, and leftovers and an empty FILE.aec are removed, before keep decides.
     if not os.path.lexists(target):
         try:
             outcome = keep_new(how, found, target)

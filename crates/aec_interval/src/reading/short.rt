@@ -50,7 +50,7 @@ fn fill_intervals<const N: usize, const M: usize, const KIND: usize>(
     requires room { most * interval_len params.now ≤ length samples.old }
     ensures { FillsIntervals params.now most reader.old samples.old result reader.new samples.new }
 {
-    // A copy that no other call can see stays in registers.
+    // A local copy stays in registers.
     let own = *params;
     let len = own.interval_len() as usize;
     let mut values = [0u32; N];
@@ -170,7 +170,8 @@ fn untested_intervals(params: &Params, wanted: Wanted) -> u64
 }
 
 /// Returns how many intervals are read at a time: at most `most` samples, for which there is room.
-/// 0 if an interval has many blocks, or padding.
+/// 0 if an interval has many blocks, or padding. The clauses `short` and `room` repeat the numbers
+/// `MAX_SHORT_BLOCKS` and `MAX_SAMPLES_AT_ONCE`.
 fn intervals_at_once(params: &Params, wanted: Wanted, most: u64, capacity: usize) -> u64
     requires few { wanted.first < most_blocks }
     requires limit { wanted.limit ≤ most_samples }

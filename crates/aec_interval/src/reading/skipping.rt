@@ -1,4 +1,5 @@
-//! Skips coded data sets from the start of an interval, without making their samples.
+//! Skips coded data sets from the start of an interval, without making their samples. Their values
+//! may be read into a block `values`, which is scratch space.
 
 ghost use Rattle.std.specs.Prelude.{◌≡◌, ◌≤◌, ◌<◌, ◌+◌, ◌*◌, ◌%◌, true, false, unwrap_or, IfSome, IfOk, IfErr};
 ghost use Rattle.aec_params.specs.Params.{IsAllowed};
@@ -14,9 +15,8 @@ use aec_bits::BitReader;
 use aec_block::{Block, skip_cds, skip_single};
 use aec_params::{Fault, Params};
 
-/// Moves past the coded data set of a wanted block, at place `place` of its interval. It may be
-/// read into the block `values`. Returns the number of the next block. Fails as `read_next` does,
-/// but never with `Memory`. Allocates nothing.
+/// Moves past the coded data set of a wanted block, at place `place` of its interval. Returns the
+/// number of the next block. Fails as `read_next` does, but never with `Memory`. Allocates nothing.
 fn skip_next(
     params: &Params,
     wanted: Wanted,
@@ -48,8 +48,7 @@ fn skip_next(
 }
 
 /// Moves past the interval that begins at a wanted block, up to its end or as far as blocks are
-/// wanted. Each coded data set may be read into the block `values`. Returns the number of the next
-/// block. Allocates nothing.
+/// wanted. Returns the number of the next block. Allocates nothing.
 pub(crate) fn skip_interval(
     params: &Params,
     wanted: Wanted,
@@ -105,7 +104,7 @@ fn skip_singles(params: &Params, reader: &mut BitReader, place: u64, most: u64) 
     requires unpadded { 0 < most → params.now.pad ≡ false }
     ensures { SkipsBlocks params.now place most reader.old result reader.new }
 {
-    // A copy that no other call can see stays in registers.
+    // A local copy stays in registers.
     let own = *params;
     let interval = u64::from(own.interval());
     let mut at = place;
@@ -132,7 +131,7 @@ fn next_place(at: u64, interval: u64) -> u64
 
 /// Returns how many blocks from `block` on need no test of their place: their samples are within
 /// the count or the limit. 0 if intervals are padded.
-fn untested_blocks(params: &Params, wanted: Wanted, block: u64) -> u64
+fn untested_count(params: &Params, wanted: Wanted, block: u64) -> u64
     requires few { block < most_blocks }
     requires limit { wanted.limit ≤ most_samples }
     requires counted { IfSome wanted.count (λ count. count ≤ most_samples) }
@@ -170,7 +169,7 @@ fn skip_untested(
     ensures stays { result ≡ block → reader.new ≡ reader.old }
 {
     let place = block % u64::from(params.interval());
-    let untested = untested_blocks(params, wanted, block);
+    let untested = untested_count(params, wanted, block);
     block + skip_singles(params, reader, place, most.min(untested))
 }
 
@@ -182,17 +181,16 @@ fn ends_interval(params: &Params, first: u64, next: u64) -> bool
     first < next && next % u64::from(params.interval()) == 0
 }
 
-/// Returns how many blocks the interval of block `block` has left from there on: 0 if it begins at
-/// that block.
-fn blocks_to_end(params: &Params, block: u64) -> u64 {
+/// Returns how many blocks there are from block `block` on before one begins an interval: 0 if
+/// block `block` begins one.
+fn blocks_to_next_interval(params: &Params, block: u64) -> u64 {
     let interval = u64::from(params.interval());
     (interval - block % interval) % interval
 }
 
 /// Moves past the interval that begins at a wanted block, or past several whole ones: then past at
 /// most `most` samples. Stops before the end of an interval only where no more blocks are wanted.
-/// Each coded data set may be read into the block `values`. Returns the number of the next block.
-/// Allocates nothing.
+/// Returns the number of the next block. Allocates nothing.
 pub(crate) fn skip_intervals(
     params: &Params,
     wanted: Wanted,
@@ -228,6 +226,7 @@ pub(crate) fn skip_intervals(
         }
         let place = block % interval;
         let next = skip_next(params, wanted, reader, block, place, values)?;
-        block = skip_untested(params, wanted, reader, next, blocks_to_end(params, next));
+        let left = blocks_to_next_interval(params, next);
+        block = skip_untested(params, wanted, reader, next, left);
     }
 }
