@@ -67,7 +67,7 @@ sizes: ## prints how many bytes FILE takes with each block size and interval, wi
 	@PYTHONPATH=bindings/python python3 -m aecp fit $(FILE) $(OPTIONS)
 
 # Checks the contracts and the generated pages, runs the gate (`rt ci`), then tests the program that the gate has built.
-test: ## proves everything again, and runs all tests of the program (44 minutes on four processors)
+test: ## proves everything again, and runs all tests of the program (32 minutes on four processors)
 	sh tests/run.sh
 
 # Runs all tests that need no kit on an installed program, by default bin/aec: make check PROGRAM=/usr/bin/aec-proved. LIBRARY, a folder

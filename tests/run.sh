@@ -143,10 +143,10 @@ keep_gate() {
 processors=$(getconf _NPROCESSORS_ONLN)
 if [ -z "$checked" ]; then
     state=$(python3 packaging/proved.py state)
-    # As measured on 30 November 2026, beside other work (`make gate-times`).
-    work=125
+    # As measured on 30 November 2026, with nothing beside it.
+    work=105
     echo "make test has about $work minutes of work for one processor, so at least $((work / processors)) for the $processors of this machine."
-    echo "On four it took 44. Some kits don't prove crates again whose files are as they were in an earlier run on this machine."
+    echo "On four it took 32. Some kits don't prove crates again whose files are as they were in an earlier run on this machine."
 fi
 echo "$parts" > "$kept/parts"
 last=
