@@ -117,7 +117,7 @@ figures: ## prints how much there is to read and to prove (seconds)
 # Tries the deliberately wrong function bodies that the gate leaves out. The checker must refuse each. With CHANGED=COMMIT it tries
 # only those of the crates that differ from this commit. For each crate whose bodies were all refused it leaves a record in bin/.
 CHANGED ?=
-wrong-bodies: bin/aec ## tries the wrong bodies that the gate leaves out (12 to 135 seconds each)
+wrong-bodies: $(if $(CHANGED),,bin/aec) ## tries the wrong bodies that the gate leaves out (12 to 135 seconds each)
 	python3 checks/wrong_bodies.py $(if $(CHANGED),--changed $(CHANGED))
 
 # Prints tables of time and memory beside libaec's client, and of what edits cost. Tests nothing.

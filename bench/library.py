@@ -2,9 +2,8 @@
 """Compares two libraries, from buffer to buffer: library.py FOLDER [--seconds]
 
 Counts with `valgrind --tool=callgrind` how many instructions libaecp.a of FOLDER ('ours') and libaec ('theirs') take for a sample
-in one call, on one MiB of the samples of bench.py. Both decode the stream that libaec's client has coded. With --seconds instead
-compares processor time, on 16 MiB: a process calls both in turn, RUNS times, and the least of each counts. Then libaecp.so of
-FOLDER is measured if it has no libaecp.a, as the folder of x86-64-v3.
+in one call, on one MiB of the samples of bench.py that are predicted. Both decode the stream that libaec's client has coded. With
+--seconds instead compares processor time, on 16 MiB: a process calls both in turn, RUNS times, and the least of each counts.
 
 Prints tables in Markdown, and tests nothing. Needs libaec's header, library and client (named by the environment variable
 LIBAEC, else /usr/bin/aec).
@@ -26,6 +25,7 @@ INTERVAL = 128
 RUNS = 9
 SIZE = 16
 SETTINGS = [(16, 128), (8, 2), (64, 128)]
+PREDICTED = [one for one in INPUTS if "-N" not in one[1]]
 # The bytes of a stored sample, by its bits.
 STORAGE = {1: 1, 8: 1, 12: 2, 16: 2, 32: 4}
 
@@ -33,12 +33,9 @@ HERE = os.path.dirname(os.path.abspath(__file__))
 
 
 def built(folder, library):
-    """Builds bench/library.c with the library of a folder. Returns the path of the program."""
-    program, ours = os.path.join(folder, "library"), os.path.join(os.path.abspath(library), "libaecp.a")
-    if not os.path.exists(ours):
-        ours = ours.removesuffix(".a") + ".so"
+    program = os.path.join(folder, "library")
     words = ["cc", "-O2", "-I", os.path.join(HERE, "..", "bindings", "c"), "-o", program, os.path.join(HERE, "library.c")]
-    subprocess.run([*words, ours, "-laec", f"-Wl,-rpath,{os.path.dirname(ours)}"], check=True)
+    subprocess.run([*words, os.path.join(library, "libaecp.a"), "-laec"], check=True)
     return program
 
 
@@ -68,7 +65,7 @@ def instructions(program, raw):
     """Prints the table of instructions."""
     print("| Input | J | coding, ours | theirs | ratio | decoding, ours | theirs | ratio |")
     print("|---|---|---|---|---|---|---|---|")
-    for name, options, made in INPUTS:
+    for name, options, made in PREDICTED:
         with open(raw, "wb") as file:
             file.write(made(random.Random(1)))
         samples = MIB // STORAGE[int(options[1])]
@@ -85,7 +82,7 @@ def seconds(program, raw):
     print("| Input | J, r | coding, MiB/s | times as fast | decoding, MiB/s | times as fast |")
     print("|---|---|---|---|---|---|")
     ratios = {setting: ([], []) for setting in SETTINGS}
-    for name, options, made in INPUTS:
+    for name, options, made in PREDICTED:
         with open(raw, "wb") as file:
             file.write(made(random.Random(1)) * SIZE)
         for block, interval, calls in measurements(raw, SIZE * MIB, options, SETTINGS):
