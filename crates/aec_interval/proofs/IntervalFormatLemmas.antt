@@ -1,5 +1,5 @@
 -- Intervals of the format are a lawful way to code samples.
-use Rattle.std.proofs.Common.{length, Option, Some, None, refl, if◌then◌else◌, ◌&&◌, ◌+◌, ◌≡◌, ℕ, ◌-◌, ◌^◌, ◌<◌, ◌≤◌, Bool, true, false, IsTrue, ℤ, pos, negsuc, List, [], ◌∷◌, arith, FitsSigned, w64, rules}
+use Rattle.std.proofs.Common.{◌≡◌, ℕ, ◌-◌, ◌^◌, ◌<◌, ◌≤◌, Bool, true, false, IsTrue, ℤ, pos, negsuc, List, [], ◌∷◌, arith, FitsSigned, w64, rules}
 use Rattle.std.specs.List.{list_all, AllByRecursion}
 use Rattle.std.proofs.Math.Nat.{mul-le-mul}
 use Rattle.std.proofs.lemmas.Bool.{and_parts}
@@ -10,7 +10,6 @@ use Rattle.aec_params.specs.Params.{IsAllowed, is_held, IsHeld, interval_len}
 use Rattle.aec_params.proofs.ParamsLemmas.{held-positive, held-negative, values-most, pow-halves, bits-least}
 use Rattle.aec_params.proofs.SettingLaws.{block_size-most}
 use Rattle.aec_bits.specs.Codec.{IsInterval, IsLawful}
-use Rattle.aec_bits.specs.Refusals.{first_unheld}
 use Rattle.aec_interval.specs.IntervalFormat.{interval_format}
 use Rattle.aec_interval.specs.Laws.{AreOfInterval}
 use Rattle.aec_interval.proofs.EqualLengthLemmas.{equal_lengths}
@@ -30,19 +29,6 @@ all-held s (x ∷ v) h =
 -- an interval of the format is held samples of one interval
 pub AreOfInterval-format : (s : Settings) (v : List ℤ) → IsInterval (interval_format s) v → AreOfInterval s v
 AreOfInterval-format s v h = record { held = all-held s v h.held; some = h.some; fits = h.few }
-
--- samples that all pass the test, at least one and no more than an interval has, are an interval
-pub interval_of_held : (s : Settings) (v : List ℤ) → first_unheld (is_held s) 0 v ≡ None → 0 < length v → length v ≤ interval_len s
-    → IsInterval (interval_format s) v
-interval_of_held s v h some few = record { some = some; few = few; held = none-unheld 0 v h }
-  where
-    by_test : (t rest : Bool) (i : ℕ) (later : Option ℕ) → (if t then later else Some i) ≡ None → (later ≡ None → rest ≡ true) → t && rest ≡ true
-    by_test true rest i later h on = on h
-    by_test false rest i later h on = absurd (cc)
-
-    none-unheld : (i : ℕ) (v : List ℤ) → first_unheld (is_held s) i v ≡ None → list_all (is_held s) v ≡ true
-    none-unheld i [] h = refl
-    none-unheld i (x ∷ v) h = by_test (is_held s x) (list_all (is_held s) v) i (first_unheld (is_held s) (i + 1) v) h (none-unheld (i + 1) v)
 
 interval-most : (s : Settings) → IsAllowed s → s.interval ≤ 4096
 interval-most s allowed = let b = allowed.interval in grind (arith, nat_tests)

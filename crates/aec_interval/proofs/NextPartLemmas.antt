@@ -1,6 +1,5 @@
 -- Which bytes are the next part of a piece.
-use Rattle.std.proofs.Common.{◌≡◌, ℕ, zero, suc, ◌+◌, ◌-◌, ◌*◌, ◌/◌, ◌%◌, ◌<◌, ◌≤◌, inr, Bool, Some, List, [], ◌++◌, length, take, drop, refl, sym, ap, ◌∙◌, subst, arith, mul-le-mul_right, div-mul-le_self}
-use Rattle.std.specs.Result.{result_err}
+use Rattle.std.proofs.Common.{◌≡◌, ℕ, zero, suc, ◌+◌, ◌-◌, ◌*◌, ◌/◌, ◌%◌, ◌<◌, ◌≤◌, inr, Bool, List, [], ◌++◌, length, take, drop, refl, sym, ap, ◌∙◌, arith, mul-le-mul_right, div-mul-le_self}
 use Rattle.std.proofs.Math.Nat.{mul-mod_left}
 use Rattle.std.proofs.lemmas.List.{length-append, take-append-drop, take-take, length-take-le}
 use Rattle.std.proofs.lemmas.Nat.{div-add-mod', mod_below}
@@ -15,12 +14,13 @@ use Rattle.aec_interval.specs.declared.stream_coder.pieces.Progress.{Progress}
 use Rattle.aec_interval.specs.declared.stream_coder.pieces.Terms.{Terms}
 use Rattle.aec_interval.proofs.PieceLemmas.{byte_groups-whole}
 use Rattle.aec_interval.proofs.FeedingLemmas.{stops_before}
-use Rattle.aec_interval.proofs.TakingLemmas.{taken_groups-all, length-groups, counted_from}
+use Rattle.aec_interval.proofs.TakingLemmas.{taken_groups-all, counted_from}
+use Rattle.aec_interval.proofs.CuttingLemmas.{length-first_chunks}
 use Rattle.aec_interval.proofs.JudgingLemmas.{length-taken_groups, few_taken_groups, refusal-all_taken, length-front_taken, refusal-taken_groups}
 use Rattle.aec_interval.proofs.PartLemmas.{no_bits, part_count}
 
 length-byte_groups : (s : Settings) (part : List ℕ) (n : ℕ) → IsAllowed s → length part ≡ n * storage_len s → length (byte_groups s part) ≡ n
-length-byte_groups s part n a whole = length-groups (storage_len s) (length part / storage_len s) part ∙ part_count s part n a whole
+length-byte_groups s part n a whole = length-first_chunks (storage_len s) (length part / storage_len s) part ∙ part_count s part n a whole
 
 -- samples that are all taken are a part
 part_of_taken : (u : Terms) (p : Progress) (part : List ℕ) (n : ℕ) → IsProgress u p → length part ≡ n * storage_len u.params → 0 < n
@@ -38,7 +38,7 @@ part_of_taken u p part n h whole some fills taken =
       whole = whole;
       some = some;
       fills = fills;
-      good = ap result_err read;
+      good = rw read;
       within = omega (arith, part_count s part n h.held.allowed whole, taken, few, h.within, some);
     }
 
@@ -65,12 +65,13 @@ part_refused u p bytes judged later bits n taken h cut whole many fewer few =
     let a = h.held.allowed in
     let c : Coder = coder_at u p [] in
     let len = length-byte_groups s judged n a whole in
-    subst (λ l. StopsFeeding c l bits bits (refusal_at u.limit (p.count + taken))) (sym cut)
-    (stops_before c judged later bits bits (refusal_at u.limit (p.count + taken)) a
-    (refused (refusal_at u.limit (p.count + taken))
-    (refusal-taken_groups s u.limit p.count (byte_groups s judged) (omega (arith, len, many, fewer))
-    ∙ ap (λ k. Some (refusal_at u.limit (p.count + k))) (sym many))
-    (no_bits s bits (samples_with c judged) a (omega (arith, length-append p.held (taken_of c judged).samples, many, few)))))
+    rw cut (stops_before c judged later bits bits (refusal_at u.limit (p.count + taken)) a
+    (refused (refusal_at u.limit (p.count + taken)) (rw (
+      refusal-taken_groups s u.limit p.count (byte_groups s judged)
+          (omega (arith, len, many, fewer)),
+      many,
+    )) (no_bits s bits (samples_with c judged) a
+    (omega (arith, length-append p.held (taken_of c judged).samples, many, few)))))
 
 -- ---- how long the part is
 
@@ -78,7 +79,7 @@ mul_within : (n m w : ℕ) → n ≤ m / w → n * w ≤ m
 mul_within n m w few = omega (arith, mul-le-mul_right w few, div-mul-le_self m w)
 
 length-judged : (s : Settings) (bytes : List ℕ) (n w : ℕ) → w ≡ storage_len s → n ≤ length bytes / w → length (take (n * w) bytes) ≡ n * storage_len s
-length-judged s bytes n w width few = length-take-le (n * w) bytes (mul_within n (length bytes) w few) ∙ ap (λ w. n * w) width
+length-judged s bytes n w width few = rw (length-take-le (n * w) bytes (mul_within n (length bytes) w few), width)
 
 -- how many samples are taken of the first n
 abbrev taken_of_first : Terms → Progress → List ℕ → ℕ → ℕ
@@ -100,7 +101,7 @@ pub all_of_first : (u : Terms) (p : Progress) (bytes : List ℕ) (w interval hel
     → taken ≡ taken_of_first u p bytes (n * w) → taken ≡ n → IsPart u p (take (n * w) bytes)
 all_of_first u p bytes w interval held n taken h width long are_held some few fills many all =
     part_of_taken u p (take (n * w) bytes) n h (length-judged u.params bytes n w width few) some
-    (subst (λ i. IsFewOrWhole i (length p.held + n)) long (subst (λ m. IsFewOrWhole interval (m + n)) are_held fills)) (sym many ∙ all)
+    (rw (are_held, long) at fills) (sym many ∙ all)
 
 none_begun : (held n i taken : ℕ) → (0 < held → held + n ≤ i) → i ≤ taken → taken ≤ n → held ≡ 0
 none_begun zero n i taken begun most few = refl
@@ -124,10 +125,10 @@ front_of_first u p bytes w interval held n taken h width long are_held few begun
     let within : m ≤ n = omega (arith, fewer) in
     let front = take-take (m * w) (n * w) bytes (mul-le-mul_right w within) in
     let all : length p.held + m ≡ taken / interval * interval = omega (arith, none_begun held n interval taken begun most fewer, are_held, whole_m) in
-    let fills : IsFewOrWhole interval (length p.held + m) = inr (ap (λ k. k % interval) all ∙ mul-mod_left (taken / interval) interval) in
+    let fills : IsFewOrWhole interval (length p.held + m) = inr (rw (all, mul-mod_left)) in
     front_of_taken u p judged (take (m * w) bytes) (drop (m * w) judged) m taken h
-    (sym (take-append-drop (m * w) judged) ∙ ap (λ l. l ++ drop (m * w) judged) front) (length-judged s bytes m w width (omega (arith, within, few)))
-    some (subst (λ i. IsFewOrWhole i (length p.held + m)) long fills) many (omega arith)
+    (cc (take-append-drop (m * w) judged)) (length-judged s bytes m w width (omega (arith, within, few)))
+    some (rw (← long) fills) many (omega arith)
 
 within_interval : (held n i taken : ℕ) → (0 < held → held + n ≤ i) → taken < n → taken < i → held + taken < i
 within_interval zero n i taken begun fewer below = omega arith

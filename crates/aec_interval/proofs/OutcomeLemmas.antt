@@ -1,6 +1,6 @@
 -- Bits always have a reading or a fault: the walk goes on until no coded data set is wanted or
 -- something is wrong.
-use Rattle.std.proofs.Common.{◌≡◌, ℕ, zero, suc, ◌+◌, ◌-◌, ◌^◌, ◌%◌, ◌<◌, ◌≤◌, min, Bool, true, false, Option, List, [], ◌∷◌, ◌++◌, length, drop, refl, sym, ap, ◌∙◌, arith, inl, inr, ◌⊎◌, ⊎_elim}
+use Rattle.std.proofs.Common.{◌≡◌, ℕ, zero, suc, ◌+◌, ◌-◌, ◌^◌, ◌%◌, ◌<◌, ◌≤◌, min, Bool, true, false, Option, List, [], ◌∷◌, ◌++◌, length, drop, refl, arith, inl, inr, ◌⊎◌, ⊎_elim}
 use Rattle.std.specs.Prelude.{◌==◌, ◌&&◌}
 use Rattle.std.specs.Int.{next_multiple_of}
 use Rattle.std.proofs.lemmas.List.{length-append, length-drop, drop_at, drop-drop}
@@ -37,12 +37,12 @@ length-cds_bits-positive s c = omega (
 -- a coded data set that is at a position ends within the bits
 pub stands-within : (s : Settings) (bits : List Bool) (b : ℕ) (c : CodedDataSet) → StandsAt s bits b c → b + length (cds_bits s c) ≤ length bits
 stands-within s bits b c h =
-    omega (
+    grind (
       arith,
-      ap length h,
       length-append (cds_bits s c) (drop (b + length (cds_bits s c)) bits),
       length-drop b bits,
-      length-drop (b + length (cds_bits s c)) bits,
+      length-drop (b + length (cds_bits s c))
+          bits,
       length-cds_bits-positive s c,
     )
 
@@ -74,9 +74,8 @@ set_or_none s t bits b a = ⊎_elim none (λ r. some r.0 r.1.0 r.1.1) (cases_tak
     some : (c : CodedDataSet) (rest : List Bool) → cds_at s t (drop b bits) ≡ taken c rest → Answer
     some c rest e =
         let h = what_is_read_is_spelled s a t (drop b bits) c rest e in
-        let behind : drop (b + length (cds_bits s c)) bits ≡ rest =
-        sym (drop-drop (length (cds_bits s c)) b bits) ∙ ap (drop (length (cds_bits s c))) h.1 ∙ drop_at (cds_bits s c) rest (length (cds_bits s c)) refl in
-        inl (c, record { shape = h.0; stands = h.1 ∙ ap (◌++◌ (cds_bits s c)) (sym behind) })
+        let behind : drop (b + length (cds_bits s c)) bits ≡ rest = rw (← drop-drop, h.1, drop_at) in
+        inl (c, record { shape = h.0; stands = rw (h.1, behind) })
 
 -- ---- the walk
 

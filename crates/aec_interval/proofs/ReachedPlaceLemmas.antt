@@ -1,5 +1,5 @@
 -- Places that a reader reaches: coded data sets lead there from the first bit on.
-use Rattle.std.proofs.Common.{◌≡◌, ℕ, ◌+◌, ◌%◌, ◌<◌, ◌≤◌, min, Bool, true, false, ◌&&◌, ◌==◌, if◌then◌else◌, Option, List, [], ◌∷◌, ◌++◌, length, drop, sym, ap, subst, arith}
+use Rattle.std.proofs.Common.{◌≡◌, ℕ, ◌+◌, ◌%◌, ◌<◌, ◌≤◌, min, Bool, true, false, ◌&&◌, ◌==◌, if◌then◌else◌, Option, List, [], ◌∷◌, ◌++◌, length, drop, arith}
 use Rattle.std.proofs.lemmas.List.{length-append, length-drop}
 use Rattle.std.specs.Int.{next_multiple_of}
 use Rattle.aec_params.specs.declared.settings.Settings.{Settings}
@@ -12,14 +12,15 @@ use Rattle.aec_interval.proofs.PlaceLemmas.{LeadsTo-append}
 -- ---- within the bits
 
 StandsAt-within : (s : Settings) (bits : List Bool) (b : ℕ) (c : CodedDataSet) → b ≤ length bits → StandsAt s bits b c → b + length (cds_bits s c) ≤ length bits
-StandsAt-within s bits b c within stands = omega (
-  arith,
-  within,
-  ap length stands,
-  length-drop b bits,
-  length-append (cds_bits s c) (drop (b + length (cds_bits s c)) bits),
-  length-drop (b + length (cds_bits s c)) bits,
-)
+StandsAt-within s bits b c within stands =
+    grind (
+      arith,
+      within,
+      length-drop b bits,
+      length-append (cds_bits s c) (drop (b + length (cds_bits s c)) bits),
+      length-drop
+          (b + length (cds_bits s c)) bits,
+    )
 
 begin_of-within : (s : Settings) (bits : List Bool) (i b : ℕ) → b ≤ length bits → begin_of s bits i b ≤ length bits
 begin_of-within s bits i b within = by_test (s.pad && (i % s.interval == 0))
@@ -50,6 +51,5 @@ place-further s count limit list bits first bit start i b sets is begins same le
   begins = ends;
   sets = is.sets ++ sets;
   leads = LeadsTo-append s count limit bits 0 0 is.sets first start sets i b
-      (subst (λ bits. LeadsTo s count limit bits 0 0 is.sets first start) (sym same)
-      (subst (LeadsTo s count limit list 0 0 is.sets first) (sym begins) is.leads)) leads;
+      (rw (same, begins) is.leads) leads;
 }

@@ -1,5 +1,5 @@
 -- One interval read from its start: how far the reading comes, and how much room its samples take.
-use Rattle.std.proofs.Common.{max, ◌≡◌, ℕ, Bool, true, false, Option, ◌&&◌, nat_lt, List, refl, ◌+◌, ◌-◌, ◌*◌, ◌/◌, ◌%◌, ◌<◌, ◌≤◌, sym, ap, ◌∙◌, subst, arith, Result, IfErr}
+use Rattle.std.proofs.Common.{max, ◌≡◌, ℕ, Bool, true, false, Option, ◌&&◌, nat_lt, List, refl, ◌+◌, ◌-◌, ◌*◌, ◌/◌, ◌%◌, ◌<◌, ◌≤◌, ap, ◌∙◌, arith, Result, IfErr}
 use Rattle.std.proofs.Math.Nat.{mul-le-mul_right, add-mul-mod_self_right}
 use Rattle.std.proofs.lemmas.Nat.{div-add-mod', mod-mul-add}
 use Rattle.std.proofs.lemmas.Bool.{ltb-false}
@@ -32,10 +32,10 @@ no_room s first i len capacity aligned after below few full =
     omega (arith, both, few, full)
   where
     both_parts : (d e r j : ℕ) → d + e ≡ r → d * j + e * j ≡ j * r
-    both_parts d e r j is = omega (arith, ap (λ n. j * n) is)
+    both_parts d e r j is = grind arith
 
 both_parts : (d e n j : ℕ) → d + e ≡ n → d * j + e * j ≡ n * j
-both_parts d e n j is = omega (arith, ap (λ n. n * j) is)
+both_parts d e n j is = grind arith
 
 -- the interval of the blocks from `first` up to `end` was read or skipped up to block i at position
 -- b, where more is wanted
@@ -68,13 +68,12 @@ module _ (s : Settings) (count : Option ℕ) (limit : ℕ) (bits : List Bool) (f
       → IsErrAnd r (λ e. e ≡ fault) → P list (i + blocks_before_end s i) fault → IfErr r (λ fault. P bits (first + s.interval) fault)
   by_its_end P r fault list same exit refuses =
       let ends : i + blocks_before_end s i ≡ first + s.interval = omega (arith, place, inside.after, before_end) in
-      of_refusal r (P bits (first + s.interval)) fault exit (subst (λ e. P bits e fault) ends (subst (λ l. P l (i + blocks_before_end s i) fault) same refuses))
+      of_refusal r (P bits (first + s.interval)) fault exit (rw (same, ends) at refuses)
 
   -- what holds of a refusal up to block `end` holds of it up to the end of the interval
   pub by_block_end : {X : Type 0} (P : List Bool → ℕ → Fault → Type 0) (r : Result X Fault) (fault : Fault) (list : List Bool) → list ≡ bits
       → IsErrAnd r (λ e. e ≡ fault) → P list end fault → IfErr r (λ fault. P bits (first + s.interval) fault)
-  by_block_end P r fault list same exit refuses =
-      of_refusal r (P bits (first + s.interval)) fault exit (subst (λ e. P bits e fault) inside.end_is (subst (λ l. P l end fault) same refuses))
+  by_block_end P r fault list same exit refuses = of_refusal r (P bits (first + s.interval)) fault exit (rw (same, inside.end_is) at refuses)
 
   -- blocks that are read after a coded data set don't go past the end of the interval
   module _ (behind next : ℕ) (to : ComesNext s i behind) (after : behind ≤ next) (most : next ≤ max behind end) where
@@ -112,7 +111,7 @@ module _ (s : Settings) (count : Option ℕ) (limit : ℕ) (bits : List Bool) (f
     -- if the loop ends though more is wanted, the interval has ended
     next-to_end : (wanted : Bool) → (nat_lt next end && wanted) ≡ false → wanted ≡ true → next ≡ first + s.interval
     next-to_end wanted done more =
-        let past : end ≤ next = ltb-false next end (sym (ap (λ w. nat_lt next end && w) more ∙ and_true (nat_lt next end)) ∙ done) in
+        let past : end ≤ next = ltb-false next end (rw (← (and_true (nat_lt next end)), ← more) done) in
         omega (arith, next-within, past, inside.end_is)
       where
         and_true : (b : Bool) → (b && true) ≡ b
@@ -127,7 +126,7 @@ module _ (s : Settings) (count : Option ℕ) (limit : ℕ) (bits : List Bool) (f
       to_end = next-to_end (is_wanted s count list next at) done;
       ends = λ more.
           let last : next ≡ first + 1 * s.interval = omega (arith, next-to_end (is_wanted s count list next at) done more) in
-          ap (λ n. n % s.interval) last ∙ (add-mul-mod_self_right first 1 s.interval ∙ inside.wanted.aligned);
+          rw (last, add-mul-mod_self_right) inside.wanted.aligned;
     }
 
     pub len-within : (old new : ℕ) → old ≤ (i - first) * s.block_size → new ≤ old + (next - i) * s.block_size

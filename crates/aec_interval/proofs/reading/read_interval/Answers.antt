@@ -1,4 +1,4 @@
-use Rattle.std.proofs.Common.{rules, ap, refl, sym, ◌∙◌, arith, length, vec_len, vec_capacity}
+use Rattle.std.proofs.Common.{rules, refl, sym, ◌∙◌, arith, vec_len, vec_capacity}
 use Rattle.aec_interval.specs.Reached.{RefusesUpTo}
 use Rattle.aec_interval.proofs.ReadNextLemmas.{reached-start}
 use Rattle.aec_interval.proofs.ReadIntervalLemmas.{place, inside-begun, no_room-refuses, no_room-untested, by_its_end, by_block_end, comes-further, len-further, gone-over, len-within}
@@ -10,7 +10,7 @@ loop-behind-init c = record {
   reached = reached-start c.args.params.now _ _ _ _ _ _ _ c.requires.begins c.requires.empty;
   list = refl;
   inside = inside-begun _ _ _ _ _ _ _ c.interval.ensures.allowed (omega (arith, c.from.ensures, c.interval.ensures.value)) c.requires.wanted;
-  len = omega (arith, c.args.samples.now.ok, ap length c.requires.empty);
+  len = grind arith;
   capacity = omega arith;
 }
 

@@ -1,4 +1,4 @@
-use Rattle.std.proofs.Common.{rules, ◌≡◌, ◌+◌, ◌-◌, ◌*◌, ◌≤◌, ◌∙◌, length, take, drop, refl, ap, arith}
+use Rattle.std.proofs.Common.{rules, ◌≡◌, ◌+◌, ◌-◌, ◌*◌, ◌≤◌, ◌∙◌, length, take, drop, refl, arith}
 use Rattle.std.proofs.Math.Nat.{add-mul}
 use Rattle.std.proofs.lemmas.List.{length-take, length-drop, length-replicate, nil_from_length}
 use Rattle.std.proofs.lemmas.Slice.{take-put_mid}
@@ -33,7 +33,7 @@ returns-then-not-fill_interval g c =
     let fits : at + c.interval_len-len.result ≤ length c.loop-count.samples =
     part_fits c.loop-count.at c.loop-count.count c.args.most c.interval_len-len.result (interval_len c.args.params.now) (length c.loop-count.samples)
     inv.place (omega (arith, c.loop-count-test.true)) c.interval_len-len.ensures.value (omega (arith, c.requires.room, inv.len)) in
-    let place : at ≡ c.loop-count.count * interval_len s = inv.place ∙ ap (λ n. c.loop-count.count * n) c.interval_len-len.ensures.value in
+    let place : at ≡ c.loop-count.count * interval_len s = rw (inv.place, c.interval_len-len.ensures.value) in
     let kept = front_kept c.loop-count.samples c.fill_interval.new.samples at k (omega (arith, fits)) in
     record {
       reads = λ some. reads_stay s c.loop-count.count at _ c.args.reader.now c.loop-count.reader c.fill_interval.new.reader c.loop-count.samples _

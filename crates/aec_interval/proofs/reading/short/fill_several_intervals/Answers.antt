@@ -1,4 +1,4 @@
-use Rattle.std.proofs.Common.{rules, ◌≡◌, ◌+◌, ◌-◌, ◌*◌, ◌∙◌, length, take, refl, ap, arith}
+use Rattle.std.proofs.Common.{rules, ◌≡◌, ◌+◌, ◌-◌, ◌*◌, ◌∙◌, length, take, refl, arith}
 use Rattle.std.proofs.Math.Nat.{add-mul}
 use Rattle.std.proofs.lemmas.List.{length-take, nil_from_length}
 use Rattle.aec_params.specs.Params.{interval_len}
@@ -32,7 +32,7 @@ returns-then-read-eq0 c =
     (omega (arith, c.requires.room, inv.len)) in
     record {
       reads = λ some. reads_stay s c.loop-count.count at _ c.args.reader.now c.loop-count.reader read.new.reader samples _
-          (read.ensures.stays c.if-read-eq0.true) (inv.place ∙ ap (λ n. c.loop-count.count * n) size)
+          (read.ensures.stays c.if-read-eq0.true) (rw (inv.place, size))
           (front_kept samples read.new.samples at (length samples - at) within) inv.reads;
       stays = search rules;
       list = search rules;
@@ -50,7 +50,7 @@ loop-count-preserved c =
       reads = reads_rest c.args.params.now c.loop-count.count c.args.most c.loop-count.at len c.loop-count.samples inv.place size inv.within
           (omega (arith, c.requires.room, inv.len)) read.result (c.loop-count.at + read.result * len) c.args.reader.now c.loop-count.reader
           read.new.reader read.new.samples c.interval_len-len.ensures.allowed inv.reads read.ensures
-          (ap (λ l. c.loop-count.at + read.result * l) size);
+          (rw size);
       stays = λ none. absurd (omega (arith, none, c.if-read-eq0.false));
       within = omega (arith, read.ensures.within, inv.within);
       place = omega (arith, inv.place, add-mul c.loop-count.count read.result len);

@@ -1,4 +1,4 @@
-use Rattle.std.proofs.Common.{rules, ◌≡◌, ◌-◌, ◌*◌, unwrap_or, ap, arith}
+use Rattle.std.proofs.Common.{rules, ◌≡◌, ◌-◌, ◌*◌, unwrap_or, arith}
 use Rattle.aec_params.specs.Params.{interval_len}
 use Rattle.aec_params.proofs.SampleLaws.{interval_len-positive}
 use Rattle.aec_interval.proofs.ShortLemmas.{whole_within}
@@ -11,8 +11,7 @@ returns c =
     let size : c.from.result ≡ s.block_size = search rules in
     let samples : c.unwrap_or-samples.result ≡ unwrap_or c.args.wanted.count c.args.wanted.limit = search rules in
     let len : c.interval_len.result ≡ interval_len s = c.interval_len.ensures.value in
-    let left : c.saturating_sub.result ≡ unwrap_or c.args.wanted.count c.args.wanted.limit - first * s.block_size =
-    omega (arith, c.saturating_sub.ensures, ap (λ n. first * n) size, samples) in
+    let left : c.saturating_sub.result ≡ unwrap_or c.args.wanted.count c.args.wanted.limit - first * s.block_size = grind arith in
     λ n some within. record {
       unpadded = c.requires.unpadded;
       low = c.requires.limit;

@@ -1,5 +1,4 @@
-use Rattle.std.proofs.Common.{◌≡◌, ◌+◌, ◌%◌, ◌≤◌, ◌∙◌, sym, ap, subst, arith}
-use Rattle.aec_interval.specs.Skipping.{IsLedTo}
+use Rattle.std.proofs.Common.{◌≡◌, ◌≤◌, ◌∙◌, arith}
 use Rattle.aec_interval.proofs.SkippedBlockLemmas.{fewer_samples, fewer_blocks}
 use Rattle.aec_interval.proofs.reading.skipping.skip_untested.Goals as goal
 
@@ -10,10 +9,9 @@ returns-clause-led c =
     let n = c.skip_singles.result in
     let interval : c.from.result ≡ s.interval = c.from.ensures ∙ c.interval.ensures.value in
     let few : n ≤ c.untested_blocks-untested.result = omega (arith, c.skip_singles.ensures.within, c.min.ensures) in
-    subst (λ l. IsLedTo s w.count w.limit l w.first w.start (c.args.block + n) c.skip_singles.new.reader.pos) (sym c.skip_singles.ensures.list)
-    (c.skip_singles.ensures.leads w.count w.limit w.first w.start c.args.block (ap (λ r. c.args.block % r) (sym interval)) c.requires.limit
-    c.requires.counted (fewer_samples s w.count w.limit c.args.block n c.untested_blocks-untested.result few c.untested_blocks-untested.ensures.within)
-    c.requires.led)
+    rw c.skip_singles.ensures.list (c.skip_singles.ensures.leads w.count w.limit w.first w.start c.args.block (rw interval) c.requires.limit
+    c.requires.counted (fewer_samples s w.count w.limit c.args.block n c.untested_blocks-untested.result few
+    c.untested_blocks-untested.ensures.within) c.requires.led)
 
 pub returns-clause-few : goal.returns-clause-few
 returns-clause-few c =

@@ -1,7 +1,6 @@
 use Rattle.std.proofs.Common.{rules, refl, ◌≤◌, ◌+◌, ◌*◌, ◌∙◌, take, vec_len, vec_capacity, ap, arith}
 use Rattle.std.proofs.lemmas.List.{with_items_is}
 use Rattle.aec_params.proofs.SettingLaws.{block_size-positive, block_size-most}
-use Rattle.aec_bits.specs.BitReader.{Cursor}
 use Rattle.aec_params.specs.declared.fault.Fault.TheVariants.{Memory}
 use Rattle.aec_interval.specs.UntestedBlocks.{most_at_once}
 use Rattle.aec_interval.proofs.UntestedLemmas.{few_places, len-joined, len-lacking, lacks_room, reads_further}
@@ -78,13 +77,13 @@ loop-next-preserved c =
     let read = reads_further c.args.params.now c.args.wanted c.untested_end-last.result c.loop-next.next fill.result c.block_size-size.result
     c.len-from.result c.loop-next.reader _ _ c.loop-next.samples.items _ _ _ fill.new.samples _ _ c.extend_from_slice.ensures.items
     c.as_mut_slice-all.ensures.value (omega (arith, c.loop-next.samples.ok.0, c.len-from.ensures)) c.block_size-size.ensures.value
-    (c.truncate.ensures.items ∙ ap (take (c.len-from.result + fill.result * c.block_size-size.result))
-    (with_items_is c.extend_from_slice.new.self fill.new.samples (fill.ensures.len ∙ c.as_mut_slice-all.ensures.len))) fill.ensures.reads
+    (rw (c.truncate.ensures.items, with_items_is c.extend_from_slice.new.self fill.new.samples (fill.ensures.len ∙ c.as_mut_slice-all.ensures.len)))
+    fill.ensures.reads
     c.is_single_next.ensures.stays inv.here (search rules) in
     record {
       here = read.1;
       held = read.0.held;
-      list = read.0.list ∙ (ap (λ (cursor : Cursor). cursor.list) c.is_single_next.ensures.stays ∙ inv.list);
+      list = rw (read.0.list, c.is_single_next.ensures.stays) inv.list;
       forward = search rules;
       within = search rules;
       some = search rules;

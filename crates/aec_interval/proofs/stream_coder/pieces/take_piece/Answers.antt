@@ -1,4 +1,4 @@
-use Rattle.std.proofs.Common.{[], arith, ap, ◌++◌, ◌∙◌}
+use Rattle.std.proofs.Common.{[], arith}
 use Rattle.aec_interval.proofs.RefusalLemmas.{of_answer}
 use Rattle.aec_interval.proofs.PartLemmas.{short_fed, cut_at, front_longer, left_refused, part_stops, left_kept}
 use Rattle.aec_interval.proofs.stream_coder.pieces.take_piece.Goals as goal
@@ -36,5 +36,5 @@ pub returns-clause-takes : goal.returns-clause-takes
 returns-clause-takes c =
     left_kept _ _ _ _ _ _ _ c.storage-width.ensures.allowed c.loop-left.invariant.so_far
     (short_fed c.args.terms.now _ [] c.loop-left.left.now _ _ c.loop-left.invariant.progress
-    (c.extend-2.ensures ∙ ap (λ r. r ++ c.loop-left.left.now) c.complete_rest.ensures.empty)
+    (rw (c.extend-2.ensures, c.complete_rest.ensures.empty))
     (omega (arith, c.loop-left-test.false, c.storage-width.ensures.value)))
