@@ -42,13 +42,13 @@ FillBlocks-back s f samples bs cs a begins count filled = record {
     first = FillBlocks-front s f samples bs cs a begins count filled
 
     left : (f n j : ℕ) {t : ℕ} → t ≡ (f + n) * j → t - f * j ≡ n * j
-    left f n j e = omega (arith, e, add-mul f n j)
+    left f n j e = omega arith
 
     together : all_blocks_of s front ++ all_blocks_of s back ≡ bs ++ cs
     together =
         rw (
           ← (all_blocks_of-append s (f / s.interval) front back a (whole_intervals s f (length front) begins (rw (first.whole, count)))),
-          take-append-drop (f * s.block_size) samples,
+          take-append-drop,
         ) filled.mapped
 
 -- ---- the reading from there on
@@ -71,7 +71,7 @@ module _ (s : Settings) (a : IsAllowed s) (count : Option ℕ) (limit : ℕ) (bi
   kept-few (Some n) blocks k few =
       let m = div_ceil n s.block_size - f in
       let len = length-take m blocks in
-      (omega (arith, len, few), take-take k m blocks (omega (arith, len, few)))
+      (omega arith, take-take k m blocks (omega arith))
 
   -- the samples that are asked for are the first of those that fill the blocks
   asked-few : (count : Option ℕ) (k : ℕ) (all : List ℤ) → k ≤ length (counted_samples count all) - f * s.block_size
@@ -81,20 +81,20 @@ module _ (s : Settings) (a : IsAllowed s) (count : Option ℕ) (limit : ℕ) (bi
     where
       by_count : (k : ℕ) → k ≤ length all - f * s.block_size → f * s.block_size + k ≤ length all ⊎ (k ≡ 0)
       by_count zero few = inr refl
-      by_count (suc k) few = inl (omega (arith, few))
+      by_count (suc k) few = inl (omega arith)
   asked-few (Some n) k all few = (by_count k few, cut (cases_lt n (f * s.block_size)))
     where
       by_count : (k : ℕ) → k ≤ length (take n all) - f * s.block_size → f * s.block_size + k ≤ length all ⊎ (k ≡ 0)
       by_count zero few = inr refl
-      by_count (suc k) few = inl (omega (arith, few, length-take n all))
+      by_count (suc k) few = inl (omega (arith, length-take n all))
 
       cut : (n < f * s.block_size) ⊎ (f * s.block_size ≤ n) → take k (drop (f * s.block_size) (take n all)) ≡ take k (drop (f * s.block_size) all)
       cut (inl short) =
-          let none : k ≡ 0 = omega (arith, few, length-take n all, short) in
+          let none : k ≡ 0 = omega (arith, length-take n all) in
           rw none
       cut (inr long) =
-          let split : n ≡ f * s.block_size + (n - f * s.block_size) = omega (arith, long) in
-          rw (split, drop-take) (take-take k (n - f * s.block_size) (drop (f * s.block_size) all) (omega (arith, few, length-take n all)))
+          let split : n ≡ f * s.block_size + (n - f * s.block_size) = omega arith in
+          rw (split, drop-take) (take-take k (n - f * s.block_size) (drop (f * s.block_size) all) (omega (arith, length-take n all)))
 
   -- a coded data set stands there
   some_left : (sets : List CodedDataSet) (j e : ℕ) → LeadsTo s count limit bits f b sets j e → is_wanted s count bits j e ≡ false → b < length bits
@@ -108,7 +108,7 @@ module _ (s : Settings) (a : IsAllowed s) (count : Option ℕ) (limit : ℕ) (bi
   begin_whole pad =
       let read = the_rest.read in
       let left = some_left read.sets read.end_block read.end_bit read.leads read.done in
-      ⊎_elim (λ is. omega (arith, is)) (λ all. absurd (omega (arith, all, left)))
+      ⊎_elim (λ is. omega arith) (λ all. absurd (omega arith))
       (led-whole s count limit bits 0 0 passed.sets f b pad (λ _. inl (omega arith)) passed.leads passed.begins)
 
   module _ (other k : ℕ) (few : k ≤ length samples - f * s.block_size) where
@@ -120,7 +120,7 @@ module _ (s : Settings) (a : IsAllowed s) (count : Option ℕ) (limit : ℕ) (bi
     all-len = rw (the_rest.filled.whole, length-append, before-count, add-mul)
 
     k-few : k ≤ length the_rest.later * s.block_size
-    k-few = ⊎_elim (λ h. omega (arith, h, all-len)) (λ none. omega (arith, none)) asked.0
+    k-few = ⊎_elim (λ h. omega (arith, all-len)) (λ none. omega arith) asked.0
 
     needed-few : div_ceil k s.block_size ≤ length the_rest.later
     needed-few =
@@ -134,8 +134,7 @@ module _ (s : Settings) (a : IsAllowed s) (count : Option ℕ) (limit : ℕ) (bi
     from_kept : (div_ceil k s.block_size ≤ length (stream_blocks s f the_rest.read.sets))
         × (take (div_ceil k s.block_size) (kept_blocks s count f (stream_blocks s f the_rest.read.sets))
         ≡ take (div_ceil k s.block_size) (stream_blocks s f the_rest.read.sets))
-    from_kept = kept-few count (stream_blocks s f the_rest.read.sets) (div_ceil k s.block_size)
-        (rw the_rest.read.kept at needed-few)
+    from_kept = kept-few count (stream_blocks s f the_rest.read.sets) (div_ceil k s.block_size) (rw the_rest.read.kept at needed-few)
 
     stream-len : f + length (stream_blocks s f the_rest.read.sets) ≡ the_rest.read.end_block
     stream-len =
@@ -150,9 +149,7 @@ module _ (s : Settings) (a : IsAllowed s) (count : Option ℕ) (limit : ℕ) (bi
     way : (i : ℕ) × (the_rest.read.end_block ≡ f + i)
         × LeadsTo s (Some ((the_rest.read.end_block - f) * s.block_size)) other bits 0 b the_rest.read.sets i the_rest.read.end_bit
     way = leads-at s a count limit other bits f passed.begins 0 b the_rest.read.sets the_rest.read.end_block the_rest.read.end_bit
-        ((the_rest.read.end_block - f) * s.block_size)
-        (rw (← same-first) the_rest.read.leads)
-        (omega (arith, blocks-most, stream-len))
+        ((the_rest.read.end_block - f) * s.block_size) (rw (← same-first) the_rest.read.leads) (omega (arith, blocks-most))
 
     alone_blocks : IsBlockReading s (Some k) other (drop b bits) 0 0 (take (div_ceil k s.block_size - 0) (stream_blocks s 0 the_rest.read.sets))
     alone_blocks =
@@ -161,9 +158,7 @@ module _ (s : Settings) (a : IsAllowed s) (count : Option ℕ) (limit : ℕ) (bi
         fewer_blocks s a other (drop b bits) m k 0 0 the_rest.read.sets way.0 dropped.0 dropped.2 (omega (arith, way.1, from_kept.0, stream-len))
 
     alone_same : take (div_ceil k s.block_size - 0) (stream_blocks s 0 the_rest.read.sets) ≡ take (div_ceil k s.block_size) the_rest.later
-    alone_same =
-        rw (sub-zero (div_ceil k s.block_size), ← (blocks-at s a count limit other bits f passed.begins 0 the_rest.read.sets), ← same-first)
-        (sym (rw the_rest.read.kept from_kept.1))
+    alone_same = rw (sub-zero, ← (blocks-at s a count limit other bits f passed.begins), ← same-first) (sym (rw the_rest.read.kept from_kept.1))
 
     pub read_from_block : IsReading s (Some k) other (drop b bits) (take k (drop (f * s.block_size) samples))
     read_from_block = record {
@@ -187,9 +182,7 @@ pub passed-alone : (s : Settings) (count : Option ℕ) (limit : ℕ) (bits : Lis
 passed-alone s count limit bits i b samples a passed whole = record {
   within = begin_within s a count limit bits (i * s.interval) b passed samples whole;
   whole_bytes = begin_whole s a count limit bits (i * s.interval) b passed samples whole;
-  read = λ other k few.
-      rw (regrouped i s.interval s.block_size) at (read_from_block s a count limit bits (i * s.interval) b passed samples whole other k
-      (rw (regrouped i s.interval s.block_size) few));
+  read = λ other k few. rw regrouped at (read_from_block s a count limit bits (i * s.interval) b passed samples whole other k (rw regrouped few));
 }
   where
     regrouped : (i r j : ℕ) → i * r * j ≡ i * (j * r)

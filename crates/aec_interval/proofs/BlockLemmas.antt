@@ -11,7 +11,7 @@ use Rattle.aec_params.specs.declared.settings.Settings.{Settings}
 use Rattle.aec_params.specs.Params.{IsAllowed, IsHeld, interval_len, sample_pattern}
 use Rattle.aec_params.specs.Cutting.{pieces_of, up_to_multiple}
 use Rattle.aec_params.specs.Mapping.{mapped_after, mapped_values}
-use Rattle.aec_params.specs.Blocks.{Block, filled_samples, reference_of, blocks_of}
+use Rattle.aec_params.specs.Blocks.{Block, filled_samples, blocks_of}
 use Rattle.aec_params.specs.BlockShapes.{IsBlockAt, AreBlocksFrom}
 use Rattle.aec_params.specs.Places.{is_reference_block}
 use Rattle.aec_interval.proofs.CuttingLemmas.{IsPieceBefore, by_pieces, pieces_of-nil, pieces_of-cons, length-pieces_of, up_to_multiple-fills, div_ceil-times, div_ceil-bounds}
@@ -27,17 +27,16 @@ use Rattle.aec_params.proofs.SettingLaws.{block_size-positive}
 -- if a list has k * n elements, each of its pieces has n
 pub whole_pieces : {X : Type 0} (n : ℕ) → 0 < n → (xs : List X) (k : ℕ) → length xs ≡ k * n → AllByRecursion (λ piece. length piece ≡ n) (pieces_of n xs)
 whole_pieces n h = by_pieces (λ xs. (k : ℕ) → length xs ≡ k * n → AllByRecursion (λ piece. length piece ≡ n) (pieces_of n xs)) n h
-    (λ k e. rw (pieces_of-nil n h) tt)
-    (λ front rest piece ih k e. rw (pieces_of-cons n front rest piece) (let f = full front rest piece k e in (f, ih (k - 1) (less front rest f k e))))
+    (λ k e. rw pieces_of-nil tt)
+    (λ front rest piece ih k e. rw pieces_of-cons (let f = full front rest piece k e in (f, ih (k - 1) (less front rest f k e))))
   where
     less : {X : Type 0} (front rest : List X) → length front ≡ n → (k : ℕ) → length (front ++ rest) ≡ k * n → length rest ≡ (k - 1) * n
     less front rest f zero e = omega (arith, length-append front rest)
     less front rest f (suc k) e = let z : suc k - 1 ≡ k = omega arith in grind (arith, length-append)
 
     full : {X : Type 0} (front rest : List X) → IsPieceBefore n front rest → (k : ℕ) → length (front ++ rest) ≡ k * n → length front ≡ n
-    full front rest piece zero e = absurd (omega (arith, length-append front rest, piece.some))
-    full front rest piece (suc k) e =
-        ⊎_elim (λ l. piece.full l) (λ l. omega (arith, length-append front rest, piece.fits)) (cases_lt 0 (length rest))
+    full front rest piece zero e = absurd (omega (arith, length-append front rest))
+    full front rest piece (suc k) e = ⊎_elim (λ l. piece.full l) (λ l. omega (arith, length-append front rest)) (cases_lt 0 (length rest))
 
 -- ---- an interval's values
 
@@ -82,17 +81,16 @@ AreDueFrom-stream : (s : Settings) (p : ℕ) (blocks : List Block) → p + lengt
 AreDueFrom-stream s p [] within h = tt
 AreDueFrom-stream s p (b ∷ blocks) within h = (
   subst (λ q. IsBlockAt s q b) (mod-eq_of_lt (omega arith)) h.0,
-  AreDueFrom-stream s (suc p) blocks (omega arith) (rw (add-one p) at h.1),
+  AreDueFrom-stream s (suc p) blocks (omega arith) (rw add-one at h.1),
 )
 
 -- the number of blocks is the number of samples divided by J, rounded up
 pub length-blocks_of : (s : Settings) (v : List ℤ) → IsAllowed s → length (blocks_of s v) ≡ div_ceil (length v) s.block_size
 length-blocks_of s v a =
     rw (
-      length-with_reference (reference_of s v) (pieces_of s.block_size values),
-      length-pieces_of s.block_size values,
-      length-mapped_values s
-          (filled_samples s v),
+      length-with_reference,
+      length-pieces_of,
+      length-mapped_values,
       length-filled_samples s v positive,
       div_ceil-times (div_ceil (length v) s.block_size) s.block_size positive,
     )
@@ -114,5 +112,4 @@ blocks-few s v a h =
 
 pub AreDueFrom-blocks_of : (s : Settings) (x : ℤ) (v : List ℤ) → IsAllowed s → AllByRecursion (IsHeld s) (x ∷ v) → length (x ∷ v) ≤ interval_len s
     → AreDueFrom s 0 (blocks_of s (x ∷ v))
-AreDueFrom-blocks_of s x v a h few =
-    AreDueFrom-stream s 0 (blocks_of s (x ∷ v)) (omega (arith, blocks-few s (x ∷ v) a few)) (blocks_of-shape s x v a h few)
+AreDueFrom-blocks_of s x v a h few = AreDueFrom-stream s 0 (blocks_of s (x ∷ v)) (omega (arith, blocks-few)) (blocks_of-shape s x v a h few)

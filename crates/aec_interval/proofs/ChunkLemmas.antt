@@ -1,12 +1,12 @@
 -- Samples cut at the end of a block: the block of the front, and the blocks of the rest.
-use Rattle.std.proofs.Common.{◌≡◌, ℕ, zero, suc, ◌+◌, ◌-◌, ◌*◌, ◌%◌, ◌<◌, ◌≤◌, Option, Some, None, ℤ, pos, List, [], ◌∷◌, ◌++◌, length, map, replicate, refl, sym, ap, ◌∙◌, arith}
-use Rattle.std.specs.Prelude.{unwrap_or, if◌then◌else◌}
+use Rattle.std.proofs.Common.{◌≡◌, ℕ, zero, suc, ◌+◌, ◌-◌, ◌*◌, ◌%◌, ◌<◌, ◌≤◌, Option, Some, None, ℤ, List, [], ◌∷◌, ◌++◌, length, map, replicate, refl, sym, ap, ◌∙◌, arith}
+use Rattle.std.specs.Prelude.{if◌then◌else◌}
 use Rattle.std.specs.List.{last_or}
-use Rattle.std.proofs.Math.Nat.{add-mod_right, mod_self, mod-eq_of_lt, mul-mod_left, one-mul, sub-zero}
+use Rattle.std.proofs.Math.Nat.{add-mod_right, mod_self, mul-mod_left, one-mul, sub-zero}
 use Rattle.std.proofs.lemmas.List.{append_assoc, append-nil, length-append}
 use Rattle.aec_params.specs.declared.settings.Settings.{Settings}
 use Rattle.aec_params.specs.Params.{sample_pattern}
-use Rattle.aec_params.specs.Cutting.{pieces_of, up_to_multiple}
+use Rattle.aec_params.specs.Cutting.{up_to_multiple}
 use Rattle.aec_params.specs.Blocks.{filled_samples, with_reference}
 use Rattle.aec_block.proofs.ListMappingLemmas.{last_or-append}
 use Rattle.aec_interval.specs.Chunks.{values_after, reference_after, block_after, blocks_after}
@@ -23,7 +23,7 @@ last_or-some x (y ∷ xs) = last_or-some y xs
 
 pub filled_samples-nil : (s : Settings) → 0 < s.block_size → filled_samples s [] ≡ []
 filled_samples-nil s h =
-    let z : s.block_size - 0 % s.block_size ≡ s.block_size = omega (arith, mod-eq_of_lt h) in
+    let z : s.block_size - 0 % s.block_size ≡ s.block_size = omega arith in
     rw (z, mod_self)
 
 -- whole blocks get no filler
@@ -43,19 +43,13 @@ up_to_multiple-add n m =
 
 pub filled_samples-append : (s : Settings) (front rest : List ℤ) → 0 < s.block_size → IsPieceBefore s.block_size front rest
     → filled_samples s (front ++ rest) ≡ filled_samples s front ++ filled_samples s rest
-filled_samples-append s front [] h piece = rw (append-nil front, filled_samples-nil s h, append-nil (filled_samples s front))
+filled_samples-append s front [] h piece = rw (append-nil, filled_samples-nil, append-nil)
 filled_samples-append s front (y ∷ rest) h piece =
     let whole : length front ≡ s.block_size = piece.full (omega arith) in
     let last : last_or None (front ++ y ∷ rest) ≡ last_or (Some y) rest = last_or-append None front (y ∷ rest) in
     let missing : up_to_multiple s.block_size (length (front ++ y ∷ rest)) ≡ up_to_multiple s.block_size (length (y ∷ rest)) =
     rw (length-append, whole, up_to_multiple-add) in
-    rw (
-      missing,
-      last,
-      append_assoc front (y ∷ rest) (replicate (up_to_multiple s.block_size (length (y ∷ rest)))
-          (unwrap_or (last_or (Some y) rest) (pos 0))),
-      filled_samples-whole s front h 1 (whole ∙ sym (one-mul s.block_size)),
-    )
+    rw (missing, last, append_assoc, filled_samples-whole s front h 1 (whole ∙ sym (one-mul s.block_size)))
 
 last_or-replicate : (y : ℤ) (n : ℕ) → last_or (Some y) (replicate n y) ≡ Some y
 last_or-replicate y zero = refl
@@ -80,7 +74,7 @@ pub values_after-append : (s : Settings) (o : Option ℤ) (xs ys : List ℤ) →
 values_after-append s None [] ys = refl
 values_after-append s (Some p) [] ys = refl
 values_after-append s None (x ∷ xs) ys = ap (λ l. (if s.preprocess then 0 else sample_pattern s x) ∷ l) (values_after-append s (Some x) xs ys)
-values_after-append s (Some p) (x ∷ xs) ys = rw (values_after-append s (Some x) xs ys)
+values_after-append s (Some p) (x ∷ xs) ys = rw (values_after-append s (Some x) xs)
 
 pub length-values_after : (s : Settings) (o : Option ℤ) (v : List ℤ) → length (values_after s o v) ≡ length v
 length-values_after s None v = length-mapped_values s v
@@ -109,15 +103,14 @@ with_no_reference (g ∷ groups) = refl
 -- the first block, and the blocks after it
 pub blocks_after-cons : (s : Settings) (o : Option ℤ) (front rest : List ℤ) → 0 < s.block_size → IsPieceBefore s.block_size front rest
     → blocks_after s o (front ++ rest) ≡ block_after s o front ∷ blocks_after s (last_or o front) rest
-blocks_after-cons s o [] rest h piece = absurd (omega (arith, piece.some))
+blocks_after-cons s o [] rest h piece = absurd (omega arith)
 blocks_after-cons s o (x ∷ xs) rest h piece =
     rw (
       reference_after-front s o x (xs ++ rest) xs,
       values,
       pieces_of-cons s.block_size first later one,
-      with_no_reference
-          (pieces_of s.block_size later),
-      reference_after-some s x xs rest,
+      with_no_reference,
+      reference_after-some s x xs,
     )
   where
     front : List ℤ

@@ -43,12 +43,11 @@ module _ (s : Settings) (a : IsAllowed s) (count : Option ℕ) (limit : ℕ) (bi
 
   same_bit : (i b : ℕ) (sets later : List CodedDataSet) (j e f : ℕ) → LeadsTo s count limit bits i b sets j e → LeadsTo s count limit bits i b later j f → e ≡ f
   same_bit i b [] [] j e f h t = h.1 ∙ sym t.1
-  same_bit i b [] (d ∷ later) j e f h t = absurd (omega (arith, leads-ahead i b d later j f t, h.0))
-  same_bit i b (c ∷ sets) [] j e f h t = absurd (omega (arith, leads-ahead i b c sets j e h, t.0))
+  same_bit i b [] (d ∷ later) j e f h t = absurd (omega (arith, leads-ahead i b d later j f t))
+  same_bit i b (c ∷ sets) [] j e f h t = absurd (omega (arith, leads-ahead i b c sets j e h))
   same_bit i b (c ∷ sets) (d ∷ later) j e f h t =
       let same : d ≡ c = same_set s bits b (is_reference_block s (i % s.interval)) d c a t.2.shape h.2.shape t.1 h.1 in
-      same_bit (next_block s i c) (next_begin s bits i b c) sets later j e f h.4
-      (rw same at t.4)
+      same_bit (next_block s i c) (next_begin s bits i b c) sets later j e f h.4 (rw same at t.4)
 
 -- ---- the way through the codes of whole intervals
 
@@ -85,10 +84,10 @@ module _ (s : Settings) (a : IsAllowed s) (count limit : ℕ) (bits tail : List 
       next_pre = pre ++ padded_code s code
 
       first-len : length first ≡ interval_len s
-      first-len = length-take-le (interval_len s) xs (omega (arith, len, suc-mul m (interval_len s)))
+      first-len = length-take-le (interval_len s) xs (omega arith)
 
       behind-len : length behind ≡ m * interval_len s
-      behind-len = omega (arith, length-drop (interval_len s) xs, len, suc-mul m (interval_len s))
+      behind-len = omega (arith, length-drop (interval_len s) xs, suc-mul m (interval_len s))
 
       some : 0 < length first
       some = omega (arith, first-len, interval_len-positive s a)
@@ -122,10 +121,10 @@ module _ (s : Settings) (a : IsAllowed s) (count limit : ℕ) (bits tail : List 
       part : IsPart s count limit k (k * s.interval) (length pre) pre bits code first
       part = part_of s count limit k (k * s.interval) (length pre) pre code (stream_of s behind ++ tail) bits first a some few
           (ReadsBlocks-unpadded_bits s first a first-held some few) refl refl spelled-here
-          (omega (arith, full, length-blocks_of s first a, enough, blocks k m s.interval))
+          (omega (arith, full, length-blocks_of s first a, blocks k m s.interval))
 
       next : k * s.interval + end_of s 0 part.sets ≡ suc k * s.interval
-      next = omega (arith, part.reaches, part.within, full, suc-mul k s.interval)
+      next = omega (arith, part.reaches, part.within, full)
 
       start : begin_of s bits (k * s.interval + end_of s 0 part.sets) (length pre + length code) ≡ length next_pre
       start = simp (spelled-here, next, begin_of-code)
@@ -138,14 +137,14 @@ module _ (s : Settings) (a : IsAllowed s) (count limit : ℕ) (bits tail : List 
 
       later : Through m (suc k) behind next_pre
       later = on (suc k) behind next_pre behind-len (held-drop s (interval_len s) xs held) (IsAligned-code s code pre aligned) spelled-later
-          (omega (arith, enough, block-is))
+          (omega arith)
 
       bit-is : length (next_pre ++ stream_of s behind) ≡ length (pre ++ stream_of s xs)
       bit-is = rw (append_assoc, cut)
 
   through : (m : ℕ) → GoesThrough m
   through zero k xs pre len held aligned spelled enough =
-      let none : xs ≡ [] = nil_from_length xs (omega (arith, len)) in
+      let none : xs ≡ [] = nil_from_length xs (omega arith) in
       let same : (k + 0) * s.interval ≡ k * s.interval = ap (λ n. n * s.interval) (omega arith) in
       ([], (same, rw (none, stream_of-nil, append-nil)))
   through (suc m) k xs pre len held aligned spelled enough = through_one m (through m) k xs pre len held aligned spelled enough
@@ -172,18 +171,17 @@ passed-begin s limit samples rest i b a held passed =
     regrouped i r j = omega arith
 
     within : i * interval_len s ≤ length samples
-    within = omega (arith, before_count s (length samples) (i * s.interval) a needed, regrouped i s.interval s.block_size)
+    within = omega (arith, before_count s (length samples) (i * s.interval) a needed)
 
     no_more : 0 + i ≡ i
     no_more = omega arith
 
     spelled : stream_of s samples ++ rest ≡ [] ++ (stream_of s front ++ (stream_of s back ++ rest))
-    spelled = rw (cut_code s a samples i within, append_assoc (stream_of s front) (stream_of s back) rest)
+    spelled = rw (cut_code s a samples i within, append_assoc)
 
     way : Through s a (length samples) limit (stream_of s samples ++ rest) (stream_of s back ++ rest) i 0 front []
     way = through s a (length samples) limit (stream_of s samples ++ rest) (stream_of s back ++ rest) i 0 front []
-        (length-take-le (i * interval_len s) samples within) (held-take s (i * interval_len s) samples held) (λ _. refl) spelled
-        (grind arith)
+        (length-take-le (i * interval_len s) samples within) (held-take s (i * interval_len s) samples held) (λ _. refl) spelled (grind arith)
 
     no_start : 0 * s.interval ≡ 0
     no_start = omega arith

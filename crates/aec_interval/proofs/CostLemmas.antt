@@ -5,7 +5,6 @@ use Rattle.std.specs.Prelude.{◌==◌}
 use Rattle.std.specs.List.{flat_map, list_all}
 use Rattle.std.proofs.lemmas.List.{length-append}
 use Rattle.std.proofs.lemmas.Bool.{cond_both}
-use Rattle.std.proofs.lemmas.Bool.Decides.{nat_tests}
 use Rattle.aec_params.specs.declared.settings.Settings.{Settings}
 use Rattle.aec_params.specs.Params.{IsAllowed, id_len}
 use Rattle.aec_params.specs.Blocks.{Block, is_zero_block}
@@ -91,22 +90,20 @@ with_zeros-cost s p reference k (zero_run later a ∷ groups) h g =
 -- ---- one coded data set before the rest of its segment
 
 pub run_code-at_end : (s : Settings) (p m z : ℕ) → 0 < z → z ≤ run_len s p m → run_code z true ≤ m
-run_code-at_end s p m z h l = grind (arith, nat_tests)
+run_code-at_end s p m z h l = grind arith
 
 run_code-inside : (s : Settings) (p m : ℕ) → run_len s p m < segment_left s p → run_code (run_len s p m) false ≤ m
-run_code-inside s p m h = grind (arith, nat_tests)
+run_code-inside s p m h = grind arith
 
 single_step : (s : Settings) (p : ℕ) (b : Block) (c : CodedDataSet) (x : List Block) → length (cds_bits s (shortest_spelling s b)) ≤ length (cds_bits s c)
     → id_len s + length (reference_bits s b.reference) + 2 ≤ length (cds_bits s c) → AreGroupsFrom s p (groups_of x)
     → group_cost s (groups_of (b ∷ x)) ≤ length (cds_bits s c) + group_cost s (groups_of x)
 single_step s p b c x least longer g =
     cond_both (is_zero_block b) (with_zero_block b.reference (groups_of x)) (single_block b ∷ groups_of x)
-    (λ groups. group_cost s groups ≤ length (cds_bits s c) + group_cost s (groups_of x))
-    (λ _. rw (with_zeros-one b.reference (groups_of x)) (omega (
+    (λ groups. group_cost s groups ≤ length (cds_bits s c) + group_cost s (groups_of x)) (λ _. rw with_zeros-one (omega (
       arith,
       with_zeros-cost s p b.reference 1 (groups_of x) (omega arith) g,
-      length-run s
-          b.reference (run_code 1 false),
+      length-run s b.reference (run_code 1 false),
     )))
     (λ _. omega (arith, length-append (cds_bits s (shortest_spelling s b)) (flat_map (cds_bits s) (group_sets s (groups_of x)))))
 
@@ -123,13 +120,14 @@ run_step s p q reference m x some ends g = rw together (⊎_elim last inside end
 
     inside : k < segment_left s p → group_cost s (with_zeros reference k (groups_of x)) ≤ length (cds_bits s (run_set reference m)) + group_cost s
         (groups_of x)
-    inside l = omega (
-      arith,
-      with_zeros-cost s q reference k (groups_of x) some g,
-      length-run s reference m,
-      length-run s reference (run_code k false),
-      run_code-inside s p m l,
-    )
+    inside l =
+        omega (
+          arith,
+          with_zeros-cost s q reference k (groups_of x) some g,
+          length-run s reference m,
+          length-run s reference (run_code k false),
+          run_code-inside s p m l,
+        )
 
     last : x ≡ [] → group_cost s (with_zeros reference k (groups_of x)) ≤ length (cds_bits s (run_set reference m)) + group_cost s (groups_of x)
     last e =
@@ -137,8 +135,7 @@ run_step s p q reference m x some ends g = rw together (⊎_elim last inside end
           arith,
           length-append (cds_bits s (run_set reference (run_code k true))) [],
           length-run s reference (run_code k true),
-          length-run
-              s reference m,
+          length-run s reference m,
           run_code-at_end s p m k some (omega arith),
         ))
 
@@ -153,7 +150,7 @@ body_step s p reference (uncompressed_values values) x a h l ends due =
     (shortest-uncompressed_values s reference values) (plain-longer s (is_reference_block s p) reference values a l.shape.body.0)
     (AreGroupsFrom-groups_of s (suc p) x due.1)
 body_step s p reference (value_pairs members) x a h l ends due =
-    let two : 2 ≤ length members = omega (arith, block_size-least s a, l.shape.body) in
+    let two : 2 ≤ length members = omega (arith, block_size-least s a) in
     single_step s (suc p) (record { reference = reference; values = placed_members reference members })
     (record { reference = reference; body = value_pairs members }) x
     (shortest-value_pairs s reference members two) (pairs-longer s reference members two) (AreGroupsFrom-groups_of s (suc p) x due.1)

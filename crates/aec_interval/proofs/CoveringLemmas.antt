@@ -32,8 +32,8 @@ pub IsCovering-cons : (s : Settings) (n p : ℕ) (c : CodedDataSet) (sets : List
     → cds_blocks s p c ≡ front → length front ≡ block_count s p c → 0 < block_count s p c
     → IsCovering s n (p + block_count s p c) sets behind → IsCovering s n p (c ∷ sets) (front ++ behind)
 IsCovering-cons s n p c sets front behind l e len some h = record {
-  reach = omega (arith, length-append front behind, h.reach);
-  covers = (omega (arith, h.reach), l, h.covers);
+  reach = omega (arith, length-append front behind);
+  covers = (omega arith, l, h.covers);
   stand_for = rw (length-append, e, take-append-add, h.stand_for);
 }
 
@@ -93,8 +93,7 @@ block_written s p b h k =
       lawful = record {
         shape = w.shape;
         small = w.small;
-        within =
-            le-leb (block_count s p (shortest_spelling s b)) (segment_left s p) (omega (arith, w.single p));
+        within = le-leb (block_count s p (shortest_spelling s b)) (segment_left s p) (omega arith);
       };
       blocks = w.blocks p;
       count = w.single p;
@@ -127,8 +126,8 @@ IsCovering-overhang : (s : Settings) (n p z m : ℕ) (reference : Option ℕ) �
 IsCovering-overhang s n p z m reference h e most reach =
     let len = length-group_blocks s p (zero_run reference z) h in
     IsCovering-last s n p (record { reference = reference; body = zero_blocks m }) (group_blocks s (zero_run reference z))
-    (run_lawful s p reference m h.1 (omega arith)) (omega arith) (omega (arith, h.0)) (omega (arith, h.0))
-    (rw (length-replicate (z - 1) (zero_block s None), take-replicate (z - 1) (run_len s p m - 1) (zero_block s None) (omega arith)))
+    (run_lawful s p reference m h.1 (omega arith)) (omega arith) (omega arith) (omega arith)
+    (rw (length-replicate (z - 1), take-replicate (z - 1) (run_len s p m - 1) (zero_block s None) (omega arith)))
 
 -- such a run, if no group, coded data set or block comes after it
 IsCovering-last_run : (s : Settings) (n p z : ℕ) (reference : Option ℕ) (groups : List Group) (sets : List CodedDataSet) (behind : List Block)
@@ -170,7 +169,7 @@ IsCovering-run s n p left z reference groups sets behind h k most ends reach c =
         (flat_map (group_blocks s) groups ++ behind) h (run_written s p z m reference h.1 (omega arith) e) c
 
     last : is_empty groups ≡ true → run_len s p m ≡ segment_left s p → Goal
-    last l e = ⊎_elim (λ f. exact (omega (arith, empty_groups s groups l)))
+    last l e = ⊎_elim (λ f. exact (omega (arith, empty_groups)))
         (λ w. IsCovering-last_run s n p z reference groups sets behind h l w.0 w.1 e (omega arith) reach) ends
 
 -- what a segment has left after its first group
@@ -199,7 +198,7 @@ left_after s n p left g groups sets behind h k most ends c =
       here = here;
       fits = omega arith;
       ends = ⊎_elim (λ f. inl (omega arith)) (λ f. inr f) ends;
-      reach = omega (arith, c.reach);
+      reach = omega arith;
       later = λ f. rw (segment_left-later s p z (omega arith), here);
       later_fits = omega arith;
       later_ends = ⊎_elim (λ f. inl (omega arith)) (λ f. inr f) ends;
@@ -214,12 +213,11 @@ pub IsCovering-groups : (s : Settings) (n p left : ℕ) (groups : List Group) (s
 IsCovering-groups s n p left [] sets behind h k most ends c = subst (λ q. IsCovering s n q sets behind) (omega arith) c
 IsCovering-groups s n p left (zero_run reference z ∷ groups) sets behind h k most ends c =
     let d = left_after s n p left (zero_run reference z) groups sets behind h k most ends c in
-    rw (append_assoc (group_blocks s (zero_run reference z)) (flat_map (group_blocks s) groups) behind)
-    (IsCovering-run s n p left z reference groups sets behind h.0 d.here d.fits d.ends d.reach
+    rw append_assoc (IsCovering-run s n p left z reference groups sets behind h.0 d.here d.fits d.ends d.reach
     (IsCovering-groups s n (p + z) (left - z) groups sets behind h.1 d.later d.later_fits d.later_ends d.later_covered))
 IsCovering-groups s n p left (single_block b ∷ groups) sets behind h k most ends c =
     let d = left_after s n p left (single_block b) groups sets behind h k most ends c in
-    rw (append_assoc (group_blocks s (single_block b)) (flat_map (group_blocks s) groups) behind)
+    rw append_assoc
     (IsCovering-written s n p (single_block b) (shortest_spelling s b) (group_sets s groups ++ sets) (flat_map (group_blocks s) groups ++ behind) h.0
-    (block_written s p b h.0 (omega (arith, d.here, d.fits))) (IsCovering-groups s n (p + 1) (left - 1) groups sets behind h.1 d.later d.later_fits
+    (block_written s p b h.0 (omega arith)) (IsCovering-groups s n (p + 1) (left - 1) groups sets behind h.1 d.later d.later_fits
     d.later_ends d.later_covered))

@@ -3,7 +3,6 @@ use Rattle.std.proofs.Common.{ℕ, ◌/◌, Bool, List, [], ◌∷◌, ◌++◌,
 use Rattle.aec_params.specs.declared.settings.Settings.{Settings}
 use Rattle.aec_params.specs.Params.{IsAllowed, interval_len}
 use Rattle.aec_params.specs.Stored.{byte_groups}
-use Rattle.aec_params.specs.Streams.{stream_of}
 use Rattle.aec_params.proofs.SampleLaws.{interval_len-positive}
 use Rattle.aec_interval.specs.Feeding.{Coder, fresh_coder, whole_front, left_behind, taken_of, Feeds, FeedsAll}
 use Rattle.aec_interval.specs.CutLaws.{all_bytes, IsStreamSoFar, AllCutsMakeNoDifference}
@@ -24,10 +23,10 @@ pieces_taken : (s : Settings) (limit : ℕ) (pieces : List (List ℕ)) (bytes : 
     → Feeds (fresh_coder s limit) bytes b0 b1 d → FeedsAll d pieces b1 b2 e → Feeds (fresh_coder s limit) (bytes ++ all_bytes pieces) b0 b2 e
 pieces_taken s limit [] bytes b0 b1 b2 d e a first (bits, same) =
     let c = fresh_coder s limit in
-    rw (append-nil bytes, same, bits) first
+    rw (append-nil, same, bits) first
 pieces_taken s limit (piece ∷ pieces) bytes b0 b1 b2 d e a first (between, (next, (feeds, later))) =
     let c = fresh_coder s limit in
-    rw (append_assoc bytes piece (all_bytes pieces)) at (pieces_taken s limit pieces (bytes ++ piece) b0 between b2 next e a
+    rw append_assoc at (pieces_taken s limit pieces (bytes ++ piece) b0 between b2 next e a
     (feeds_both c d next bytes piece b0 b1 between a first feeds) later)
 
 all_taken : (s : Settings) (limit : ℕ) (pieces : List (List ℕ)) (before after : List Bool) (d : Coder) → IsAllowed s
@@ -50,10 +49,9 @@ stream_so_far s limit bytes before after d a feeds =
           rw (
             feeds.coder,
             feeds.bits,
-            append_assoc before (stream_of s front) (stream_of s left),
+            append_assoc,
             ← (stream_of-append s (length samples / n) front left a (length-whole_front n samples (interval_len-positive s a))),
-            whole_and_left n
-                samples,
+            whole_and_left,
           );
       counted = rw feeds.coder (omega arith);
       within = taken_within s limit (byte_groups s bytes) feeds.taken;
@@ -66,7 +64,7 @@ cuts_make_no_difference s limit a = record {
   refused = λ pieces piece rest before between after d fault feeds stops.
       let c = fresh_coder s limit in
       let bytes = all_bytes pieces in
-      rw (append_assoc bytes piece rest) at (stops_before c (bytes ++ piece) rest before after fault a
+      rw append_assoc at (stops_before c (bytes ++ piece) rest before after fault a
       (stops_later c d bytes piece before between after fault a (all_taken s limit pieces before between d a feeds) stops));
   judged = λ bytes. judged_all s limit (byte_groups s bytes);
   begun = λ bits. nothing_begun s limit bits a;

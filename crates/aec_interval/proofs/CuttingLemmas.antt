@@ -3,7 +3,7 @@
 use Rattle.std.proofs.Common.{◌≡◌, ℕ, zero, suc, ◌+◌, ◌-◌, ◌*◌, ◌/◌, ◌%◌, ◌<◌, ◌≤◌, List, [], ◌∷◌, ◌++◌, length, take, drop, refl, append-nil, arith, ⊎_elim}
 use Rattle.std.proofs.Math.Nat.{mod-eq_of_lt, mod_self, mul-div_cancel, mul-mod_left}
 use Rattle.std.proofs.lemmas.List.{take_at, drop_at, take-append-drop, length-take, length-drop, length-append, take_all, drop_all}
-use Rattle.std.proofs.lemmas.Nat.{div-add-mod', mod_below}
+use Rattle.std.proofs.lemmas.Nat.{mod_below}
 pub use Rattle.std.proofs.lemmas.Grind.{div_ceil_times as div_ceil-bounds}
 use Rattle.std.proofs.lemmas.Bool.{cases_lt}
 use Rattle.std.specs.Int.{div_ceil}
@@ -15,10 +15,10 @@ pub div_ceil-one : (m n : ℕ) → 0 < m → m ≤ n → div_ceil m n ≡ 1
 div_ceil-one m n h k =
     let e : m - n ≡ 0 = omega arith in
     let d : div_ceil (m - n) n ≡ 0 = rw e (div_ceil-zero n (omega arith)) in
-    omega (arith, div_ceil-step m n (omega arith) h)
+    omega (arith, div_ceil-step)
 
 pub div_ceil-positive : (m n : ℕ) → 0 < n → 0 < m → 0 < div_ceil m n
-div_ceil-positive m n h k = omega (arith, div_ceil-step m n h k)
+div_ceil-positive m n h k = omega (arith, div_ceil-step)
 
 -- the first piece of a list, and what comes after it
 take_front : {X : Type 0} (n : ℕ) (front rest : List X) → length front ≤ n → (0 < length rest → length front ≡ n) → take n (front ++ rest) ≡ front
@@ -47,10 +47,10 @@ pub pieces_of-cons : {X : Type 0} (n : ℕ) (front rest : List X) → IsPieceBef
 pieces_of-cons n front rest h = rw (count, take_front n front rest h.fits h.full, drop_front n front rest h.fits h.full)
   where
     left : length (front ++ rest) - n ≡ length rest
-    left = ⊎_elim (λ l. omega (arith, length-append front rest, h.full l)) (λ l. omega (arith, length-append front rest, h.fits)) (cases_lt 0 (length rest))
+    left = ⊎_elim (λ l. omega (arith, length-append front rest)) (λ l. omega (arith, length-append front rest)) (cases_lt 0 (length rest))
 
     count : div_ceil (length (front ++ rest)) n ≡ suc (div_ceil (length rest) n)
-    count = rw (div_ceil-step (length (front ++ rest)) n (omega (arith, h.some, h.fits)) (omega (arith, length-append front rest, h.some)), left)
+    count = rw (div_ceil-step (length (front ++ rest)) n (omega arith) (omega (arith, length-append front rest)), left)
 
 -- P holds of each list if it holds of the empty list, and of a piece and the rest if it holds of
 -- the rest
@@ -61,8 +61,8 @@ module _ {X : Type 0} (P : List X → Type 0) (n : ℕ) (positive : 0 < n) (noth
   by_pieces_within zero (x ∷ xs) h = absurd (omega arith)
   by_pieces_within (suc fuel) (x ∷ xs) h =
       let whole = x ∷ xs in
-      rw (take-append-drop n whole) at (piece (take n whole) (drop n whole) (first_piece n whole positive (omega arith))
-      (by_pieces_within fuel (drop n whole) (omega (arith, length-drop n whole, h, positive))))
+      rw take-append-drop at (piece (take n whole) (drop n whole) (first_piece n whole positive (omega arith))
+      (by_pieces_within fuel (drop n whole) (omega (arith, length-drop n whole))))
 
   pub by_pieces : (xs : List X) → P xs
   by_pieces xs = by_pieces_within (length xs) xs (omega arith)
@@ -83,14 +83,14 @@ up_to_multiple-fills n m h = ⊎_elim part whole (cases_lt 0 (m % n))
         let z : n - m % n ≡ n = omega arith in
         let e : up_to_multiple n m ≡ 0 = rw (z, mod_self) in
         let c : div_ceil m n ≡ m / n = omega arith in
-        grind (arith, div-add-mod')
+        grind arith
 
     part : 0 < m % n → m + up_to_multiple n m ≡ div_ceil m n * n
     part l =
         let below = mod_below m n h in
         let e : up_to_multiple n m ≡ n - m % n = mod-eq_of_lt (omega arith) in
         let c : div_ceil m n ≡ m / n + 1 = omega arith in
-        grind (arith, div-add-mod')
+        grind arith
 
 pub div_ceil-times : (k n : ℕ) → 0 < n → div_ceil (k * n) n ≡ k
-div_ceil-times k n h = omega (arith, mul-div_cancel k h, mul-mod_left k n)
+div_ceil-times k n h = omega (arith, mul-div_cancel, mul-mod_left)

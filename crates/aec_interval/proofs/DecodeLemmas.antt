@@ -85,10 +85,9 @@ kept_run s (Some count) bits i b reference z some wanted = ⊎_elim fewer all (c
         ≡ kept_blocks s (Some count) i (zero_block s reference ∷ replicate (z - 1) (zero_block s None))
     all h =
         rw (
-          min_left z (div_ceil count s.block_size - i) h,
+          min_left,
           ← (run_front s reference z z some (omega arith)),
-          take_all z
-              (zero_block s reference ∷ replicate (z - 1) (zero_block s None)) (run_within s reference z some),
+          take_all z (zero_block s reference ∷ replicate (z - 1) (zero_block s None)) (run_within s reference z some),
           take_all (div_ceil count s.block_size - i)
               (zero_block s reference ∷ replicate (z - 1) (zero_block s None)) (omega (arith, run_within s reference z some, h)),
         )

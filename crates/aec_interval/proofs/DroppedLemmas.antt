@@ -36,7 +36,7 @@ module _ (s : Settings) (count : Option ℕ) (limit : ℕ) (bits : List Bool) (s
       padded : s.pad && (i % s.interval == 0) ≡ true → begin_of s bits i (start + b) ≡ start + begin_of s (drop start bits) i b
       padded t =
           let aligned = whole (and_parts s.pad (i % s.interval == 0) t).0 in
-          let same : here ≡ start + there = omega (arith, aligned, within, length-drop start bits) in
+          let same : here ≡ start + there = omega (arith, length-drop start bits) in
           rw (t, same)
 
       plain : s.pad && (i % s.interval == 0) ≡ false → begin_of s bits i (start + b) ≡ start + begin_of s (drop start bits) i b
@@ -75,8 +75,7 @@ module _ (s : Settings) (count : Option ℕ) (limit : ℕ) (bits : List Bool) (s
   leads-dropped i b [] j e leads = (b, leads.1, (leads.0, refl))
   leads-dropped i b (c ∷ sets) j e leads =
       let next = next_block s i c in
-      let later = leads-dropped next (next_begin s (drop start bits) i b c) sets j e
-      (rw (next-dropped i b c) at leads.4) in
+      let later = leads-dropped next (next_begin s (drop start bits) i b c) sets j e (rw next-dropped at leads.4) in
       (later.0, later.1, (sym (wanted-dropped count i b) ∙ leads.0, stands-dropped b c leads.1, leads.2, leads.3, later.2))
 
   pub from_start : (sets : List CodedDataSet) (j e : ℕ) → LeadsTo s count limit bits 0 start sets j e

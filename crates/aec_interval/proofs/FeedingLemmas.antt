@@ -6,7 +6,6 @@ use Rattle.aec_params.specs.declared.fault.Fault.{Fault}
 use Rattle.aec_params.specs.declared.fault.Fault.TheVariants.{Memory}
 use Rattle.aec_params.specs.Params.{IsAllowed, interval_len, storage_len}
 use Rattle.aec_params.specs.Stored.{byte_groups}
-use Rattle.aec_params.specs.Streams.{stream_of}
 use Rattle.aec_params.proofs.StoredLemmas.{storage-least}
 use Rattle.aec_params.proofs.SampleLaws.{interval_len-positive}
 use Rattle.aec_interval.specs.Feeding.{Coder, whole_front, left_behind, taken_of, samples_with, fed, fed_bits, Feeds, StopsFeeding, refused, no_memory}
@@ -34,7 +33,7 @@ taken_of-refused c p q fault a refusal =
 
 length-taken : (c : Coder) (p q : List ℕ) → IsAllowed c.settings → (taken_of c p).refusal ≡ None
     → length (taken_of c (p ++ q)).samples ≡ length (taken_of c p).samples + length (taken_of (fed c p) q).samples
-length-taken c p q a none = rw (taken_of-append c p q a none) (length-append (taken_of c p).samples (taken_of (fed c p) q).samples)
+length-taken c p q a none = rw taken_of-append (length-append (taken_of c p).samples (taken_of (fed c p) q).samples)
 
 samples_with-append : (c : Coder) (p q : List ℕ) → IsAllowed c.settings → (taken_of c p).refusal ≡ None
     → samples_with c (p ++ q) ≡ samples_with c p ++ (taken_of (fed c p) q).samples
@@ -61,17 +60,11 @@ pub fed-append : (c : Coder) (p q : List ℕ) → IsAllowed c.settings → (take
 fed-append c p q a none =
     let s = c.settings in
     let taken = taken_of-append c p q a none in
-    let some : 0 < storage_len s = omega (arith, storage-least s a) in
+    let some : 0 < storage_len s = omega (arith, storage-least) in
     same_coding s c.limit (fed (fed c p) q).held (fed c (p ++ q)).held (fed (fed c p) q).rest (fed c (p ++ q)).rest (fed (fed c p) q).count
     (fed c (p ++ q)).count (fed (fed c p) q).refusal (fed c (p ++ q)).refusal
-    (rw (
-      samples_with-append c p q a none,
-      left_behind-append (interval_len s) (samples_with c p) (taken_of (fed c p) q).samples
-          (interval_len-positive s a),
-    ))
-    (rw (← left_behind-append, append_assoc))
-    (omega (arith, length-taken c p q a none))
-    (rw taken)
+    (rw (samples_with-append, left_behind-append (interval_len s) (samples_with c p) (taken_of (fed c p) q).samples (interval_len-positive s a)))
+    (rw (← left_behind-append, append_assoc)) (omega (arith, length-taken)) (rw taken)
 
 -- ---- one piece after another
 
@@ -99,18 +92,14 @@ stops_next c p q b0 b1 b2 fault a none bits (no_memory k front behind cut whole 
     let xs = samples_with c p in
     let w = whole_front n xs in
     let l = length-whole_front n xs (interval_len-positive s a) in
-    no_memory (length xs / n + k) (w ++ front) behind
-    (cc (
+    no_memory (length xs / n + k) (w ++ front) behind (cc (
       samples_with-append c p q a none,
       whole_and_left n xs,
       append_assoc w (left_behind n xs) (taken_of (fed c p) q).samples,
-      append_assoc w front
-          behind,
+      append_assoc w front behind,
     ))
-    (omega (arith, length-append w front, l, whole))
-    left
-    (omega (arith, some, length-taken c p q a none))
-    (rw (e, bits, append_assoc b0 (fed_bits c p) (stream_of s front), stream_of-append s (length xs / n) w front a l))
+    (omega (arith, length-append w front)) left (omega (arith, length-taken c p q a none))
+    (rw (e, bits, append_assoc, stream_of-append s (length xs / n)))
 
 pub stops_later : (c d : Coder) (p q : List ℕ) (b0 b1 b2 : List Bool) (fault : Fault) → IsAllowed c.settings → Feeds c p b0 b1 d
     → StopsFeeding d q b1 b2 fault → StopsFeeding c (p ++ q) b0 b2 fault
@@ -121,15 +110,12 @@ pub stops_before : (c : Coder) (p q : List ℕ) (b0 b1 : List Bool) (fault : Fau
     → StopsFeeding c (p ++ q) b0 b1 fault
 stops_before c p q b0 b1 fault a (refused f refusal e) =
     let same = taken_of-refused c p q f a refusal in
-    refused f (rw same refusal)
-    (rw (e, same))
+    refused f (rw same refusal) (rw (e, same))
 stops_before c p q b0 b1 fault a (no_memory k front behind cut whole left some e) = more (taken_of c p).refusal refl
   where
     more : (o : Option Fault) → (taken_of c p).refusal ≡ o → StopsFeeding c (p ++ q) b0 b1 Memory
     more None none =
-        no_memory k front (behind ++ (taken_of (fed c p) q).samples)
-        (rw (samples_with-append, cut, append_assoc)) whole
-        (omega (arith, left, length-append behind (taken_of (fed c p) q).samples)) (omega (arith, some, length-taken c p q a none)) e
+        no_memory k front (behind ++ (taken_of (fed c p) q).samples) (rw (samples_with-append, cut, append_assoc)) whole
+        (omega (arith, length-append behind (taken_of (fed c p) q).samples)) (omega (arith, length-taken c p q a none)) e
     more (Some f) refusal =
-        no_memory k front behind (rw (taken_of-refused c p q f a refusal) cut) whole left
-        (grind (arith, some, taken_of-refused c p q f a refusal)) e
+        no_memory k front behind (rw (taken_of-refused c p q f) cut) whole left (grind (arith, taken_of-refused c p q f a refusal)) e

@@ -31,14 +31,13 @@ blocks-front : (s : Settings) (k m : ℕ) (xs : List ℤ) → IsAllowed s → le
 blocks-front s k zero xs a len =
     let same : k + 0 ≡ k = omega arith in
     let whole : length xs ≡ k * s.block_size = rw (len, same) in
-    rw (take_all (k * s.block_size) xs (omega (arith, whole)), take_all k (all_blocks_of s xs) (omega (arith, number_of_blocks s k xs a whole)))
+    rw (take_all (k * s.block_size) xs (omega arith), take_all k (all_blocks_of s xs) (omega (arith, number_of_blocks s k xs a whole)))
 blocks-front s k (suc m) xs a len =
     rw (
       fewer,
       blocks-front s k m front a front-len,
       pushed,
-      take-append-le k (all_blocks_of s front) (next_block_of s front back ∷ [])
-          (omega (arith, number_of_blocks s (k + m) front a front-len)),
+      take-append-le k (all_blocks_of s front) (next_block_of s front back ∷ []) (omega (arith, number_of_blocks s (k + m) front a front-len)),
     )
   where
     n : ℕ
@@ -57,10 +56,10 @@ blocks-front s k (suc m) xs a len =
     within k m j = mul-le-mul_right j (omega arith)
 
     front-len : length front ≡ n
-    front-len = omega (arith, length-take n xs, len, one_more k m s.block_size)
+    front-len = omega (arith, length-take n xs, one_more k m s.block_size)
 
     back-len : length back ≡ s.block_size
-    back-len = omega (arith, length-drop n xs, len, one_more k m s.block_size)
+    back-len = omega (arith, length-drop n xs, one_more k m s.block_size)
 
     pushed : all_blocks_of s xs ≡ all_blocks_of s front ++ next_block_of s front back ∷ []
     pushed = cc (take-append-drop n xs, all_blocks_of-push s front back (k + m) (block_size-positive s a) (interval-positive s a) front-len back-len)
@@ -77,18 +76,18 @@ FillBlocks-fewer s k xs blocks a within filled = record {
 }
   where
     split : length blocks ≡ k + (length blocks - k)
-    split = omega (arith, within)
+    split = omega arith
 
     enough : k * s.block_size ≤ length xs
-    enough = omega (arith, filled.whole, mul-le-mul_right s.block_size within)
+    enough = omega (arith, mul-le-mul_right s.block_size within)
 
 -- ---- the way to fewer blocks
 
 -- what comes after the first elements matters only up to place m
 take-same : {X : Type 0} (m : ℕ) (xs ys zs : List X) → take (m - length xs) ys ≡ take (m - length xs) zs → take m (xs ++ ys) ≡ take m (xs ++ zs)
-take-same m [] ys zs same = rw (sub-zero m) at same
+take-same m [] ys zs same = rw sub-zero at same
 take-same zero (x ∷ xs) ys zs same = refl
-take-same (suc m) (x ∷ xs) ys zs same = rw (take-same m xs ys zs (rw (suc-sub-suc m (length xs)) at same))
+take-same (suc m) (x ∷ xs) ys zs same = rw (take-same m xs ys zs (rw suc-sub-suc at same))
 
 module _ (s : Settings) (a : IsAllowed s) (limit : ℕ) (bits : List Bool) (n k : ℕ) where
   abbrev needed : ℕ
@@ -115,20 +114,19 @@ module _ (s : Settings) (a : IsAllowed s) (limit : ℕ) (bits : List Bool) (n k 
       let next = next_block s i c in
       let here : length (cds_blocks s (i % s.interval) c) ≡ block_count s (i % s.interval) c =
       length-cds_blocks s (i % s.interval) c (mod-lt i (interval-positive s a)) in
-      let behind : needed - i - length (cds_blocks s (i % s.interval) c) ≡ needed - next = omega (arith, here) in
+      let behind : needed - i - length (cds_blocks s (i % s.interval) c) ≡ needed - next = omega arith in
       record {
         sets = c ∷ h.sets;
         end_block = h.end_block;
         end_bit = h.end_bit;
         leads = (lt-ltb i needed below, leads.1, leads.2, refl, h.leads);
         done = h.done;
-        kept = take-same (needed - i) (cds_blocks s (i % s.interval) c) (stream_blocks s next sets) (stream_blocks s next h.sets)
-            (rw behind h.kept);
+        kept = take-same (needed - i) (cds_blocks s (i % s.interval) c) (stream_blocks s next sets) (stream_blocks s next h.sets) (rw behind h.kept);
       }
 
   -- the coded data sets that lead to n samples lead to fewer samples first
   pub fewer_blocks : (i b : ℕ) (sets : List CodedDataSet) (j e : ℕ) → LeadsTo s (Some n) limit bits i b sets j e → needed ≤ j → FewerRead i b sets
-  fewer_blocks i b [] j e leads enough = no_more i b [] (omega (arith, leads.0))
+  fewer_blocks i b [] j e leads enough = no_more i b [] (omega arith)
   fewer_blocks i b (c ∷ sets) j e leads enough =
       let later = fewer_blocks (next_block s i c) (next_begin s bits i b c) sets j e leads.4 enough in
       ⊎_elim (λ below. one_more_set i b c sets j e below leads later) (no_more i b (c ∷ sets)) (cases_lt i needed)
@@ -138,8 +136,8 @@ div_ceil-le k n j positive within = ⊎_elim (λ above. absurd (past above)) (λ
   where
     past : div_ceil n j < div_ceil k j → ⊥
     past above =
-        let next : suc (div_ceil n j) * j ≤ div_ceil k j * j = mul-le-mul_right j (omega (arith, above)) in
-        omega (arith, next, suc-mul (div_ceil n j) j, div_ceil-bounds n j positive, div_ceil-bounds k j positive)
+        let next : suc (div_ceil n j) * j ≤ div_ceil k j * j = mul-le-mul_right j (omega arith) in
+        omega (arith, suc-mul (div_ceil n j) j, div_ceil-bounds n j positive, div_ceil-bounds k j positive)
 
 pub IsReading-fewer : (s : Settings) (limit n k : ℕ) (bits : List Bool) (samples : List ℤ) → IsAllowed s → k ≤ n
     → IsReading s (Some n) limit bits samples → IsReading s (Some k) limit bits (take k samples)
@@ -151,9 +149,8 @@ IsReading-fewer s limit n k bits samples a within h = record {
   counted =
       rw (
         h.counted,
-        take-take k n h.all_samples within,
-        take-take k (needed_blocks * s.block_size) h.all_samples
-            (div_ceil-bounds k s.block_size (block_size-positive s a)).0,
+        take-take,
+        take-take k (needed_blocks * s.block_size) h.all_samples (div_ceil-bounds k s.block_size (block_size-positive s a)).0,
       );
 }
   where
@@ -182,4 +179,4 @@ IsReading-fewer s limit n k bits samples a within h = record {
     number = rw are (length-take-le all_needed stream (omega (arith, reached, stream-len)))
 
     kept : take (needed_blocks - 0) stream ≡ take needed_blocks h.blocks
-    kept = rw (sub-zero needed_blocks, are, take-take needed_blocks all_needed stream fewer)
+    kept = rw (sub-zero, are, take-take needed_blocks all_needed stream fewer)

@@ -35,7 +35,7 @@ pub IsFull-block_after : (s : Settings) (o : Option ℤ) (v : List ℤ) → IsAl
 IsFull-block_after s o [] a some h = absurd (omega arith)
 IsFull-block_after s o (x ∷ v) a some h =
     record {
-      len = length-values_after s o (filled_samples s (x ∷ v)) ∙ length-filled_block s (x ∷ v) some (omega (arith, h.few));
+      len = length-values_after s o (filled_samples s (x ∷ v)) ∙ length-filled_block s (x ∷ v) some (omega arith);
       values = small_values s o (filled_samples s (x ∷ v)) a h.previous_held (all-filled_samples s x v h.held);
       reference = fits_reference s o x v a h.held.0;
     }
@@ -44,21 +44,20 @@ IsFull-block_after s o (x ∷ v) a some h =
 values-filled : (s : Settings) (o : Option ℤ) (x last : ℤ) (xs : List ℤ) (n : ℕ) → length (x ∷ xs) + n ≡ s.block_size → Some last ≡ last_or (Some x) xs
     → values_after s o (x ∷ xs) ++ replicate n (mapped_value s last last) ≡ values_after s o (filled_samples s (x ∷ xs))
 values-filled s o x last xs n size f =
-    ap (λ l. values_after s o (x ∷ xs) ++ l) (cc (mapped_after-replicate s last n))
-    ∙ sym (values_after-append s o (x ∷ xs) (replicate n last))
+    ap (λ l. values_after s o (x ∷ xs) ++ l) (cc (mapped_after-replicate s last n)) ∙ sym (values_after-append s o (x ∷ xs) (replicate n last))
     ∙ ap₂ (λ k y. values_after s o ((x ∷ xs) ++ replicate k y)) missing (cc)
   where
     filled : length (x ∷ xs) + up_to_multiple s.block_size (length (x ∷ xs)) ≡ s.block_size
     filled =
         omega (
           arith,
-          length-filled_block s (x ∷ xs) (omega arith) (omega (arith, size)),
+          length-filled_block s (x ∷ xs) (omega arith) (omega arith),
           length-append (x ∷ xs) (replicate (up_to_multiple s.block_size (length (x ∷ xs))) (unwrap_or (last_or (Some x) xs) (pos 0))),
           length-replicate (up_to_multiple s.block_size (length (x ∷ xs))) (unwrap_or (last_or (Some x) xs) (pos 0)),
         )
 
     missing : n ≡ up_to_multiple s.block_size (length (x ∷ xs))
-    missing = omega (arith, size, filled)
+    missing = omega (arith, filled)
 
 -- 0 is in the reference place, if there is one
 first-placed : (b : Bool) (r v : ℕ) (values : List ℕ) → HasReferencePlace (if b then Some r else None) ((if b then 0 else v) ∷ values)
@@ -83,7 +82,7 @@ is_filled s o (x ∷ xs) last reference front behind values n allowed some sampl
       value = value;
       full = full;
       sound = record {
-        len = omega (arith, full.len, block_size-most s allowed);
+        len = omega (arith, block_size-most s allowed);
         placed = rw (is_reference, same)
             (after-placed s o x xs (xs ++ replicate (up_to_multiple s.block_size (length (x ∷ xs))) (unwrap_or (last_or (Some x) xs) (pos 0))));
       };

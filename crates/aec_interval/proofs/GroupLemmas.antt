@@ -31,7 +31,7 @@ AreGroupsFrom s p [] = ⊤
 AreGroupsFrom s p (g ∷ groups) = IsGroupAt s p g × AreGroupsFrom s (p + group_len g) groups
 
 pub length-group_blocks : (s : Settings) (p : ℕ) (g : Group) → IsGroupAt s p g → length (group_blocks s g) ≡ group_len g
-length-group_blocks s p (zero_run reference z) h = let e = length-replicate (z - 1) (zero_block s None) in omega (arith, h.0)
+length-group_blocks s p (zero_run reference z) h = let e = length-replicate (z - 1) (zero_block s None) in omega arith
 length-group_blocks s p (single_block b) h = refl
 
 groups-from_next : (s : Settings) (p : ℕ) (groups : List Group) → AreGroupsFrom s (suc p) groups → AreGroupsFrom s (p + 1) groups
@@ -62,10 +62,10 @@ zeros-are (v ∷ values) h =
     cc
 
 zero_block-is : (s : Settings) (t : Bool) (b : Block) → IsBlockOf s t b → is_zero_block b ≡ true → zero_block s b.reference ≡ b
-zero_block-is s t b h z = rw (zeros-are b.values z, h.count)
+zero_block-is s t b h z = rw (zeros-are b.values, h.count)
 
 no_reference : (s : Settings) (p : ℕ) (reference : Option ℕ) → HasReference s (is_reference_block s (suc p)) reference → reference ≡ None
-no_reference s p reference h = none reference (rw (later_reference s p) at h)
+no_reference s p reference h = none reference (rw later_reference at h)
   where
     none : (reference : Option ℕ) → HasReference s false reference → reference ≡ None
     none None h = refl
@@ -85,11 +85,9 @@ flat_map-groups_of s p [] h = refl
 flat_map-groups_of s p (b ∷ blocks) h =
     let later = flat_map-groups_of s (suc p) blocks h.1 in
     cond_both (is_zero_block b) (with_zero_block b.reference (groups_of blocks)) (single_block b ∷ groups_of blocks)
-    (λ groups. flat_map (group_blocks s) groups ≡ b ∷ blocks)
-    (λ z. rw (
+    (λ groups. flat_map (group_blocks s) groups ≡ b ∷ blocks) (λ z. rw (
       blocks-with_zero_block s p b.reference (groups_of blocks) (AreGroupsFrom-groups_of s (suc p) blocks h.1),
-      zero_block-is s
-          (is_reference_block s p) b h.0 z,
+      zero_block-is s (is_reference_block s p) b h.0,
       later,
     ))
     (λ _. rw later)

@@ -3,8 +3,6 @@ use Rattle.std.proofs.Common.{◌≡◌, ℕ, ◌-◌, ◌^◌, ◌<◌, ◌≤�
 use Rattle.std.specs.List.{list_all, AllByRecursion}
 use Rattle.std.proofs.Math.Nat.{mul-le-mul}
 use Rattle.std.proofs.lemmas.Bool.{and_parts}
-use Rattle.std.proofs.lemmas.Bool.Decides.{nat_tests}
-use Rattle.std.proofs.lemmas.Int.{ints}
 use Rattle.aec_params.specs.declared.settings.Settings.{Settings}
 use Rattle.aec_params.specs.Params.{IsAllowed, is_held, IsHeld, interval_len}
 use Rattle.aec_params.proofs.ParamsLemmas.{held-positive, held-negative, values-most, pow-halves, bits-least}
@@ -31,25 +29,25 @@ pub AreOfInterval-format : (s : Settings) (v : List ℤ) → IsInterval (interva
 AreOfInterval-format s v h = record { held = all-held s v h.held; some = h.some; fits = h.few }
 
 interval-most : (s : Settings) → IsAllowed s → s.interval ≤ 4096
-interval-most s allowed = let b = allowed.interval in grind (arith, nat_tests)
+interval-most s allowed = let b = allowed.interval in grind arith
 
 pub interval_len-most : (s : Settings) → IsAllowed s → interval_len s ≤ 262144
 interval_len-most s a = mul-le-mul (block_size-most s a) (interval-most s a)
 
 -- samples fit signed 64 bits
 small_fits : (n : ℕ) → n < 2 ^ 32 → FitsSigned w64 (pos n)
-small_fits n h = omega (arith, ints)
+small_fits n h = omega arith
 
 negative_fits : (n : ℕ) → n < 2 ^ 32 → FitsSigned w64 (negsuc n)
-negative_fits n h = omega (arith, ints)
+negative_fits n h = omega arith
 
 held_fits : (s : Settings) (x : ℤ) → IsAllowed s → IsHeld s x → FitsSigned w64 x
 held_fits s (pos m) a h =
     let below : m < 2 ^ s.bits = (held-positive s m a h).0 in
-    small_fits m (omega (arith, below, values-most s a))
+    small_fits m (omega (arith, values-most s a))
 held_fits s (negsuc m) a h =
     let below : m < 2 ^ (s.bits - 1) = (held-negative s m h).1 in
-    negative_fits m (omega (arith, below, values-most s a, pow-halves s.bits (bits-least s a)))
+    negative_fits m (omega (arith, values-most s a, pow-halves s.bits (bits-least s a)))
 
 pub interval_format-lawful : (s : Settings) → IsAllowed s → IsLawful (interval_format s)
 interval_format-lawful s a = record {

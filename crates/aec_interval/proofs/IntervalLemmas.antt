@@ -38,13 +38,13 @@ AreCovered s n blocks = (p : ℕ) → AreDueFrom s p blocks → p % 64 ≡ 0 →
     → IsCovering s n p (block_sets s blocks) blocks
 
 IsCovering-no_blocks : (s : Settings) (n p : ℕ) (rest : List Block) → rest ≡ [] → p ≡ n → IsCovering s n p (block_sets s rest) rest
-IsCovering-no_blocks s n p [] z e = rw (block_sets-nil s) (IsCovering-nil s n p e)
+IsCovering-no_blocks s n p [] z e = rw block_sets-nil (IsCovering-nil s n p e)
 IsCovering-no_blocks s n p (b ∷ rest) z e = absurd (cc)
 
 AreCovered-segment : (s : Settings) (n : ℕ) (front rest : List Block) → IsPieceBefore 64 front rest → AreCovered s n rest → AreCovered s n (front ++ rest)
 AreCovered-segment s n front rest piece ih p h aligned reach within =
-    rw (block_sets-cons s front rest piece) (rw e at (IsCovering-groups s n p (segment_left s p) (groups_of front) (block_sets s rest) rest
-    (AreGroupsFrom-groups_of s p front here) (λ _. refl) (omega (arith, len, piece.fits, length-append front rest)) ends (rw len later)))
+    rw block_sets-cons (rw e at (IsCovering-groups s n p (segment_left s p) (groups_of front) (block_sets s rest) rest
+    (AreGroupsFrom-groups_of s p front here) (λ _. refl) (omega (arith, len, length-append front rest)) ends (rw len later)))
   where
     here : AreDueFrom s p front
     here = AreDueFrom_left s p front rest h
@@ -59,22 +59,20 @@ AreCovered-segment s n front rest piece ih p h aligned reach within =
     nothing z = let none = nil_from_length rest z in inr (rw none (block_sets-nil s), none)
 
     more : 0 < length rest → EndsWell (length (flat_map (group_blocks s) (groups_of front))) (segment_left s p) (block_sets s rest) rest
-    more l = inl (omega (arith, len, piece.full l, length-append front rest))
+    more l = inl (omega (arith, len, length-append front rest))
 
     ends : EndsWell (length (flat_map (group_blocks s) (groups_of front))) (segment_left s p) (block_sets s rest) rest
     ends = ⊎_elim more (λ l. nothing (omega arith)) (cases_lt 0 (length rest))
 
     later : IsCovering s n (p + length front) (block_sets s rest) rest
-    later = ⊎_elim
-        (λ l. ih (p + length front) (AreDueFrom_right s p front rest h) (omega (arith, piece.full l)) (omega (arith, length-append front rest)) within)
+    later = ⊎_elim (λ l. ih (p + length front) (AreDueFrom_right s p front rest h) (omega arith) (omega (arith, length-append front rest)) within)
         (λ l. IsCovering-no_blocks s n (p + length front) rest (nil_from_length rest (omega arith)) (omega (arith, length-append front rest)))
         (cases_lt 0 (length rest))
 
 pub IsCovering-block_sets : (s : Settings) (blocks : List Block) → AreDueFrom s 0 blocks → length blocks ≤ s.interval
     → IsCovering s (length blocks) 0 (block_sets s blocks) blocks
 IsCovering-block_sets s blocks h few =
-    by_pieces (AreCovered s (length blocks)) 64 (omega arith)
-    (λ p _ _ reach _. rw (block_sets-nil s) (IsCovering-nil s (length blocks) p (omega arith)))
+    by_pieces (AreCovered s (length blocks)) 64 (omega arith) (λ p _ _ reach _. rw block_sets-nil (IsCovering-nil s (length blocks) p (omega arith)))
     (AreCovered-segment s (length blocks)) blocks 0 h refl (omega arith) few
 
 -- the code of an interval's samples is read as their blocks

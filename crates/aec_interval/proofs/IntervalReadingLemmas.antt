@@ -1,6 +1,6 @@
 -- If the code of an interval begins at a position, that interval is read there, and nothing else.
 use Rattle.std.proofs.Common.{◌≡◌, ℕ, ◌+◌, ◌-◌, ◌*◌, ◌<◌, ◌≤◌, Bool, true, false, nat_lt, Some, List, ◌++◌, length, take, refl, sym, ap₂, ◌∙◌, arith}
-use Rattle.std.proofs.Math.Nat.{mul_comm, zero-mul}
+use Rattle.std.proofs.Math.Nat.{mul_comm}
 use Rattle.std.specs.Prelude.{ℤ}
 use Rattle.std.specs.Int.{div_ceil}
 use Rattle.std.proofs.lemmas.List.{length-take, take-append-drop, take_at}
@@ -43,7 +43,7 @@ IsBlockReading-behind s limit pre rest bits start v a h starts spelled =
       end_block = 0 * s.interval + end_of s 0 part.sets;
       end_bit = begin_of s bits (0 * s.interval + end_of s 0 part.sets) (length pre + length (unpadded_bits s v));
       leads = part.leads;
-      done = le-ltb (0 * s.interval + end_of s 0 part.sets) (div_ceil (length v) s.block_size) (omega (arith, part.reaches));
+      done = le-ltb (0 * s.interval + end_of s 0 part.sets) (div_ceil (length v) s.block_size) (omega arith);
       kept = sym (ap₂ take (omega arith) part.covered ∙ part.stand_for);
     }
 
@@ -51,7 +51,7 @@ pub IsBlockReading-interval : (s : Settings) (limit : ℕ) (bits : List Bool) (s
     → BeginsAt (interval_format s) bits start count v → IsBlockReading s (Some count) limit bits 0 start (all_blocks_of s v)
 IsBlockReading-interval s limit bits start count v a begins =
     let h = AreOfInterval-format s v begins.interval in
-    let front : length (take start bits) ≡ start = length-take start bits ∙ omega (arith, begins.within) in
+    let front : length (take start bits) ≡ start = length-take start bits ∙ omega arith in
     rw (← begins.length_is, all_blocks_of-one s v h.some h.fits) (IsBlockReading-behind s limit (take start bits) begins.stands.0 bits start v a h
     (sym front) (cc (take-append-drop start bits, begins.stands.1)))
 
@@ -72,14 +72,14 @@ pub counted-interval : (s : Settings) (limit count : ℕ) (bits list : List Bool
     → count ≤ interval_len s → list ≡ bits → IsReached s (Some count) limit list 0 start next e all → IsGoneOver s (Some count) list 0 next e
     → counted ≡ counted_from s (Some count) 0 all → IsReadFrom s (Some count) limit bits start counted
 counted-interval s limit count bits list start next e all counted a few same reached over is =
-    let front : count - 0 * s.block_size ≡ count = omega (arith, zero-mul s.block_size) in
+    let front : count - 0 * s.block_size ≡ count = omega arith in
     rw (is, front) (rw same at (reading-done s (Some count) limit list start next e all reached
     (by_test (nat_lt next (div_ceil count s.block_size)) refl)))
   where
     by_test : (more : Bool) → nat_lt next (div_ceil count s.block_size) ≡ more → nat_lt next (div_ceil count s.block_size) ≡ false
     by_test false is = is
     by_test true is =
-        let last : next ≡ s.interval = omega (arith, over.to_end is) in
+        let last : next ≡ s.interval = omega arith in
         let fewer : next * s.block_size < count =
         before_end next count s.block_size (block_size-positive s a) (ltb-true next (div_ceil count s.block_size) is) in
         absurd (grind (arith, mul_comm))

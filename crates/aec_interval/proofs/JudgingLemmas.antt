@@ -27,11 +27,11 @@ length_below : (o : Option ℤ) (limit i j n : ℕ) (taken : TakenSamples) (late
 length_below None limit i j n taken later below bad ih = let none : 0 ≡ min (j - j) (limit - i) = omega arith in none
 length_below (Some x) limit i j n taken (Ok xs) below bad ih =
     let before : length taken.samples ≡ min (j + 1 + n - (j + 1)) (limit - (i + 1)) = ih in
-    let all : suc (length taken.samples) ≡ min (j + suc n - j) (limit - i) = omega (arith, before, below) in
+    let all : suc (length taken.samples) ≡ min (j + suc n - j) (limit - i) = omega arith in
     all
 length_below (Some x) limit i j n taken (Err k) below bad ih =
     let before : length taken.samples ≡ min (k - (j + 1)) (limit - (i + 1)) = ih in
-    let all : suc (length taken.samples) ≡ min (k - j) (limit - i) = omega (arith, before, below, bad k refl) in
+    let all : suc (length taken.samples) ≡ min (k - j) (limit - i) = omega (arith, bad k refl) in
     all
 
 length_step : (s : Settings) (limit i j : ℕ) (g : List ℕ) (gs : List (List ℕ))
@@ -68,11 +68,10 @@ pub taken_count : (s : Settings) (limit count : ℕ) (bytes : List ℕ) (good n 
     → n ≡ length (taken_groups s limit count (byte_groups s bytes)).samples
 taken_count s limit count bytes good n least first =
     let groups = byte_groups s bytes in
-    let end : length bytes / storage_len s ≡ 0 + length groups =
-    omega (arith, length-first_chunks (storage_len s) (length bytes / storage_len s) bytes) in
+    let end : length bytes / storage_len s ≡ 0 + length groups = omega (arith, length-first_chunks) in
     let up : good ≡ good_up_to (samples_of_groups s 0 groups) (0 + length groups) = cc in
-    let same : good ≡ good_up_to (samples_of_groups s 0 groups) (0 + length groups) - 0 = omega (arith, up) in
-    rw (least, same, length-taken_groups s limit count 0 groups)
+    let same : good ≡ good_up_to (samples_of_groups s 0 groups) (0 + length groups) - 0 = omega arith in
+    rw (least, same, length-taken_groups s limit count 0)
 
 few_step : (r : Result ℤ Fault) (n : ℕ) (later : TakenSamples) → length later.samples ≤ n → length (taken_before r later).samples ≤ suc n
 few_step (Ok x) n later few = omega arith

@@ -10,7 +10,7 @@ use Rattle.aec_params.specs.Blocks.{Block, reference_of, with_reference, blocks_
 use Rattle.aec_block.proofs.ListMappingLemmas.{last_or-append, mapped_after-append}
 use Rattle.aec_interval.specs.NextBlock.{last_sample, next_block_of}
 use Rattle.std.proofs.lemmas.List.{map-append}
-use Rattle.std.proofs.Math.Nat.{mod_self, mod-eq_of_lt, add-mod_left, suc-mul, zero-mul, one-mul, mul-pos, mul-le-mul_right, le-mul_of_pos_right, mul_comm, mul-sub}
+use Rattle.std.proofs.Math.Nat.{mod_self, mod-eq_of_lt, add-mod_left, one-mul, mul-pos, mul-le-mul_right, le-mul_of_pos_right, mul_comm, mul-sub}
 use Rattle.aec_interval.proofs.BlockLemmas.{length-mapped_after, length-mapped_values}
 use Rattle.aec_interval.proofs.ChunkLemmas.{filled_samples-whole}
 use Rattle.aec_interval.proofs.StreamLemmas.{all_blocks_of-cons, all_blocks_of-one}
@@ -18,15 +18,15 @@ use Rattle.aec_interval.proofs.CuttingLemmas.{pieces_of-nil, pieces_of-cons, pie
 
 pub mapped_values-append : (s : Settings) (x : ℤ) (xs ys : List ℤ)
     → mapped_values s ((x ∷ xs) ++ ys) ≡ mapped_values s (x ∷ xs) ++ mapped_after s (last_sample (x ∷ xs)) ys
-mapped_values-append s x xs ys = rw (mapped_after-append s x xs ys)
+mapped_values-append s x xs ys = rw (mapped_after-append s x xs)
 
 -- if a list has k * n elements, its first piece has n, and the rest a multiple of n
 pub front_full : (n a b k : ℕ) → 0 < n → a ≤ n → 0 < a → (0 < b → a ≡ n) → a + b ≡ k * n → (a ≡ n) × ((j : ℕ) × (b ≡ j * n))
-front_full n a b zero positive fits some full whole = absurd (omega (arith, zero-mul n))
-front_full n a b (suc k) positive fits some full whole = (is_full, (k, omega (arith, suc-mul k n, is_full)))
+front_full n a b zero positive fits some full whole = absurd (omega arith)
+front_full n a b (suc k) positive fits some full whole = (is_full, (k, omega (arith, is_full)))
   where
     is_full : a ≡ n
-    is_full = ⊎_elim full (λ l. omega (arith, suc-mul k n)) (cases_lt 0 b)
+    is_full = ⊎_elim full (λ l. omega arith) (cases_lt 0 b)
 
 pub with_reference-push : (reference : Option ℕ) (groups : List (List ℕ)) (values : List ℕ) → 0 < length groups
     → with_reference reference (groups ++ values ∷ []) ≡ with_reference reference groups ++ (record { reference = None; values = values }) ∷ []
@@ -34,7 +34,7 @@ with_reference-push reference [] values some = absurd (omega arith)
 with_reference-push reference (first ∷ groups) values some =
     let block : List ℕ → Block = λ values. record { reference = None; values = values } in
     let first_block : Block = record { reference = reference; values = first } in
-    rw (map-append block groups (values ∷ []))
+    rw (map-append block groups)
 
 -- one piece more after whole pieces
 pub pieces_of-push : {X : Type 0} (n : ℕ) → 0 < n → (xs ys : List X) (k : ℕ) → length xs ≡ k * n → length ys ≡ n
@@ -53,13 +53,12 @@ pieces_of-push {X} n positive xs ys k whole last = by_pieces P n positive nothin
         rw (
           append_assoc,
           pieces_of-cons n front (rest ++ ys) (record { some = piece.some; fits = piece.fits; full = λ _. parts.0 }),
-          ih parts.1.0
-              parts.1.1,
+          ih parts.1.0 parts.1.1,
           pieces_of-cons,
         )
 
 pub pieces_of-some : {X : Type 0} (n : ℕ) (xs : List X) → 0 < n → 0 < length xs → 0 < length (pieces_of n xs)
-pieces_of-some n xs positive some = omega (arith, length-pieces_of n xs, div_ceil-positive (length xs) n positive some)
+pieces_of-some n xs positive some = omega (arith, length-pieces_of, div_ceil-positive)
 
 -- one block more after whole blocks of one interval
 pub blocks_of-push : (s : Settings) (v ys : List ℤ) (k : ℕ) → 0 < s.block_size → 0 < length v → length v ≡ k * s.block_size → length ys ≡ s.block_size
@@ -67,15 +66,13 @@ pub blocks_of-push : (s : Settings) (v ys : List ℤ) (k : ℕ) → 0 < s.block_
 blocks_of-push s [] ys k positive some whole last = absurd (omega arith)
 blocks_of-push s (x ∷ v) ys k positive some whole last =
     cc (
-      filled_samples-whole s ((x ∷ v) ++ ys) positive (suc k) (omega (arith, length-append (x ∷ v) ys, suc-mul k s.block_size)),
+      filled_samples-whole s ((x ∷ v) ++ ys) positive (suc k) (omega (arith, length-append (x ∷ v) ys)),
       mapped_values-append s x v ys,
       pieces_of-push s.block_size positive (mapped_values s (x ∷ v)) (mapped_after s (last_sample (x ∷ v)) ys) k
           (length-mapped_values s (x ∷ v) ∙ whole) (length-mapped_after s _ ys ∙ last),
-      with_reference-push (reference_of s (x ∷ v))
-          (pieces_of s.block_size (mapped_values s (x ∷ v))) (mapped_after s (last_sample (x ∷ v)) ys)
-          (pieces_of-some s.block_size (mapped_values s (x ∷ v)) positive (omega (arith, length-mapped_values s (x ∷ v)))),
-      filled_samples-whole s (x ∷ v)
-          positive k whole,
+      with_reference-push (reference_of s (x ∷ v)) (pieces_of s.block_size (mapped_values s (x ∷ v))) (mapped_after s (last_sample (x ∷ v)) ys)
+          (pieces_of-some s.block_size (mapped_values s (x ∷ v)) positive (omega arith)),
+      filled_samples-whole s (x ∷ v) positive k whole,
     )
 
 -- one block by itself
@@ -84,8 +81,7 @@ pub blocks_of-one : (s : Settings) (ys : List ℤ) → 0 < s.block_size → leng
 blocks_of-one s ys positive last =
     rw (
       filled_samples-whole s ys positive 1 (last ∙ sym (one-mul s.block_size)),
-      pieces_of-one s.block_size (mapped_values s ys)
-          (omega (arith, length-mapped_values s ys)) (omega (arith, length-mapped_values s ys)),
+      pieces_of-one s.block_size (mapped_values s ys) (omega (arith, length-mapped_values)) (omega (arith, length-mapped_values)),
     )
 
 -- ---- all intervals
@@ -115,19 +111,19 @@ next_block_of-later s v ys some within = rw (mod-eq_of_lt, ne_eqb (length v) 0 (
 -- after a whole interval, whole blocks are left; and an interval that isn't full has room for one
 -- block more
 rest_whole : (j r k a b : ℕ) → a ≡ j * r → a + b ≡ k * j → b ≡ (k - r) * j
-rest_whole j r k a b is_full whole = omega (arith, mul-sub j k r, mul_comm j (k - r), mul_comm j k)
+rest_whole j r k a b is_full whole = omega (arith, mul-sub, mul_comm)
 
 one_more_fits : (j r k a : ℕ) → a ≡ k * j → a < j * r → a + j ≤ j * r
 one_more_fits j r k a whole short = ⊎_elim below past (cases_lt k r)
   where
     below : k < r → a + j ≤ j * r
-    below h = omega (arith, mul-le-mul_right j (lt_suc h), suc-mul k j, mul_comm j r)
+    below h = omega (arith, mul-le-mul_right j (lt_suc h), mul_comm j r)
       where
         lt_suc : k < r → suc k ≤ r
         lt_suc h = omega arith
 
     past : r ≤ k → a + j ≤ j * r
-    past h = absurd (omega (arith, mul-le-mul_right j h, mul_comm j r))
+    past h = absurd (omega (arith, mul-le-mul_right j h))
 
 -- one block more after whole blocks
 pub all_blocks_of-push : (s : Settings) (xs ys : List ℤ) (k : ℕ) → 0 < s.block_size → 0 < s.interval → length xs ≡ k * s.block_size → length ys ≡ s.block_size
@@ -158,13 +154,10 @@ all_blocks_of-push s xs ys k block interval whole last = by_pieces P (interval_l
           append_assoc front rest ys,
           all_blocks_of-cons s front (rest ++ ys)
               (record { some = piece.some; fits = piece.fits; full = λ _. is_full }),
-          ih (k - s.interval)
-              (rest_whole s.block_size s.interval k (length front) (length rest) is_full (sym (length-append front rest) ∙ h)),
-          next_block_of-rest s front
-              rest ys positive is_full,
+          ih (k - s.interval) (rest_whole s.block_size s.interval k (length front) (length rest) is_full (sym (length-append front rest) ∙ h)),
+          next_block_of-rest s front rest ys positive is_full,
           all_blocks_of-cons s front rest piece,
-          append_assoc (blocks_of s front) (all_blocks_of s rest)
-              (next_block_of s rest ys ∷ []),
+          append_assoc (blocks_of s front) (all_blocks_of s rest) (next_block_of s rest ys ∷ []),
         )
 
     within : (front : List ℤ) → 0 < length front → length front < interval_len s → P front
@@ -172,8 +165,7 @@ all_blocks_of-push s xs ys k block interval whole last = by_pieces P (interval_l
         rw (
           all_blocks_of-one s (front ++ ys) (omega (arith, length-append front ys))
               (omega (arith, length-append front ys, one_more_fits s.block_size s.interval k (length front) h short)),
-          blocks_of-push s front ys k block
-              some h last,
+          blocks_of-push s front ys k block some h last,
           next_block_of-later s front ys some short,
           all_blocks_of-one s front some (omega arith),
         )

@@ -59,13 +59,13 @@ next_single s true p more values none mapped = by_preprocess s.preprocess refl n
     by_preprocess : (preprocess : Bool) → s.preprocess ≡ preprocess → HasReference s (preprocess && true) None
         → next_block_at s true p more ≡ block_of None values
     by_preprocess true is none = absurd none
-    by_preprocess false is none = rw (reference_of-plain s more is, mapped_values-plain s p more is, mapped)
+    by_preprocess false is none = rw (reference_of-plain, mapped_values-plain s p, mapped)
 
 pub fills_single : (s : Settings) (old new : List ℤ) (values : List ℕ) → IsAllowed s → IsNextBlock s old (record { reference = None; values = values })
     → Unmaps s (last_sample old) values old new → FillsNext s old new ((record { reference = None; values = values }) ∷ [])
 fills_single s old new values allowed next unmaps blocks filled =
     rw unmaps.appended (FillBlocks-push s old unmaps.more blocks (record { reference = None; values = values }) (block_size-positive s allowed)
-    (interval-positive s allowed) filled unmaps.held (rw (← (length-mapped_after s (last_sample old) unmaps.more), unmaps.mapped) next.count)
+    (interval-positive s allowed) filled unmaps.held (rw (← (length-mapped_after s (last_sample old)), unmaps.mapped) next.count)
     (next_single s (length old % interval_len s == 0) (last_sample old) unmaps.more values next.reference unmaps.mapped))
 
 -- a block that begins with a reference sample
@@ -85,9 +85,9 @@ pub fills_reference : (s : Settings) (old new : List ℤ) (r : ℕ) (values : Li
     → IsHeld s x → sample_pattern s x ≡ r → Unmaps s x (drop 1 values) (old ++ x ∷ []) new
     → FillsNext s old new ((record { reference = Some r; values = values }) ∷ [])
 fills_reference s old new r values x allowed next held pattern unmaps blocks filled =
-    rw (unmaps.appended, append_assoc old (x ∷ []) unmaps.more) (FillBlocks-push s old (x ∷ unmaps.more) blocks
+    rw (unmaps.appended, append_assoc) (FillBlocks-push s old (x ∷ unmaps.more) blocks
     (record { reference = Some r; values = values }) (block_size-positive s allowed) (interval-positive s allowed) filled (held, unmaps.held)
-    (rw (← (length-mapped_after s x unmaps.more), unmaps.mapped) (cc)) (next_reference s (length old % interval_len s == 0) r x unmaps.more values
+    (rw (← (length-mapped_after s x), unmaps.mapped) (cc)) (next_reference s (length old % interval_len s == 0) r x unmaps.more values
     (last_sample old) next.reference next.place pattern unmaps.mapped))
 
 -- a sample that equals its prediction maps to 0

@@ -22,7 +22,7 @@ pub single_next : (s : Settings) (i : ℕ) (samples : List ℤ) (reference : Opt
 single_next s i samples reference body b allowed filled shape small one is =
     let p : ℕ = i % s.interval in
     let some = segment_left-some s p (mod-lt i (interval-positive s allowed)) in
-    let within = le-leb (body_blocks s p body) (segment_left s p) (omega (arith, one, some)) in
+    let within = le-leb (body_blocks s p body) (segment_left s p) (omega arith) in
     let at = blocks_in-shape s i reference body allowed shape.reference shape.body small within in
     next_in_place s i samples b allowed filled (subst (AreBlocksFrom s i) is at).0
 

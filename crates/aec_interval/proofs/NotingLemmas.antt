@@ -45,7 +45,7 @@ module _ (s : Settings) (a : IsAllowed s) (count : Option ℕ) (limit : ℕ) (bi
         read = has_read_nothing s count limit bits;
         number = div_ceil-zero (interval_len s) (interval_len-positive s a);
         next = λ _. omega arith;
-        each = λ i below. absurd (omega (arith, below));
+        each = λ i below. absurd (omega arith);
       })
 
   -- ---- one interval more
@@ -65,13 +65,13 @@ module _ (s : Settings) (a : IsAllowed s) (count : Option ℕ) (limit : ℕ) (bi
             → FillBlocks s all (kept_blocks s count i (stream_blocks s i step.piece.sets))
             → ys ≡ counted_from s count i all → 0 < length ys
         by_count None wanted all filled is =
-            let some : 0 < length blocks * s.block_size = mul-pos (omega (arith, stream-len, step.ahead)) (block_size-positive s a) in
+            let some : 0 < length blocks * s.block_size = mul-pos (omega (arith, stream-len)) (block_size-positive s a) in
             grind arith
         by_count (Some n) wanted all filled is =
             let below = ltb-true i (div_ceil n s.block_size) wanted in
             let kept = length-take (div_ceil n s.block_size - i) blocks in
             let some : 0 < length (take (div_ceil n s.block_size - i) blocks) * s.block_size =
-            mul-pos (omega (arith, stream-len, step.ahead, kept, below)) (block_size-positive s a) in
+            mul-pos (omega (arith, stream-len, kept, below)) (block_size-positive s a) in
             grind (arith, length-take, before_count)
 
     module _ (offsets : List ℕ) (noted : HasNoted s count limit bits (place_at s count limit bits i b) offsets) where
@@ -83,8 +83,7 @@ module _ (s : Settings) (a : IsAllowed s) (count : Option ℕ) (limit : ℕ) (bi
           rw (
             has_read_whole (place_at s count limit bits i b) noted.samples a noted.read step.wanted step.begins,
             block-is,
-            mul-div_cancel
-                (length offsets) (interval-positive s a),
+            mul-div_cancel (length offsets) (interval-positive s a),
           )
 
       one_more : div_ceil (length (noted.samples ++ ys)) (interval_len s) ≡ length (offsets ++ b ∷ [])
@@ -97,15 +96,15 @@ module _ (s : Settings) (a : IsAllowed s) (count : Option ℕ) (limit : ℕ) (bi
       each_more k below = ⊎_elim earlier last (cases_lt k (length offsets))
         where
           earlier : k < length offsets → IsPassed s count limit bits (k * s.interval) (get_or (offsets ++ b ∷ []) k 0)
-          earlier h = rw (get_or_append_left offsets (b ∷ []) 0 k h) (noted.each k h)
+          earlier h = rw get_or_append_left (noted.each k h)
 
           here : IsPassed s count limit bits i b
           here = record { sets = noted.read.sets; leads = noted.read.leads; wanted = step.wanted; begins = step.begins }
 
           last : length offsets ≤ k → IsPassed s count limit bits (k * s.interval) (get_or (offsets ++ b ∷ []) k 0)
           last h =
-              let is : length offsets ≡ k = omega (arith, h, below, length-append offsets (b ∷ [])) in
-              rw (get_or_push offsets b 0 k is) (rw (block-is, is) at here)
+              let is : length offsets ≡ k = omega (arith, length-append offsets (b ∷ [])) in
+              rw (get_or_push offsets) (rw (block-is, is) at here)
 
       noted-step : HasNoted s count limit bits (place_at s count limit bits j e) (offsets ++ b ∷ [])
       noted-step = record {
@@ -134,8 +133,7 @@ module _ (s : Settings) (a : IsAllowed s) (count : Option ℕ) (limit : ℕ) (bi
   pub noted-all : (p : Place) (offsets : List ℕ) → HasNoted s count limit bits p offsets → is_wanted_at p ≡ false → AreOffsets s count limit bits offsets
   noted-all p offsets noted done =
       let reading : IsReading s count limit bits noted.samples =
-      has_read_all (place_at s count limit bits p.block p.bit) noted.samples a (rw noted.same at noted.read)
-      (rw noted.same at done) in
+      has_read_all (place_at s count limit bits p.block p.bit) noted.samples a (rw noted.same at noted.read) (rw noted.same at done) in
       record {
         samples = noted.samples;
         reading = reading;
@@ -159,7 +157,7 @@ module _ (s : Settings) (a : IsAllowed s) (count : Option ℕ) (limit : ℕ) (bi
   noted-memory p q len offsets noted has none =
       let more = noted-more p q len p.bit offsets (offsets ++ p.bit ∷ []) noted has refl refl in
       let read = subst (λ q. HasRead q more.samples) more.same more.read in
-      unread Memory (sym none) (no_memory (behind-one s count limit bits 0 0 read.sets q.block q.bit read.leads (omega (arith, has.read.ahead))).0)
+      unread Memory (sym none) (no_memory (behind-one s count limit bits 0 0 read.sets q.block q.bit read.leads (omega arith)).0)
 
 pub found_interval : (p q : Place) (found : Option ℕ) → IfSome found (λ len. HasInterval p len q) → is_some found ≡ true → (len : ℕ) × HasInterval p len q
 found_interval p q None has some = absurd (cc)

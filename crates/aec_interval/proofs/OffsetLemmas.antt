@@ -10,20 +10,19 @@ use Rattle.aec_params.specs.Reading.{IsReading}
 use Rattle.aec_params.proofs.SampleLaws.{held-drop, interval_len-positive}
 use Rattle.aec_interval.specs.Offsets.{interval_begin, IntervalsAreReadAlone}
 use Rattle.aec_interval.proofs.CuttingLemmas.{IsPieceBefore, by_pieces}
-use Rattle.aec_interval.proofs.StreamLemmas.{IsAligned, IsAligned-code, interval_bits-padded, stream_of-nil, stream_of-cons}
+use Rattle.aec_interval.proofs.StreamLemmas.{IsAligned, IsAligned-code, stream_of-cons}
 use Rattle.aec_interval.proofs.PieceLemmas.{stream_of-append}
 use Rattle.aec_interval.proofs.RoundTripLemmas.{IsReading-stream_of}
 use Rattle.aec_interval.proofs.FewerLemmas.{IsReading-fewer}
 
 -- with padding, a code is whole bytes
 pub stream_of-aligned : (s : Settings) → IsAllowed s → (xs : List ℤ) → IsAligned s (stream_of s xs)
-stream_of-aligned s a = by_pieces (λ xs. IsAligned s (stream_of s xs)) (interval_len s) (interval_len-positive s a)
-    (λ pad. grind (arith, stream_of-nil)) step
+stream_of-aligned s a = by_pieces (λ xs. IsAligned s (stream_of s xs)) (interval_len s) (interval_len-positive s a) (λ pad. grind arith) step
   where
     step : (front rest : List ℤ) → IsPieceBefore (interval_len s) front rest → IsAligned s (stream_of s rest) → IsAligned s (stream_of s (front ++ rest))
     step front rest piece ih pad =
         let first = IsAligned-code s (unpadded_bits s front) [] (λ _. refl) pad in
-        grind (arith, stream_of-cons, interval_bits-padded, length-append, ih)
+        grind (arith, stream_of-cons, length-append, ih)
 
 module _ (s : Settings) (a : IsAllowed s) (samples : List ℤ) (i : ℕ) (within : i * interval_len s ≤ length samples) where
   -- the code is that of the samples before the interval, and then that of the others
@@ -40,14 +39,14 @@ module _ (s : Settings) (a : IsAllowed s) (samples : List ℤ) (i : ℕ) (within
   rest-is rest =
       let xs = drop (i * interval_len s) samples in
       let first = stream_of s (take (i * interval_len s) samples) in
-      rw (cut_code, append_assoc first (stream_of s xs) rest, drop_at first (stream_of s xs ++ rest) (interval_begin s i samples) refl)
+      rw (cut_code, append_assoc, drop_at)
 
   read_there : AllByRecursion (IsHeld s) samples → (rest : List Bool) (limit k : ℕ) → k ≤ length samples - i * interval_len s
       → IsReading s (Some k) limit (drop (interval_begin s i samples) (stream_of s samples ++ rest)) (take k (drop (i * interval_len s) samples))
   read_there held rest limit k few =
       let xs = drop (i * interval_len s) samples in
       subst (λ bits. IsReading s (Some k) limit bits (take k xs)) (sym (rest-is rest))
-      (IsReading-fewer s limit (length xs) k (stream_of s xs ++ rest) xs a (omega (arith, few, length-drop (i * interval_len s) samples))
+      (IsReading-fewer s limit (length xs) k (stream_of s xs ++ rest) xs a (omega (arith, length-drop (i * interval_len s) samples))
       (IsReading-stream_of s limit xs rest a (held-drop s (i * interval_len s) samples held)))
 
 pub intervals_are_read_alone : IntervalsAreReadAlone
@@ -56,8 +55,7 @@ intervals_are_read_alone s samples rest i a held within = record {
       grind (
         arith,
         cut_code s a samples i within,
-        length-append (stream_of s (take (i * interval_len s) samples))
-            (stream_of s (drop (i * interval_len s) samples)),
+        length-append (stream_of s (take (i * interval_len s) samples)) (stream_of s (drop (i * interval_len s) samples)),
         length-append (stream_of s samples) rest,
       );
   whole_bytes = stream_of-aligned s a (take (i * interval_len s) samples);

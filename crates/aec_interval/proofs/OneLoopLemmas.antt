@@ -33,11 +33,11 @@ piece_cut n l front later piece =
 
 -- a piece is taken or dropped, and k elements more
 take_piece : {X : Type 0} (n k : ℕ) (front later : List X) → IsPieceBefore n front later → take (n + k) (front ++ later) ≡ front ++ take k later
-take_piece n k front [] piece = simp (append-nil, take-nil) (take_all (n + k) front (omega (arith, piece.fits)))
+take_piece n k front [] piece = simp (append-nil, take-nil) (take_all (n + k) front (omega arith))
 take_piece n k front (y ∷ later) piece = let e : length front ≡ n = piece.full (omega arith) in rw (← e) (take-append-add front (y ∷ later) k)
 
 drop_piece : {X : Type 0} (n k : ℕ) (front later : List X) → IsPieceBefore n front later → drop (n + k) (front ++ later) ≡ drop k later
-drop_piece n k front [] piece = simp (append-nil, drop-nil) (drop_all (n + k) front (omega (arith, piece.fits)))
+drop_piece n k front [] piece = simp (append-nil, drop-nil) (drop_all (n + k) front (omega arith))
 drop_piece n k front (y ∷ later) piece = let e : length front ≡ n = piece.full (omega arith) in rw (← e) (drop-append-add front (y ∷ later) k)
 
 -- ---- bits
@@ -127,8 +127,7 @@ at-block s m l k n {o} {run} {next} {start} {old} {new} {newer} {whole} {rest} {
     bs = blocks_after s (last_or o chunk) (take n later)
 
     blocks : blocks_after s o (take l rest) ≡ b ∷ bs
-    blocks = rw (e, is_l, take_piece s.block_size n chunk later piece)
-        (blocks_after-cons s o chunk (take n later) h (piece_cut s.block_size n chunk later piece))
+    blocks = rw (e, is_l, take_piece) (blocks_after-cons s o chunk (take n later) h (piece_cut s.block_size n chunk later piece))
 
     behind : drop l rest ≡ drop n later
     behind = rw (e, is_l) (drop_piece s.block_size n chunk later piece)
@@ -196,20 +195,11 @@ stream_opened : (s : Settings) (rest : List ℤ) → 0 < s.block_size → 0 < in
     → stream_of s rest
     ≡ closed s (bits_left s 64 no_run (blocks_after s None (take (interval_len s) rest))) ++ stream_of s (drop (interval_len s) rest)
 stream_opened s [] h some =
-    stream_of-nil s some
-    ∙ sym (rw (
-      ← (sets_bits-segment s (blocks_after s None (take (interval_len s) []))),
-      take-nil (interval_len s),
-      blocks_after-nil s None h,
-      drop-nil (interval_len s),
-      stream_of-nil s some,
-      closed-nil s,
-    ))
+    stream_of-nil s some ∙ sym (rw (← sets_bits-segment, take-nil, blocks_after-nil s None, drop-nil, stream_of-nil, closed-nil))
 stream_opened s (x ∷ xs) h some =
     let n = interval_len s in
     let rest = x ∷ xs in
-    ap (stream_of s) (sym (take-append-drop n rest))
-    ∙ stream_of-cons s (take n rest) (drop n rest) (first_piece n rest some (omega arith))
+    ap (stream_of s) (sym (take-append-drop n rest)) ∙ stream_of-cons s (take n rest) (drop n rest) (first_piece n rest some (omega arith))
     ∙ ap (λ bits. closed s bits ++ stream_of s (drop n rest)) (sets_bits-segment s (blocks_after s None (take n rest)))
 
 pub at-start : (s : Settings) (m l start : ℕ) (old new whole : List Bool) (rest : List ℤ) → 0 < s.block_size → 0 < interval_len s → m ≡ 64
@@ -245,7 +235,7 @@ pub at-inside : (s : Settings) (place : ℕ) (o : Option ℤ) (chunk : List ℤ)
     {later : List ℤ} → 0 < length chunk → m ≡ 64 - (place + 1) % 64 → p ≡ slice_get chunk (length chunk - 1)
     → StreamAt s m (s.block_size * (s.interval - (place + 1))) (last_or o chunk) run start old new whole later
     → StreamAt s (64 - (place + 1) % 64) (s.block_size * (s.interval - (place + 1))) p run start old new whole later
-at-inside s place o chunk some is_m last at = rw (last, last_taken o chunk some, ← is_m) at
+at-inside s place o chunk some is_m last at = rw (last, last_taken o, ← is_m) at
 
 -- the last run of an interval is written, and the interval is closed
 pub at-closed : {s : Settings} {m l : ℕ} {o : Option ℤ} {run : Run} {start : ℕ} {old new middle newer whole : List Bool} {rest : List ℤ}

@@ -17,12 +17,12 @@ use Rattle.aec_params.specs.Streams.{stream_of}
 use Rattle.aec_params.specs.Reading.{Covers, covered_blocks, ReadsBlocks}
 use Rattle.aec_interval.specs.Laws.{ReadsEach, CodesAreShortest}
 use Rattle.aec_interval.proofs.CuttingLemmas.{IsPieceBefore, first_piece, by_pieces, pieces_of-cons}
-use Rattle.aec_interval.proofs.StreamLemmas.{interval_len-positive, stream_of-nil, stream_of-cons}
+use Rattle.aec_interval.proofs.StreamLemmas.{interval_len-positive, stream_of-cons}
 use Rattle.aec_interval.proofs.BlockLemmas.{all_left, all_right, AreDueFrom, AreDueFrom-blocks_of, blocks-few}
 use Rattle.aec_interval.proofs.IntervalLemmas.{AreDueFrom_left, AreDueFrom_right, block_sets-nil, block_sets-cons}
 use Rattle.aec_interval.proofs.PlaceLemmas.{length-cds_blocks}
 use Rattle.aec_interval.proofs.RunLengthLemmas.{length-run}
-use Rattle.aec_interval.proofs.CostLemmas.{group_cost, block_cost, groups_of-zeros, run_code-at_end, body_step}
+use Rattle.aec_interval.proofs.CostLemmas.{group_cost, block_cost, groups_of-zeros, body_step}
 
 -- how many blocks a segment takes from place p on; and the number of bits of the blocks from place
 -- p on: the rest of the segment, and then the other segments
@@ -117,7 +117,7 @@ overhang s p reference (zero_blocks m) blocks h l some more e =
     let alone : groups_of blocks ≡ zero_run reference (suc (z - 1)) ∷ [] =
     cc (append-nil (replicate (z - 1) (zero_block s None)), groups_of-zeros s reference (z - 1) []) in
     let split : cost_from s p blocks ≡ group_cost s (zero_run reference z ∷ []) + block_cost s [] = rw (take_all, drop_all, alone, whole) in
-    grind (arith, length-append, length-run, run_code-at_end, block_sets-nil)
+    grind (arith, length-append, length-run, block_sets-nil)
 
 -- ---- all coded data sets
 
@@ -136,8 +136,8 @@ exact_step s n p c sets blocks a h few l due reach e fits ih =
       ap (cost_from s p) parts,
       length-append (cds_bits s c) (flat_map (cds_bits s) sets),
       set_step s p c rest a h l (omega (arith, count)) due_parts,
-      ih rest (subst (λ q. AreDueFrom s q rest) (omega (arith, len)) (AreDueFrom_right s p front rest due_parts)) (omega (arith, count))
-          (ap (λ m. take m behind) count),
+      ih rest (subst (λ q. AreDueFrom s q rest) (omega (arith, len)) (AreDueFrom_right s p front rest due_parts))
+          (omega (arith, count)) (ap (λ m. take m behind) count),
     )
   where
     k : ℕ
@@ -167,8 +167,8 @@ exact_step s n p c sets blocks a h few l due reach e fits ih =
 optimal_from : (s : Settings) (n p : ℕ) (sets : List CodedDataSet) (blocks : List Block) → IsAllowed s → n ≤ s.interval → Covers s n p sets
     → AreDueFrom s p blocks
     → p + length blocks ≡ n → take (length blocks) (covered_blocks s p sets) ≡ blocks → cost_from s p blocks ≤ length (flat_map (cds_bits s) sets)
-optimal_from s n p sets [] a few h due reach e = omega (arith, cost_from-nil s p)
-optimal_from s n p [] (b ∷ blocks) a few h due reach e = absurd (omega (arith, leb-true n p h))
+optimal_from s n p sets [] a few h due reach e = omega (arith, cost_from-nil)
+optimal_from s n p [] (b ∷ blocks) a few h due reach e = absurd (omega (arith, leb-true))
 optimal_from s n p (c ∷ sets) (b ∷ blocks) a few h due reach e =
     ⊎_elim last
     (λ l. exact_step s n p c sets (b ∷ blocks) a (omega arith) few h.1 due reach e l
@@ -187,12 +187,8 @@ optimal_from s n p (c ∷ sets) (b ∷ blocks) a few h due reach e =
     last : length whole < k → cost_from s p whole ≤ length (cds_bits s c ++ flat_map (cds_bits s) sets)
     last l =
         let cut : take (length whole) front ≡ whole =
-        sym (take-append-le (length whole) front (covered_blocks s (p + k) sets) (omega (arith, length-cds_blocks s p c (omega arith)))) ∙ e in
-        omega (
-          arith,
-          overhang s p c.reference c.body whole (omega arith) h.1 (omega arith) l cut,
-          length-append (cds_bits s c) (flat_map (cds_bits s) sets),
-        )
+        sym (take-append-le (length whole) front (covered_blocks s (p + k) sets) (omega (arith, length-cds_blocks))) ∙ e in
+        omega (arith, overhang s p c.reference c.body whole (omega arith) h.1 (omega arith) l cut, length-append (cds_bits s c) (flat_map (cds_bits s) sets))
 
 -- ---- an interval, and all samples
 
@@ -204,7 +200,7 @@ unpadded_bits-optimal s (x ∷ v) bits a held some fits r =
     let blocks = blocks_of s (x ∷ v) in
     let due = AreDueFrom-blocks_of s x v a held fits in
     let least = optimal_from s (length blocks) 0 r.sets blocks a (blocks-few s (x ∷ v) a fits) r.covers due (omega arith) r.stand_for in
-    grind (arith, cost_from-segment s 0 blocks refl, r.spelled)
+    grind (arith, cost_from-segment s 0 blocks refl)
 
 -- without padding, the code of an interval is as long as its unpadded bits
 unpadded : (s : Settings) (v : List ℤ) → s.pad ≡ false → length (interval_bits s v) ≡ length (unpadded_bits s v)
@@ -216,9 +212,9 @@ IsShortest s xs = AllByRecursion (IsHeld s) xs → (codes : List (List Bool)) �
 
 shortest_on : (s : Settings) → IsAllowed s → s.pad ≡ false → (front rest : List ℤ) → IsPieceBefore (interval_len s) front rest → IsShortest s rest
     → IsShortest s (front ++ rest)
-shortest_on s a e front rest piece ih held [] each = absurd (rw (pieces_of-cons (interval_len s) front rest piece) at each)
+shortest_on s a e front rest piece ih held [] each = absurd (rw pieces_of-cons at each)
 shortest_on s a e front rest piece ih held (code ∷ codes) each =
-    let parts = rw (pieces_of-cons (interval_len s) front rest piece) at each in
+    let parts = rw pieces_of-cons at each in
     let first = unpadded_bits-optimal s front code a (all_left (IsHeld s) front rest held) piece.some piece.fits parts.0 in
     let later = ih (all_right (IsHeld s) front rest held) codes parts.1 in
     grind (arith, stream_of-cons, length-append, unpadded)
@@ -227,5 +223,5 @@ pub codes_are_shortest : (s : Settings) (samples : List ℤ) → IsAllowed s →
 codes_are_shortest s samples a = record {
   interval = λ v bits r. unpadded_bits-optimal s samples bits a v.held v.some v.fits r;
   stream = λ held e codes each. by_pieces (IsShortest s) (interval_len s) (interval_len-positive s a)
-      (λ _ codes _. grind (arith, stream_of-nil)) (shortest_on s a e) samples held codes each;
+      (λ _ codes _. grind arith) (shortest_on s a e) samples held codes each;
 }

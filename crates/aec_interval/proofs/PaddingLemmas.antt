@@ -11,5 +11,5 @@ pub closed-padded : (s : Settings) (start n : ℕ) (old new : List Bool) → sta
     → new ≡ old ++ binary ((8 - (n - start) % 8) % 8) 0 → new ≡ take start old ++ (if s.pad then padded_to_byte (drop start old) else drop start old)
 closed-padded s start n old new within is_n pad written =
     let missing = replicate (up_to_multiple 8 (length (drop start old))) false in
-    let len : n - start ≡ length (drop start old) = omega (arith, is_n, length-drop start old) in
+    let len : n - start ≡ length (drop start old) = omega (arith, length-drop start old) in
     cc (binary-zero (up_to_multiple 8 (length (drop start old))), take-append-drop start old, append_assoc (take start old) (drop start old) missing)

@@ -5,7 +5,6 @@ use Rattle.std.specs.List.{AllByRecursion}
 use Rattle.std.specs.Result.{result_err}
 use Rattle.std.proofs.Math.Nat.{div-eq_of_eq-mul_left}
 use Rattle.std.proofs.lemmas.List.{length-append, nil_from_length, take-append-drop, take_all, length-take-le}
-use Rattle.std.proofs.lemmas.Nat.{div-add-mod'}
 use Rattle.aec_params.specs.declared.settings.Settings.{Settings}
 use Rattle.aec_params.specs.declared.fault.Fault.{Fault}
 use Rattle.aec_params.specs.declared.fault.Fault.TheVariants.{Memory}
@@ -35,7 +34,7 @@ no_bits s bits held a few = rw (whole_front-few, stream_of-nil, append-nil)
 -- samples that fill an interval, and are `IsFewOrWhole`, are whole intervals
 whole_count : (n m : ℕ) → n ≤ m → IsFewOrWhole n m → m ≡ m / n * n
 whole_count n m most (inl few) = absurd (omega arith)
-whole_count n m most (inr whole) = omega (arith, whole, div-add-mod' m n)
+whole_count n m most (inr whole) = omega arith
 
 none_held : (s : Settings) (held : List ℤ) → IsAllowed s → interval_len s ≤ length held → IsFewOrWhole (interval_len s) (length held)
     → [] ≡ left_behind (interval_len s) held
@@ -59,8 +58,8 @@ no_memory_here : (u : Terms) (p : Progress) (g : List ℕ) (before after : List 
 no_memory_here u p g before after xs fault h taken some memory same =
     let c : Coder = coder_at u p [] in
     let len = ap (λ (t : TakenSamples). length t.samples) taken in
-    rw memory (no_memory 0 [] (samples_with c g) refl (omega arith) (omega (arith, len, some, length-append p.held (taken_of c g).samples))
-    (omega (arith, len, some)) (rw (same, stream_of-nil u.params h.held.allowed, append-nil)))
+    rw memory (no_memory 0 [] (samples_with c g) refl (omega arith) (omega (arith, length-append p.held (taken_of c g).samples))
+    (omega arith) (rw (same, stream_of-nil u.params h.held.allowed, append-nil)))
 
 -- good samples are taken
 samples_fed : (u : Terms) (p : Progress) (kept : List ℤ) (many n : ℕ) (g : List ℕ) (before after : List Bool) (xs : List ℤ)
@@ -73,10 +72,8 @@ samples_fed u p kept many n g before after xs h whole taken held count bits =
     record {
       taken = rw taken;
       bits = rw (bits, taken);
-      coder = same_coding u.params u.limit kept (fed c g).held [] (fed c g).rest many (fed c g).count None (fed c g).refusal
-          (rw (held, taken))
-          (sym (left_behind-none (storage_len u.params) n g (omega (arith, storage-least u.params h.held.allowed)) whole))
-          (rw (count, taken)) (rw taken);
+      coder = same_coding u.params u.limit kept (fed c g).held [] (fed c g).rest many (fed c g).count None (fed c g).refusal (rw (held, taken))
+          (sym (left_behind-none (storage_len u.params) n g (omega (arith, storage-least)) whole)) (rw (count, taken)) (rw taken);
     }
 
 -- ---- bytes of which no sample is refused
@@ -88,10 +85,10 @@ good_samples (Err k) good = absurd (cc)
 good_taken : (u : Terms) (p : Progress) (part : List ℕ) (xs : List ℤ) → samples_of_bytes u.params part ≡ Ok xs
     → p.count + length part / storage_len u.params ≤ u.limit → taken_groups u.params u.limit p.count (byte_groups u.params part) ≡ all_taken xs
 good_taken u p part xs read within =
-    taken_groups-good u.params u.limit p.count 0 (byte_groups u.params part) xs read (omega (arith, within, length-samples_of_bytes u.params part xs read))
+    taken_groups-good u.params u.limit p.count 0 (byte_groups u.params part) xs read (omega (arith, length-samples_of_bytes u.params part xs read))
 
 pub part_count : (s : Settings) (part : List ℕ) (n : ℕ) → IsAllowed s → length part ≡ n * storage_len s → length part / storage_len s ≡ n
-part_count s part n a whole = div-eq_of_eq-mul_left (omega (arith, storage-least s a)) whole
+part_count s part n a whole = div-eq_of_eq-mul_left (omega (arith, storage-least)) whole
 
 -- ---- a part is taken
 
@@ -101,7 +98,7 @@ pub part_no_memory : (u : Terms) (p : Progress) (part : List ℕ) (before after 
 part_no_memory u p part before after fault h k memory same =
     let read = good_samples (samples_of_bytes u.params part) k.good in
     let some : 0 < length read.0 =
-    omega (arith, length-samples_of_bytes u.params part read.0 read.1, part_count u.params part k.samples h.held.allowed k.whole, k.some) in
+    omega (arith, length-samples_of_bytes u.params part read.0 read.1, part_count u.params part k.samples h.held.allowed k.whole) in
     no_memory_here u p part before after read.0 fault h (good_taken u p part read.0 read.1 k.within) some memory same
 
 -- a part is taken
@@ -115,8 +112,7 @@ part_fed u p kept more many w part before after h k width behind held count bits
     let joined : more ≡ p.held ++ read.0 = cc in
     let len = length-samples_of_bytes u.params part read.0 read.1 in
     samples_fed u p kept many k.samples part before after read.0 h k.whole (good_taken u p part read.0 read.1 k.within)
-    (rw (held, joined)) (rw (count, width, len))
-    (rw (bits, joined))
+    (rw (held, joined)) (rw (count, width, len)) (rw (bits, joined))
 
 -- a part is taken, and with the held samples it fills no interval
 pub part_held : (u : Terms) (p : Progress) (more : List ℤ) (many w : ℕ) (part : List ℕ) (bits : List Bool) → IsProgress u p
@@ -140,7 +136,7 @@ part_coded u p kept more samples many w part before after (Err fault) h k width 
 part_coded u p kept more samples many w part before after (Ok _) h k width behind len none same count most ok err memory =
     let a = h.held.allowed in
     let whole : IsFewOrWhole (interval_len u.params) (length more) =
-    subst (IsFewOrWhole (interval_len u.params)) (omega (arith, len, part_count u.params part k.samples a k.whole)) k.fills in
+    subst (IsFewOrWhole (interval_len u.params)) (omega (arith, part_count u.params part k.samples a k.whole)) k.fills in
     part_fed u p kept more many w part before after h k width behind (none ∙ none_held u.params more a most whole) count
     (ok ∙ complete_bits u.params before more samples a same most whole)
 
@@ -172,7 +168,7 @@ pub short_fed : (u : Terms) (p : Progress) (rest piece longer : List ℕ) (bits 
     → longer ≡ rest ++ piece → length rest + length piece < storage_len u.params
     → Feeds (coder_at u p rest) piece bits bits (coder_at u p longer)
 short_fed u p rest piece longer bits h longer_is few =
-    let short : length (rest ++ piece) < storage_len u.params = omega (arith, length-append rest piece, few) in
+    let short : length (rest ++ piece) < storage_len u.params = omega (arith, length-append rest piece) in
     let c : Coder = coder_at u p rest in
     let none : taken_groups u.params u.limit p.count (byte_groups u.params (rest ++ piece)) ≡ none_taken None = rw byte_groups-short in
     let same : p.held ≡ samples_with c piece = rw (none, append-nil) in
@@ -181,14 +177,13 @@ short_fed u p rest piece longer bits h longer_is few =
       bits = cc (no_bits u.params bits p.held h.held.allowed h.held.few);
       coder = same_coding u.params u.limit p.held (fed c piece).held longer (fed c piece).rest p.count (fed c piece).count None (fed c piece).refusal
           (cc (left_behind-few_all (interval_len u.params) p.held h.held.few))
-          (longer_is ∙ sym (left_behind-few_all (storage_len u.params) (rest ++ piece) short))
-          (grind arith) (rw none);
+          (longer_is ∙ sym (left_behind-few_all (storage_len u.params) (rest ++ piece) short)) (grind arith) (rw none);
     }
 
 -- an empty piece changes nothing
 pub nothing_fed : (u : Terms) (p : Progress) (bits : List Bool) → IsProgress u p
     → Feeds (coder_at u p []) [] bits bits (coder_at u p [])
-nothing_fed u p bits h = short_fed u p [] [] [] bits h refl (omega (arith, storage-least u.params h.held.allowed))
+nothing_fed u p bits h = short_fed u p [] [] [] bits h refl (omega (arith, storage-least))
 
 pub cut_at : (n : ℕ) (xs front behind : List ℕ) → front ≡ take n xs → behind ≡ drop n xs → xs ≡ front ++ behind
 cut_at n xs front behind e f = rw (f, e, take-append-drop)
@@ -201,7 +196,7 @@ rest_stops u p rest front before after fault (no_memory k whole behind cut len l
 
 pub no_rest : (u : Terms) (p : Progress) (rest piece : List ℕ) (bits : List Bool) → IsProgress u p → length rest ≡ 0
     → FeedsFront (coder_at u p rest) piece piece bits bits (coder_at u p [])
-no_rest u p rest piece bits h none = rw (nil_from_length rest none) (record { front = []; cut = refl; feeds = nothing_fed u p bits h })
+no_rest u p rest piece bits h none = rw (nil_from_length rest) (record { front = []; cut = refl; feeds = nothing_fed u p bits h })
 
 pub rest_refused : (u : Terms) (p : Progress) (rest g piece front behind : List ℕ) (before after : List Bool) (fault : Fault)
     → IsAllowed u.params → g ≡ rest ++ front → piece ≡ front ++ behind → StopsFeeding (coder_at u p []) g before after fault
@@ -212,7 +207,7 @@ rest_refused u p rest g piece front behind before after fault a e cut stops =
 -- a part of the bytes of one sample is the whole sample
 whole_sample : (u : Terms) (p : Progress) (sample : List ℕ) (n : ℕ) → length sample ≡ storage_len u.params → n ≤ length sample
     → IsPart u p (take n sample) → take n sample ≡ sample
-whole_sample u p sample n len within k = take_all n sample (omega (arith, len, within, length-take-le n sample within, least k.samples k.some k.whole))
+whole_sample u p sample n len within k = take_all n sample (omega (arith, length-take-le n sample within, least k.samples k.some k.whole))
   where
     least : (m : ℕ) → 0 < m → length (take n sample) ≡ m * storage_len u.params → storage_len u.params ≤ length (take n sample)
     least zero some e = absurd (omega arith)
@@ -252,8 +247,7 @@ left_refused c d piece left b0 b1 b2 fault a h stops = rw h.cut (stops_later c d
 pub part_stops : (c d : Coder) (piece left part later : List ℕ) (b0 b1 b2 : List Bool) (fault : Fault) → IsAllowed c.settings
     → FeedsFront c piece left b0 b1 d → left ≡ part ++ later → StopsFeeding d part b1 b2 fault → StopsFeeding c piece b0 b2 fault
 part_stops c d piece left part later b0 b1 b2 fault a h cut stops =
-    left_refused c d piece left b0 b1 b2 fault a h
-    (rw cut (stops_before d part later b1 b2 fault (rw h.feeds.coder a) stops))
+    left_refused c d piece left b0 b1 b2 fault a h (rw cut (stops_before d part later b1 b2 fault (rw h.feeds.coder a) stops))
 
 -- the bytes that are left complete no interval, and the piece is taken
 pub left_kept : (c d e : Coder) (piece left : List ℕ) (b0 b1 : List Bool) → IsAllowed c.settings → FeedsFront c piece left b0 b1 d

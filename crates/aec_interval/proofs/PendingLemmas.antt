@@ -31,14 +31,7 @@ pub pending-filled : (s : Settings) (run : Run) (b : Block) (rest : List Block) 
 pending-filled s run b rest old mid new filled is_mid is_new =
     let before = bits_of_run s run.reference run.blocks false in
     let more = flat_map (cds_bits s) (group_sets s (groups_of rest)) in
-    rw (
-      is_new,
-      is_mid,
-      append_assoc (old ++ before) (shortest_bits s b) more,
-      append_assoc old before (shortest_bits s b ++ more),
-      filled,
-      bits-run_before s run.reference run.blocks b (groups_of rest),
-    )
+    rw (is_new, is_mid, append_assoc, append_assoc, filled, bits-run_before)
 
 -- ---- bits that are kept
 

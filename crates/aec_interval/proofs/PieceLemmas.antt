@@ -3,7 +3,7 @@
 use Rattle.std.proofs.Common.{◌≡◌, ℕ, zero, suc, ◌+◌, ◌*◌, ◌/◌, ◌<◌, List, [], ◌++◌, length, take, drop, ap, append-nil, append_assoc, ◌∙◌, arith, ℤ}
 use Rattle.std.proofs.Math.Nat.{add-mul-div_right, div-eq_of_lt}
 use Rattle.std.proofs.lemmas.List.{take_at, drop_at, take-append-drop, length-take, length-drop, length-append, nil_from_length}
-use Rattle.std.proofs.lemmas.Nat.{div-add-mod', mod_below}
+use Rattle.std.proofs.lemmas.Nat.{mod_below}
 use Rattle.aec_params.specs.declared.settings.Settings.{Settings}
 use Rattle.aec_params.specs.Params.{IsAllowed, interval_len, storage_len}
 use Rattle.aec_params.specs.Stored.{byte_groups}
@@ -20,16 +20,16 @@ pub whole_and_left : {X : Type 0} (n : ℕ) (xs : List X) → whole_front n xs +
 whole_and_left n xs = take-append-drop (length xs / n * n) xs
 
 pub length-whole_front : {X : Type 0} (n : ℕ) (xs : List X) → 0 < n → length (whole_front n xs) ≡ length xs / n * n
-length-whole_front n xs h = omega (arith, length-take (length xs / n * n) xs, div-add-mod' (length xs) n)
+length-whole_front n xs h = omega (arith, length-take (length xs / n * n) xs)
 
 pub left_behind-few : {X : Type 0} (n : ℕ) (xs : List X) → 0 < n → length (left_behind n xs) < n
-left_behind-few n xs h = omega (arith, length-drop (length xs / n * n) xs, div-add-mod' (length xs) n, mod_below (length xs) n h)
+left_behind-few n xs h = omega (arith, length-drop (length xs / n * n) xs, mod_below (length xs) n h)
 
 -- k whole pieces, and less than one piece
 whole_len : {X : Type 0} (n k : ℕ) (front back : List X) → length front ≡ k * n → length back < n → length front ≡ length (front ++ back) / n * n
 whole_len n k front back whole few =
     let count : length (front ++ back) / n ≡ k =
-    ap (λ m. m / n) (omega (arith, length-append front back)) ∙ add-mul-div_right (length back) k (omega arith) ∙ omega (arith, div-eq_of_lt few) in
+    ap (λ m. m / n) (omega (arith, length-append front back)) ∙ add-mul-div_right (length back) k (omega arith) ∙ omega (arith, div-eq_of_lt) in
     rw (whole, count)
 
 pub whole_front-cut : {X : Type 0} (n k : ℕ) (front back : List X) → length front ≡ k * n → length back < n → whole_front n (front ++ back) ≡ front
@@ -47,8 +47,7 @@ regrouped n xs ys =
     cc (
       whole_and_left n xs,
       append_assoc (whole_front n xs) (left_behind n xs) ys,
-      append_assoc (whole_front n xs) (whole_front n more)
-          (left_behind n more),
+      append_assoc (whole_front n xs) (whole_front n more) (left_behind n more),
       whole_and_left n more,
     )
 
@@ -61,7 +60,7 @@ pub whole_front-append : {X : Type 0} (n : ℕ) (xs ys : List X) → 0 < n
 whole_front-append n xs ys h =
     let more = left_behind n xs ++ ys in
     rw (
-      regrouped n xs ys,
+      regrouped n,
       whole_front-cut n (length xs / n + length more / n) (whole_front n xs ++ whole_front n more) (left_behind n more)
           (regrouped_len n xs more h) (left_behind-few n more h),
     )
@@ -70,7 +69,7 @@ pub left_behind-append : {X : Type 0} (n : ℕ) (xs ys : List X) → 0 < n → l
 left_behind-append n xs ys h =
     let more = left_behind n xs ++ ys in
     rw (
-      regrouped n xs ys,
+      regrouped n,
       left_behind-cut n (length xs / n + length more / n) (whole_front n xs ++ whole_front n more) (left_behind n more)
           (regrouped_len n xs more h) (left_behind-few n more h),
     )
@@ -87,13 +86,13 @@ pub whole_front-all : {X : Type 0} (n k : ℕ) (xs : List X) → 0 < n → lengt
 whole_front-all n k xs h whole = cc (append-nil xs, whole_front-cut n k xs [] whole h)
 
 pub left_behind-none : {X : Type 0} (n k : ℕ) (xs : List X) → 0 < n → length xs ≡ k * n → left_behind n xs ≡ []
-left_behind-none n k xs h whole = rw (← (append-nil xs), left_behind-cut n k xs [] whole h)
+left_behind-none n k xs h whole = rw (← (append-nil xs), left_behind-cut n k)
 
 -- ---- intervals of samples
 
 pub stream_of-append : (s : Settings) (k : ℕ) (front back : List ℤ) → IsAllowed s → length front ≡ k * interval_len s
     → stream_of s (front ++ back) ≡ stream_of s front ++ stream_of s back
-stream_of-append s k front back a whole = code_of-append (interval_format s) k front back (omega (arith, interval_len-positive s a)) whole
+stream_of-append s k front back a whole = code_of-append (interval_format s) k front back (omega (arith, interval_len-positive)) whole
 
 -- ---- groups of bytes
 
@@ -102,7 +101,7 @@ pub byte_groups-whole : (s : Settings) (k : ℕ) (front back : List ℕ) → IsA
 byte_groups-whole s zero front back a whole =
     let none : front ≡ [] = nil_from_length front (omega arith) in
     let some = storage-least s a in
-    rw (none, byte_groups-short s [] (omega arith))
+    rw (none, byte_groups-short s [])
 byte_groups-whole s (suc k) front back a whole =
     let n = storage_len s in
     let g = take n front in
@@ -122,7 +121,7 @@ pub byte_groups-append : (s : Settings) (xs ys : List ℕ) → IsAllowed s
     → byte_groups s (xs ++ ys) ≡ byte_groups s xs ++ byte_groups s (left_behind (storage_len s) xs ++ ys)
 byte_groups-append s xs ys a =
     let n = storage_len s in
-    let some : 0 < n = omega (arith, storage-least s a) in
+    let some : 0 < n = omega (arith, storage-least) in
     let front = whole_front n xs in
     let left = left_behind n xs in
     let whole = length-whole_front n xs some in
@@ -131,7 +130,6 @@ byte_groups-append s xs ys a =
       whole_and_left n xs,
       byte_groups-whole s (length xs / n) front left a whole,
       byte_groups-short s left (left_behind-few n xs some),
-      append-nil
-          (byte_groups s front),
+      append-nil (byte_groups s front),
     ) in
     cc (whole_and_left n xs, append_assoc front left ys, byte_groups-whole s (length xs / n) front (left ++ ys) a whole)

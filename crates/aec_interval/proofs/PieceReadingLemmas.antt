@@ -4,7 +4,6 @@ use Rattle.std.proofs.Common.{◌≡◌, ℕ, ◌+◌, ◌-◌, ◌*◌, ◌/◌
 use Rattle.std.specs.Int.{div_ceil}
 use Rattle.std.specs.List.{AllByRecursion}
 use Rattle.std.proofs.Math.Nat.{mul-le-mul_right}
-use Rattle.std.proofs.lemmas.Nat.{div-add-mod'}
 use Rattle.std.proofs.lemmas.Bool.{ltb-true, cases_Bool}
 use Rattle.std.proofs.lemmas.List.{length-take, length-append, take_all, take_at, take-append-drop}
 use Rattle.std.proofs.lemmas.List.Concat.{flat_map-append}
@@ -12,9 +11,8 @@ use Rattle.aec_params.specs.declared.settings.Settings.{Settings}
 use Rattle.aec_params.specs.declared.fault.Fault.{Fault}
 use Rattle.aec_params.specs.declared.fault.Fault.TheVariants.{Memory}
 use Rattle.aec_params.specs.Params.{IsAllowed, IsHeld, interval_len}
-use Rattle.aec_params.specs.Cutting.{pieces_of}
 use Rattle.aec_params.specs.CodedDataSets.{CodedDataSet}
-use Rattle.aec_params.specs.Blocks.{Block, blocks_of, all_blocks_of}
+use Rattle.aec_params.specs.Blocks.{Block, all_blocks_of}
 use Rattle.aec_params.specs.Reading.{is_wanted, LeadsTo, stream_blocks, kept_blocks, IsBlockReading, FillBlocks, counted_samples, IsReading}
 use Rattle.aec_params.specs.Faults.{IsFault}
 use Rattle.aec_params.proofs.ReadingLaws.{FillBlocks-one_to_one}
@@ -39,27 +37,21 @@ use Rattle.aec_interval.proofs.UpToLemmas.{up_to-reading}
 
 -- the samples of i blocks fill whole intervals, if i is a multiple of r
 pub whole_intervals : (s : Settings) (i len : ℕ) → i % s.interval ≡ 0 → len ≡ i * s.block_size → len ≡ i / s.interval * interval_len s
-whole_intervals s i len begins is =
-    is ∙ ap (λ n. n * s.block_size) (omega (arith, div-add-mod' i s.interval, begins)) ∙ regrouped (i / s.interval) s.interval s.block_size
+whole_intervals s i len begins is = is ∙ ap (λ n. n * s.block_size) (omega arith) ∙ regrouped (i / s.interval) s.interval s.block_size
   where
     regrouped : (k r j : ℕ) → k * r * j ≡ k * (j * r)
     regrouped k r j = omega arith
 
 pub all_blocks_of-append : (s : Settings) (k : ℕ) (front back : List ℤ) → IsAllowed s → length front ≡ k * interval_len s
     → all_blocks_of s (front ++ back) ≡ all_blocks_of s front ++ all_blocks_of s back
-all_blocks_of-append s k front back a whole =
-    rw (
-      pieces_of-append (interval_len s) k front back (interval_len-positive s a) whole,
-      flat_map-append (blocks_of s)
-          (pieces_of (interval_len s) front) (pieces_of (interval_len s) back),
-    )
+all_blocks_of-append s k front back a whole = rw (pieces_of-append (interval_len s) k front back (interval_len-positive s a), flat_map-append)
 
 pub FillBlocks-append : (s : Settings) (k : ℕ) (front back : List ℤ) (bs cs : List Block) → IsAllowed s → length front ≡ k * interval_len s
     → FillBlocks s front bs → FillBlocks s back cs → FillBlocks s (front ++ back) (bs ++ cs)
 FillBlocks-append s k front back bs cs a whole first second = record {
   held = all-append (IsHeld s) front back first.held second.held;
   whole = both (length bs) (length cs) s.block_size (length front) (length back) first.whole second.whole (length-append front back) (length-append bs cs);
-  mapped = rw (all_blocks_of-append s k front back a whole, first.mapped, second.mapped);
+  mapped = rw (all_blocks_of-append s k, first.mapped, second.mapped);
 }
   where
     both : (m n j x y : ℕ) {t u : ℕ} → x ≡ m * j → y ≡ n * j → t ≡ x + y → u ≡ m + n → t ≡ u * j
@@ -71,7 +63,7 @@ pub FillBlocks-front : (s : Settings) (i : ℕ) (samples : List ℤ) (bs cs : Li
 FillBlocks-front s i samples bs cs a begins count filled = record {
   held = all_left (IsHeld s) front back (rw cut filled.held);
   whole = rw (len, count);
-  mapped = rw (← (take_at (all_blocks_of s front) (all_blocks_of s back) i blocks), together, take_at bs cs i count);
+  mapped = rw (← (take_at (all_blocks_of s front) (all_blocks_of s back) i blocks), together, take_at);
 }
   where
     front : List ℤ
@@ -84,15 +76,15 @@ FillBlocks-front s i samples bs cs a begins count filled = record {
     cut = take-append-drop (i * s.block_size) samples
 
     enough : (i n m j : ℕ) → m ≡ i + n → i * j ≤ m * j
-    enough i n m j e = mul-le-mul_right j (omega (arith, e))
+    enough i n m j e = mul-le-mul_right j (omega arith)
 
     len : length front ≡ i * s.block_size
-    len = omega (
-      arith,
-      length-take (i * s.block_size) samples,
-      filled.whole,
-      enough i (length cs) (length (bs ++ cs)) s.block_size (length-append bs cs ∙ ap (λ n. n + length cs) count),
-    )
+    len =
+        omega (
+          arith,
+          length-take (i * s.block_size) samples,
+          enough i (length cs) (length (bs ++ cs)) s.block_size (length-append bs cs ∙ ap (λ n. n + length cs) count),
+        )
 
     blocks : length (all_blocks_of s front) ≡ i
     blocks = rw (length-all_blocks_of, len, div_ceil-times i s.block_size (block_size-positive s a))
@@ -105,8 +97,8 @@ FillBlocks-front s i samples bs cs a begins count filled = record {
 -- a block that is needed begins before the count
 pub before_count : (s : Settings) (count i : ℕ) → IsAllowed s → i < div_ceil count s.block_size → i * s.block_size < count
 before_count s count i a below =
-    let next : (i + 1) * s.block_size ≤ div_ceil count s.block_size * s.block_size = mul-le-mul_right s.block_size (omega (arith, below)) in
-    omega (arith, next, one_more i s.block_size, div_ceil-bounds count s.block_size (block_size-positive s a))
+    let next : (i + 1) * s.block_size ≤ div_ceil count s.block_size * s.block_size = mul-le-mul_right s.block_size (omega arith) in
+    omega (arith, one_more i s.block_size, div_ceil-bounds count s.block_size (block_size-positive s a))
   where
     one_more : (i j : ℕ) → (i + 1) * j ≡ i * j + j
     one_more i j = omega arith
@@ -153,7 +145,7 @@ module _ (s : Settings) (a : IsAllowed s) (count : Option ℕ) (limit : ℕ) (bi
           end_bit = h.end_bit;
           leads = LeadsTo-append s count limit bits 0 0 sets i b h.sets h.end_block h.end_bit leads h.leads;
           done = h.done;
-          kept = rw (kept_blocks-joined s count limit bits 0 0 sets i b h.sets a leads wanted, h.kept);
+          kept = rw (kept_blocks-joined s count limit bits 0 0 sets i b, h.kept);
         }
 
     pub the_rest : IsRest
@@ -193,9 +185,7 @@ module _ (s : Settings) (a : IsAllowed s) (count : Option ℕ) (limit : ℕ) (bi
     last = h.last;
     block = h.block;
     bit = h.bit;
-    leads =
-        rw (append_assoc read.sets h.sets (h.last ∷ [])) (LeadsTo-append s count limit bits 0 0 read.sets i b (h.sets ++ (h.last ∷ [])) h.block h.bit
-        read.leads h.leads);
+    leads = rw append_assoc (LeadsTo-append s count limit bits 0 0 read.sets i b (h.sets ++ (h.last ∷ [])) h.block h.bit read.leads h.leads);
   })
 
   -- if all bits have a reading, only memory can be missing
@@ -219,7 +209,7 @@ module _ (s : Settings) (a : IsAllowed s) (count : Option ℕ) (limit : ℕ) (bi
     all-asked None wanted = refl
     all-asked (Some n) wanted =
         let below = before_count s n i a (ltb-true i (div_ceil n s.block_size) wanted) in
-        take_all (n - 0 * s.block_size) read.all_samples (omega (arith, all-len, below))
+        take_all (n - 0 * s.block_size) read.all_samples (omega (arith, all-len))
 
     xs-all : xs ≡ read.all_samples
     xs-all = read.counted ∙ all-asked count wanted
@@ -235,7 +225,7 @@ module _ (s : Settings) (a : IsAllowed s) (count : Option ℕ) (limit : ℕ) (bi
     counted-behind None more wanted = refl
     counted-behind (Some n) more wanted =
         let below = before_count s n i a (ltb-true i (div_ceil n s.block_size) wanted) in
-        rw (take-append-past n xs more (omega (arith, xs-len, below)), xs-len)
+        rw (take-append-past n xs more (omega (arith, xs-len)), xs-len)
 
     module _ (begins : i % s.interval ≡ 0) where
       pub intervals : length xs ≡ i / s.interval * interval_len s
@@ -246,7 +236,7 @@ module _ (s : Settings) (a : IsAllowed s) (count : Option ℕ) (limit : ℕ) (bi
         sets = read.sets ++ piece.sets;
         leads = LeadsTo-append s count limit bits 0 0 read.sets i b piece.sets q.block q.bit read.leads piece.leads;
         all_samples = xs ++ piece.all_samples;
-        filled = rw (kept_blocks-joined s count limit bits 0 0 read.sets i b piece.sets a read.leads wanted)
+        filled = rw (kept_blocks-joined s count limit bits 0 0 read.sets i b piece.sets a read.leads)
             (FillBlocks-append s (i / s.interval) xs piece.all_samples before
             (kept_blocks s count i (stream_blocks s i piece.sets)) a intervals xs-filled piece.filled);
         counted = rw (piece.counted, counted-behind, counted-start);
@@ -335,7 +325,7 @@ has_read_front p xs samples a read begins whole =
 
 -- the samples so far are at most those of the blocks before the place
 pub has_read_few : (p : Place) (xs : List ℤ) → IsAllowed p.settings → HasRead p xs → length xs ≤ p.block * p.settings.block_size
-has_read_few p xs a read = omega (arith, asked p.count read.counted, read.filled.whole, most)
+has_read_few p xs a read = omega (arith, asked p.count read.counted, most)
   where
     before : List Block
     before = stream_blocks p.settings 0 read.sets
@@ -345,11 +335,12 @@ has_read_few p xs a read = omega (arith, asked p.count read.counted, read.filled
     kept (Some n) = omega (arith, length-take (div_ceil n p.settings.block_size - 0) before)
 
     most : length (kept_blocks p.settings p.count 0 before) * p.settings.block_size ≤ p.block * p.settings.block_size
-    most = mul-le-mul_right p.settings.block_size (omega (
-      arith,
-      kept p.count,
-      length-stream_blocks p.settings p.count p.limit p.bits 0 0 read.sets p.block p.bit (interval-positive p.settings a) read.leads,
-    ))
+    most =
+        mul-le-mul_right p.settings.block_size (omega (
+          arith,
+          kept p.count,
+          length-stream_blocks p.settings p.count p.limit p.bits 0 0 read.sets p.block p.bit (interval-positive p.settings a) read.leads,
+        ))
 
     asked : (count : Option ℕ) → xs ≡ counted_from p.settings count 0 read.all_samples → length xs ≤ length read.all_samples
     asked None is = grind arith
@@ -362,7 +353,7 @@ piece_is_held p q xs piece = rw piece.counted (asked p.count)
     asked : (count : Option ℕ) → AllByRecursion (IsHeld p.settings) (counted_from p.settings count p.block piece.all_samples)
     asked None = piece.filled.held
     asked (Some n) = all_left (IsHeld p.settings) _ (drop (n - p.block * p.settings.block_size) piece.all_samples)
-        (rw (take-append-drop (n - p.block * p.settings.block_size) piece.all_samples) piece.filled.held)
+        (rw take-append-drop piece.filled.held)
 
 pub steps_are_the_reading : AllStepsAreTheReading
 steps_are_the_reading = record {

@@ -41,20 +41,20 @@ end_of-reaches s n p (c ∷ sets) h = end_of-reaches s n (p + block_count s p c)
 
 pub end_of-within : (s : Settings) (n p : ℕ) (sets : List CodedDataSet) → Covers s n p sets → n ≤ s.interval → p ≤ s.interval → end_of s p sets ≤ s.interval
 end_of-within s n p [] h few k = k
-end_of-within s n p (c ∷ sets) h few k = end_of-within s n (p + block_count s p c) sets h.2 few (lawful-within s p c h.1 (omega (arith, h.0)))
+end_of-within s n p (c ∷ sets) h few k = end_of-within s n (p + block_count s p c) sets h.2 few (lawful-within s p c h.1 (omega arith))
 
 pub length-covered_blocks : (s : Settings) (n p : ℕ) (sets : List CodedDataSet) → Covers s n p sets → n ≤ s.interval
     → p + length (covered_blocks s p sets) ≡ end_of s p sets
 length-covered_blocks s n p [] h few = omega arith
 length-covered_blocks s n p (c ∷ sets) h few =
     let later = length-covered_blocks s n (p + block_count s p c) sets h.2 few in
-    omega (arith, length-append (cds_blocks s p c) (covered_blocks s (p + block_count s p c) sets), length-cds_blocks s p c (omega (arith, h.0)))
+    omega (arith, length-append (cds_blocks s p c) (covered_blocks s (p + block_count s p c) sets), length-cds_blocks s p c (omega arith))
 
 pub stream_blocks-covered : (s : Settings) (n p k i : ℕ) (sets : List CodedDataSet) → Covers s n p sets → n ≤ s.interval → i ≡ k * s.interval + p
     → stream_blocks s i sets ≡ covered_blocks s p sets
 stream_blocks-covered s n p k i [] h few e = refl
 stream_blocks-covered s n p k i (c ∷ sets) h few e =
-    let place : i % s.interval ≡ p = rw e (mod-mul-add k s.interval p (omega (arith, h.0))) in
+    let place : i % s.interval ≡ p = rw e (mod-mul-add k s.interval p (omega arith)) in
     cc (stream_blocks-covered s n (p + block_count s p c) k (next_block s i c) sets h.2 few (grind arith))
 
 -- ---- one walk after another
@@ -71,22 +71,12 @@ pub stream_blocks-append : (s : Settings) (count : Option ℕ) (limit : ℕ) (bi
     → LeadsTo s count limit bits i b sets j e → stream_blocks s i (sets ++ later) ≡ stream_blocks s i sets ++ stream_blocks s j later
 stream_blocks-append s count limit bits i b [] j e later h = rw h.0
 stream_blocks-append s count limit bits i b (c ∷ sets) j e later h =
-    rw (
-      stream_blocks-append s count limit bits (next_block s i c) (next_begin s bits i b c) sets j e later h.4,
-      append_assoc
-          (cds_blocks s (i % s.interval) c) (stream_blocks s (next_block s i c) sets) (stream_blocks s j later),
-    )
+    rw (stream_blocks-append s count limit bits (next_block s i c) (next_begin s bits i b c) sets j e later h.4, append_assoc)
 
 -- ---- the walk through one interval
 
 pub StandsAt-front : (s : Settings) (pre : List Bool) (c : CodedDataSet) (rest : List Bool) → StandsAt s (pre ++ (cds_bits s c ++ rest)) (length pre) c
-StandsAt-front s pre c rest =
-    rw (
-      drop-append_seam pre (cds_bits s c ++ rest),
-      drop-append-add pre (cds_bits s c ++ rest) (length (cds_bits s c)),
-      drop-append_seam
-          (cds_bits s c) rest,
-    )
+StandsAt-front s pre c rest = rw (drop-append_seam, drop-append-add, drop-append_seam)
 
 -- within an interval, no bits are skipped before a coded data set
 begin_of-inside : (s : Settings) (bits : List Bool) (i b : ℕ) → 0 < i % s.interval → begin_of s bits i b ≡ b
@@ -118,10 +108,9 @@ pub LeadsTo-interval : (s : Settings) (count limit n p k i b : ℕ) (pre : List 
     → bits ≡ pre ++ (flat_map (cds_bits s) sets ++ rest)
     → LeadsTo s (Some count) limit bits i b sets (k * s.interval + end_of s p sets)
     (begin_of s bits (k * s.interval + end_of s p sets) (length pre + length (flat_map (cds_bits s) sets)))
-LeadsTo-interval s count limit n p k i b pre [] rest bits h some few need e f spelled = absurd (omega (arith, leb-true n p h))
+LeadsTo-interval s count limit n p k i b pre [] rest bits h some few need e f spelled = absurd (omega (arith, leb-true))
 LeadsTo-interval s count limit n p k i b pre (c ∷ []) rest bits h some few need e f spelled =
-    let d = first_at s count p k i b pre c ([] ++ rest) bits (omega arith) (omega arith) h.1 e f
-    (rw (spelled, append_assoc)) in
+    let d = first_at s count p k i b pre c ([] ++ rest) bits (omega arith) (omega arith) h.1 e f (rw (spelled, append_assoc)) in
     let one : length (cds_bits s c ++ []) ≡ length (cds_bits s c) = rw append-nil in (
       d.wanted,
       d.stands,
@@ -134,11 +123,9 @@ LeadsTo-interval s count limit n p k i b pre (c ∷ (d ∷ sets)) rest bits h so
     (rw (spelled, append_assoc)) in
     let inside : p + block_count s p c < s.interval = omega (arith, h.2.0) in
     let unskipped : next_begin s bits i b c ≡ b + length (cds_bits s c) =
-    begin_of-inside s bits (next_block s i c) (b + length (cds_bits s c))
-    (omega (
+    begin_of-inside s bits (next_block s i c) (b + length (cds_bits s c)) (omega (
       arith,
-      ap (λ q. q % s.interval) first.next
-          ∙ mod-mul-add k s.interval (p + block_count s p c) inside,
+      ap (λ q. q % s.interval) first.next ∙ mod-mul-add k s.interval (p + block_count s p c) inside,
       block_count-positive s p c (omega arith),
     )) in (
       first.wanted,
@@ -147,14 +134,7 @@ LeadsTo-interval s count limit n p k i b pre (c ∷ (d ∷ sets)) rest bits h so
       refl,
       subst (λ q. LeadsTo s (Some count) limit bits (next_block s i c) (next_begin s bits i b c) (d ∷ sets) (k * s.interval + end_of s p (c ∷ (d ∷ sets)))
           (begin_of s bits (k * s.interval + end_of s p (c ∷ (d ∷ sets))) q))
-          (omega (arith, length-append pre (cds_bits s c), length-append (cds_bits s c) (flat_map (cds_bits s) (d ∷ sets))))
+          (omega (arith, length-append (cds_bits s c) (flat_map (cds_bits s) (d ∷ sets))))
           (LeadsTo-interval s count limit n (p + block_count s p c) k (next_block s i c) (next_begin s bits i b c) (pre ++ cds_bits s c)
-          (d ∷ sets) rest bits
-          h.2 h.2.0 few need first.next (unskipped ∙ first.end)
-          (rw (
-            spelled,
-            append_assoc (cds_bits s c) (flat_map (cds_bits s) (d ∷ sets)) rest,
-            append_assoc pre (cds_bits s c)
-                (flat_map (cds_bits s) (d ∷ sets) ++ rest),
-          ))),
+          (d ∷ sets) rest bits h.2 h.2.0 few need first.next (unskipped ∙ first.end) (rw (spelled, append_assoc (cds_bits s c), append_assoc pre))),
     )

@@ -19,11 +19,11 @@ use Rattle.aec_params.proofs.StreamLaws.{length-cds_blocks}
 -- coded data sets that lead from block i to block j stand for j - i blocks
 pub length-stream_blocks : (s : Settings) (count : Option ℕ) (limit : ℕ) (bits : List Bool) (i b : ℕ) (sets : List CodedDataSet) (j e : ℕ) → 0 < s.interval
     → LeadsTo s count limit bits i b sets j e → i + length (stream_blocks s i sets) ≡ j
-length-stream_blocks s count limit bits i b [] j e positive leads = omega (arith, leads.0)
+length-stream_blocks s count limit bits i b [] j e positive leads = omega arith
 length-stream_blocks s count limit bits i b (c ∷ sets) j e positive leads =
     let here : length (cds_blocks s (i % s.interval) c) ≡ block_count s (i % s.interval) c = length-cds_blocks s (i % s.interval) c (mod-lt i positive) in
     let later = length-stream_blocks s count limit bits (next_block s i c) (next_begin s bits i b c) sets j e positive leads.4 in
-    omega (arith, here, later, length-append (cds_blocks s (i % s.interval) c) (stream_blocks s (next_block s i c) sets))
+    omega (arith, length-append (cds_blocks s (i % s.interval) c) (stream_blocks s (next_block s i c) sets))
 
 pub take-append-past : {X : Type 0} (n : ℕ) (xs ys : List X) → length xs ≤ n → take n (xs ++ ys) ≡ xs ++ take (n - length xs) ys
 take-append-past n [] ys within = rw sub-zero
@@ -36,8 +36,7 @@ pub kept_blocks-append : (s : Settings) (count : Option ℕ) (bits : List Bool) 
 kept_blocks-append s None bits first i b blocks more len wanted = refl
 kept_blocks-append s (Some count) bits first i b blocks more len wanted =
     let below = ltb-true i (div_ceil count s.block_size) wanted in
-    take-append-past (div_ceil count s.block_size - first) blocks more (omega arith)
-    ∙ ap (λ k. blocks ++ take k more) (omega (arith, len))
+    take-append-past (div_ceil count s.block_size - first) blocks more (omega arith) ∙ ap (λ k. blocks ++ take k more) (omega arith)
 
 pub kept_blocks-wanted : (s : Settings) (count : Option ℕ) (bits : List Bool) (first i b : ℕ) (blocks : List Block) → first + length blocks ≡ i
     → is_wanted s count bits i b ≡ true → kept_blocks s count first blocks ≡ blocks
@@ -52,7 +51,7 @@ pub kept_blocks-joined : (s : Settings) (count : Option ℕ) (limit : ℕ) (bits
     (later : List CodedDataSet) → IsAllowed s → LeadsTo s count limit bits first start sets i b → is_wanted s count bits i b ≡ true
     → kept_blocks s count first (stream_blocks s first (sets ++ later)) ≡ stream_blocks s first sets ++ kept_blocks s count i (stream_blocks s i later)
 kept_blocks-joined s count limit bits first start sets i b later allowed leads wanted =
-    rw (stream_blocks-append s count limit bits first start sets i b later leads)
+    rw (stream_blocks-append s count limit bits first start sets i b)
     (kept_blocks-append s count bits first i b (stream_blocks s first sets) (stream_blocks s i later)
     (length-stream_blocks s count limit bits first start sets i b (interval-positive s allowed) leads) wanted)
 
@@ -63,7 +62,7 @@ module _ {s : Settings} {count : Option ℕ} {limit : ℕ} {bits : List Bool} {f
   blocks-reached = length-stream_blocks s count limit bits first start reached.sets i b (interval-positive s allowed) reached.leads
 
   pub FillBlocks-reached : FillBlocks s samples (stream_blocks s first reached.sets)
-  FillBlocks-reached = rw (kept_blocks-wanted s count bits first i b (stream_blocks s first reached.sets) blocks-reached wanted) at reached.filled
+  FillBlocks-reached = rw (kept_blocks-wanted s count bits first i b (stream_blocks s first reached.sets) blocks-reached) at reached.filled
 
   pub AreFilled-reached : AreFilled s (i - first) samples
   AreFilled-reached =
@@ -77,9 +76,6 @@ IsReached-more s count limit bits first start i b old new c allowed reached want
   sets = reached.sets ++ c ∷ [];
   leads = LeadsTo-append s count limit bits first start reached.sets i b (c ∷ []) (next_block s i c) (next_begin s bits i b c) reached.leads
       (wanted, stands, lawful, within, (refl, refl));
-  filled = rw (
-    kept_blocks-joined s count limit bits first start reached.sets i b (c ∷ []) allowed reached.leads wanted,
-    append-nil (cds_blocks s (i % s.interval) c),
-  )
+  filled = rw (kept_blocks-joined s count limit bits first start reached.sets i b (c ∷ []) allowed reached.leads, append-nil)
       (fills (stream_blocks s first reached.sets) (FillBlocks-reached allowed reached wanted));
 }

@@ -1,7 +1,6 @@
 -- One coded data set more, stated by the values that the reader has.
 use Rattle.std.proofs.Common.{◌≡◌, ℕ, ◌+◌, ◌-◌, ◌%◌, ◌<◌, ◌≤◌, Bool, true, false, Option, Some, None, ℤ, List, [], length, refl, sym, ap, ◌∙◌, arith, Result, Ok, Err, IfErr, IfSome}
-use Rattle.std.proofs.Math.Nat.{zero-div, zero-mod, zero-mul, add-mul-mod_self_right, mul-le-mul_right}
-use Rattle.std.proofs.lemmas.Nat.{div-add-mod'}
+use Rattle.std.proofs.Math.Nat.{zero-mul, add-mul-mod_self_right, mul-le-mul_right}
 use Rattle.std.proofs.lemmas.List.{take_all}
 use Rattle.aec_params.specs.Params.{interval_len}
 use Rattle.aec_params.specs.Blocks.{all_blocks_of}
@@ -59,8 +58,7 @@ skipped-read s due old new c cds len len_is read = record {
 pub same_place : (s : Settings) (first i behind : ℕ) → 0 < s.interval → first % s.interval ≡ 0 → first ≤ i → behind ≡ i - first
     → behind % s.interval ≡ i % s.interval
 same_place s first i behind positive aligned after is =
-    sym (ap (λ n. n % s.interval) (omega (arith, div-add-mod' first s.interval, aligned, after, is))
-    ∙ add-mul-mod_self_right behind (first / s.interval) s.interval)
+    sym (ap (λ n. n % s.interval) (omega arith) ∙ add-mul-mod_self_right behind (first / s.interval) s.interval)
 
 -- a reading doesn't go back
 pub blocks_after : (s : Settings) (count : Option ℕ) (limit : ℕ) (bits : List Bool) (first start i b : ℕ) (samples : List ℤ) → IsAllowed s
@@ -70,7 +68,7 @@ blocks_after s count limit bits first start i b samples allowed reached =
 
 -- if there is no room for some blocks, there is none for more
 pub more_room : (kept left capacity len j : ℕ) → kept ≤ left → capacity < len + kept * j → capacity < len + left * j
-more_room kept left capacity len j most full = omega (arith, mul-le-mul_right j most, full)
+more_room kept left capacity len j most full = omega (arith, mul-le-mul_right j most)
 
 -- a reading has come to block i, where a coded data set is wanted and was read: `due` says whether
 -- it has a reference, `len` how many blocks it stands for
@@ -120,16 +118,16 @@ module _ {s : Settings} {count : Option ℕ} {limit first start : ℕ} (old new 
           bit = next_begin s old.list i old.pos c;
           leads = leads-next old new allowed led wanted due_is found_there bit next placed;
         } in
-        rw memory (no_room behind_one (omega (arith, within, next-is old new allowed led wanted due_is found_there bit next placed)))
+        rw memory (no_room behind_one (omega (arith, next-is old new allowed led wanted due_is found_there bit next placed)))
 
     pub kept-bounds : (kept : ℕ) → kept ≡ kept_count s count i (next - i) → (1 ≤ kept) × (kept ≤ next - i)
     kept-bounds kept is = by_count count wanted is
       where
         by_count : (count : Option ℕ) → is_wanted s count old.list i old.pos ≡ true → kept ≡ kept_count s count i (next - i)
             → (1 ≤ kept) × (kept ≤ next - i)
-        by_count None wanted is = (omega (arith, forward-next, is), omega (arith, is))
+        by_count None wanted is = (omega (arith, forward-next), omega arith)
         by_count (Some n) wanted is =
-            let below = ltb-true i (div_ceil n s.block_size) wanted in (omega (arith, forward-next, is, below), omega (arith, is))
+            let below = ltb-true i (div_ceil n s.block_size) wanted in (omega (arith, forward-next, below), omega arith)
 
     -- what it stands for can come after the blocks that were read
     pub next-cds : (kept behind : ℕ) → first % s.interval ≡ 0 → behind ≡ i - first → kept ≡ kept_count s count i (next - i)
@@ -140,7 +138,7 @@ module _ {s : Settings} {count : Option ℕ} {limit first start : ℕ} (old new 
         let place : behind % s.interval ≡ i % s.interval = same_place s first i behind (interval-positive s allowed) aligned after behind_is in
         let filled = AreFilled-reached allowed reached wanted in
         rw read.answer (next-answer_of s behind samples kept c.reference c.body allowed (rw behind_is filled) (rw place read.set.shape) read.small
-        bounds.0 (omega (arith, place, bounds.1, stand.within, stand.next_is)))
+        bounds.0 (omega (arith, bounds.1, stand.within, stand.next_is)))
 
     pub reached-next : (kept : ℕ) (more : List ℤ) (list : List Bool) (e : ℕ) → kept ≡ kept_count s count i (next - i)
         → FillsNext s samples more (cds_front s kept cds) → list ≡ new.list → e ≡ begin_of s new.list next new.pos
@@ -149,19 +147,16 @@ module _ {s : Settings} {count : Option ℕ} {limit first start : ℕ} (old new 
         let front : cds_front s kept cds ≡ kept_blocks s count i (cds_blocks s (i % s.interval) c) =
         rw (is, count-is) (cc (
           read.answer,
-          front-answer_of s count old.list i old.pos c.reference c.body (omega (arith, count-is, forward-next))
-              wanted,
+          front-answer_of s count old.list i old.pos c.reference c.body (omega (arith, count-is, forward-next)) wanted,
         )) in
         let whole = IsReached-more s count limit old.list first start i old.pos samples more c allowed reached wanted read.set.stands
-        (lawful old new allowed led wanted due_is found_there stand.within)
-        (keeps-is old new allowed led wanted due_is found_there true stand.keeps)
+        (lawful old new allowed led wanted due_is found_there stand.within) (keeps-is old new allowed led wanted due_is found_there true stand.keeps)
         (rw front at fills) in
         rw (
           same,
           read.behind,
-          next-is old new allowed led wanted due_is found_there bit next placed,
-          begin-is old new allowed led wanted due_is
-              found_there bit next placed e begins,
+          next-is old new allowed led wanted due_is found_there bit next,
+          begin-is old new allowed led wanted due_is found_there bit next placed e,
         ) whole
 
 pub few-wanted : (s : Settings) (count : Option ℕ) (bits : List Bool) (i b : ℕ) → is_wanted s count bits i b ≡ true
@@ -191,13 +186,12 @@ reached-start s count limit bits first start b samples begins none =
       filled = record {
         held = tt;
         whole = sym (no_blocks count);
-        mapped = nothing
-            ∙ sym (nothing_kept count);
+        mapped = nothing ∙ sym (nothing_kept count);
       };
     })
   where
     no_pieces : div_ceil 0 (interval_len s) ≡ 0
-    no_pieces = omega (arith, zero-div (interval_len s), zero-mod (interval_len s))
+    no_pieces = omega arith
 
     nothing : all_blocks_of s [] ≡ []
     nothing = rw no_pieces

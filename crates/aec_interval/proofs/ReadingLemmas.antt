@@ -42,8 +42,7 @@ bits_are_read_in_one_way s count limit bits a = record {
 
 all-counted : (s : Settings) (count : Option ℕ) (xs : List ℤ) → AllByRecursion (IsHeld s) xs → AllByRecursion (IsHeld s) (counted_samples count xs)
 all-counted s None xs h = h
-all-counted s (Some count) xs h = all_left (IsHeld s) (take count xs) (drop count xs)
-    (rw (take-append-drop count xs) h)
+all-counted s (Some count) xs h = all_left (IsHeld s) (take count xs) (drop count xs) (rw take-append-drop h)
 
 -- a walk from block i to block j stands for j - i blocks
 pub length-stream_blocks : (s : Settings) (count : Option ℕ) (limit : ℕ) (bits : List Bool) (i b : ℕ) (sets : List CodedDataSet) (j e : ℕ) → IsAllowed s
@@ -59,7 +58,7 @@ counted_length s limit bits count samples a h =
     let many = length-stream_blocks s (Some count) limit bits 0 0 r.sets r.end_block r.end_bit a r.leads in
     let blocks : length h.blocks ≡ needed = rw r.kept (length-take (needed - 0) (stream_blocks s 0 r.sets) ∙ omega arith) in
     let whole = h.filled.whole ∙ ap (λ m. m * s.block_size) blocks in
-    rw h.counted (length-take count h.all_samples ∙ omega (arith, whole, div_ceil-bounds count s.block_size (block_size-positive s a)))
+    rw h.counted (length-take count h.all_samples ∙ omega (arith, div_ceil-bounds count s.block_size (block_size-positive s a)))
 
 pub readings_are_samples : (s : Settings) (limit : ℕ) (bits : List Bool) → IsAllowed s → ReadingsAreSamples s limit bits
 readings_are_samples s limit bits a = record {

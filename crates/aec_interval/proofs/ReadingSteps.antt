@@ -15,15 +15,6 @@ pub FillBlocks-push : (s : Settings) (samples more : List ℤ) (blocks : List Bl
     → AllByRecursion (IsHeld s) more → length more ≡ s.block_size → next_block_of s samples more ≡ b → FillBlocks s (samples ++ more) (blocks ++ b ∷ [])
 FillBlocks-push s samples more blocks b block interval filled held len is_next = record {
   held = all-append (IsHeld s) samples more filled.held held;
-  whole =
-      rw (
-        length-append samples more,
-        filled.whole,
-        len,
-        length-append blocks (b ∷ []),
-        add-one (length blocks),
-        suc-mul (length blocks)
-            s.block_size,
-      );
-  mapped = rw (all_blocks_of-push s samples more (length blocks) block interval filled.whole len, filled.mapped, is_next);
+  whole = rw (length-append, filled.whole, len, length-append, add-one, suc-mul);
+  mapped = rw (all_blocks_of-push s samples more (length blocks) block interval filled.whole, filled.mapped, is_next);
 }

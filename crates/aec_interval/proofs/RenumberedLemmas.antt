@@ -23,7 +23,7 @@ module _ (s : Settings) (a : IsAllowed s) (count : Option ℕ) (limit other : �
   begin-at i b = rw same-at
 
   next-at : (i : ℕ) (c : CodedDataSet) → next_block s (f + i) c ≡ f + next_block s i c
-  next-at i c = rw (same-at i) (omega arith)
+  next-at i c = rw same-at (omega arith)
 
   pub blocks-at : (i : ℕ) (sets : List CodedDataSet) → stream_blocks s (f + i) sets ≡ stream_blocks s i sets
   blocks-at i [] = refl
@@ -34,14 +34,13 @@ module _ (s : Settings) (a : IsAllowed s) (count : Option ℕ) (limit other : �
       → (k : ℕ) × (j ≡ f + k) × LeadsTo s (Some m) other bits i b sets k e
   leads-at i b [] j e m leads within = (i, leads.0, (refl, leads.1))
   leads-at i b (c ∷ sets) j e m leads within =
-      let later = leads-at (next_block s i c) (next_begin s bits i b c) sets j e m
-      (rw (← bit-is, ← (next-at i c)) leads.4) within in (
+      let later = leads-at (next_block s i c) (next_begin s bits i b c) sets j e m (rw (← bit-is, ← next-at) leads.4) within in (
         later.0,
         later.1,
         (
           lt-ltb i (div_ceil m s.block_size) needed,
           leads.1,
-          rw (same-at i) at leads.2,
+          rw same-at at leads.2,
           refl,
           later.2,
         ),
@@ -54,14 +53,14 @@ module _ (s : Settings) (a : IsAllowed s) (count : Option ℕ) (limit other : �
       below = mod-lt (f + i) (interval-positive s a)
 
       needed : i < div_ceil m s.block_size
-      needed = omega (
-        arith,
-        length-stream_blocks s count limit bits (f + i) b (c ∷ sets) j e (interval-positive s a) leads,
-        length-append (cds_blocks s p c) (stream_blocks s (next_block s (f + i) c) sets),
-        length-cds_blocks s p c below,
-        block_count-positive s p c below,
-        within,
-      )
+      needed =
+          omega (
+            arith,
+            length-stream_blocks s count limit bits (f + i) b (c ∷ sets) j e (interval-positive s a) leads,
+            length-append (cds_blocks s p c) (stream_blocks s (next_block s (f + i) c) sets),
+            length-cds_blocks s p c below,
+            block_count-positive s p c below,
+          )
 
       bit-is : next_begin s bits (f + i) b c ≡ next_begin s bits i b c
       bit-is = rw (next-at, begin-at)

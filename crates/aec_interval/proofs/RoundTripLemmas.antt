@@ -31,15 +31,14 @@ length-all_blocks_of s a = by_pieces Counted (interval_len s) (interval_len-posi
     Counted xs = length (all_blocks_of s xs) ≡ div_ceil (length xs) s.block_size
 
     step : (front rest : List ℤ) → IsPieceBefore (interval_len s) front rest → Counted rest → Counted (front ++ rest)
-    step front [] piece ih = rw (append-nil front) (rw (all_blocks_of-one s front piece.some piece.fits, length-blocks_of))
+    step front [] piece ih = rw append-nil (rw (all_blocks_of-one s front piece.some piece.fits, length-blocks_of))
     step front (x ∷ rest) piece ih =
         rw (
           all_blocks_of-cons,
           length-append,
           length-full_blocks s front a (piece.full (omega arith)),
           ih,
-          div_ceil-interval s front (x ∷ rest) a
-              (piece.full (omega arith)),
+          div_ceil-interval s front (x ∷ rest) a (piece.full (omega arith)),
         )
 
 -- ---- the filler
@@ -50,8 +49,7 @@ filled_samples-append : (s : Settings) (front : List ℤ) (x : ℤ) (rest : List
 filled_samples-append s front x rest full = rw (append_assoc, missing, last_or-append)
   where
     missing : up_to_multiple s.block_size (length (front ++ (x ∷ rest))) ≡ up_to_multiple s.block_size (length (x ∷ rest))
-    missing = ap (λ m. (s.block_size - m) % s.block_size)
-        (ap (λ m. m % s.block_size) (length-append front (x ∷ rest) ∙ omega (arith, full))
+    missing = ap (λ m. (s.block_size - m) % s.block_size) (ap (λ m. m % s.block_size) (length-append front (x ∷ rest) ∙ omega arith)
         ∙ add-mul-mod_self_left (length (x ∷ rest)) s.block_size s.interval)
 
 filled_samples-nil : (s : Settings) → IsAllowed s → filled_samples s [] ≡ []
@@ -83,7 +81,7 @@ all_blocks_of-filled s a = by_pieces Same (interval_len s) (interval_len-positiv
         ∙ sym (all_blocks_of-one s (x ∷ v) some few)
 
     step : (front rest : List ℤ) → IsPieceBefore (interval_len s) front rest → Same rest → Same (front ++ rest)
-    step front [] piece ih = rw (append-nil front) (last front piece.some piece.fits)
+    step front [] piece ih = rw append-nil (last front piece.some piece.fits)
     step front (x ∷ rest) piece ih =
         rw (
           filled_samples-append s front x rest (piece.full (omega arith)),
@@ -94,7 +92,7 @@ all_blocks_of-filled s a = by_pieces Same (interval_len s) (interval_len-positiv
         )
 
 all_filled : (s : Settings) (xs : List ℤ) → IsAllowed s → AllByRecursion (IsHeld s) xs → AllByRecursion (IsHeld s) (filled_samples s xs)
-all_filled s [] a held = rw (filled_samples-nil s a) tt
+all_filled s [] a held = rw filled_samples-nil tt
 all_filled s (x ∷ xs) a held = all-filled_samples s x xs held
 
 -- ---- the round trip
@@ -103,7 +101,7 @@ pub FillBlocks-all_blocks_of : (s : Settings) (xs : List ℤ) → IsAllowed s �
     → FillBlocks s (filled_samples s xs) (all_blocks_of s xs)
 FillBlocks-all_blocks_of s xs a held = record {
   held = all_filled s xs a held;
-  whole = rw (length-filled_samples s xs (block_size-positive s a), length-all_blocks_of s a xs);
+  whole = rw (length-filled_samples s xs (block_size-positive s a), length-all_blocks_of);
   mapped = all_blocks_of-filled s a xs;
 }
 
@@ -137,15 +135,14 @@ IsReading-codes s limit xs codes rest a held each = record {
 pub IsReading-stream_of : (s : Settings) (limit : ℕ) (xs : List ℤ) (rest : List Bool) → IsAllowed s → AllByRecursion (IsHeld s) xs
     → IsReading s (Some (length xs)) limit (stream_of s xs ++ rest) xs
 IsReading-stream_of s limit xs rest a held =
-    rw (stream_of-codes s (intervals_of s xs)) (IsReading-codes s limit xs (map (unpadded_bits s) (intervals_of s xs)) rest a held
-    (ReadsEach-unpadded_bits s a xs held))
+    rw stream_of-codes (IsReading-codes s limit xs (map (unpadded_bits s) (intervals_of s xs)) rest a held (ReadsEach-unpadded_bits s a xs held))
 
 -- without padding, any codes for the blocks of each interval are read as the samples
 pub each_code_is_read : (s : Settings) (limit : ℕ) (xs : List ℤ) (codes : List (List Bool)) (rest : List Bool) → IsAllowed s → s.pad ≡ false
     → AllByRecursion (IsHeld s) xs → ReadsEach s codes (intervals_of s xs)
     → IsReading s (Some (length xs)) limit (flat_map (λ code. code) codes ++ rest) xs
-each_code_is_read s limit xs codes rest a t held each = rw (as_they_stand codes) at (IsReading-codes s limit xs codes rest a held each)
+each_code_is_read s limit xs codes rest a t held each = rw as_they_stand at (IsReading-codes s limit xs codes rest a held each)
   where
     as_they_stand : (codes : List (List Bool)) → flat_map (padded_code s) codes ≡ flat_map (λ code. code) codes
     as_they_stand [] = refl
-    as_they_stand (code ∷ codes) = rw (no_padding s code t, as_they_stand codes)
+    as_they_stand (code ∷ codes) = rw (no_padding, as_they_stand codes)

@@ -1,6 +1,6 @@
 -- Whole intervals of blocks, of which none needs a test of its place.
 use Rattle.std.proofs.Common.{◌≡◌, ℕ, ◌+◌, ◌-◌, ◌*◌, ◌/◌, ◌%◌, ◌<◌, ◌≤◌, ◌&&◌, Bool, true, false, Option, Some, None, Ok, ℤ, pos, List, [], ◌∷◌, ◌++◌, length, take, drop, ⊎_elim, refl, ◌∙◌, subst, arith}
-use Rattle.std.proofs.Math.Nat.{one-mul, mul_comm, mul-le-mul_right, add-mul-mod_self_right, add-mul, div-mul-le_self, le-mul_of_pos_right}
+use Rattle.std.proofs.Math.Nat.{one-mul, mul-le-mul_right, add-mul-mod_self_right, add-mul, le-mul_of_pos_right}
 use Rattle.std.proofs.lemmas.Bool.{cases_lt}
 use Rattle.std.proofs.Math.Seq.{take-append-add}
 use Rattle.std.proofs.lemmas.List.{take_at, length-take, length-drop, length-take-le, take-append-le}
@@ -53,7 +53,7 @@ module _ (s : Settings) (old new : Cursor) (due : Bool) (cds : Cds) (len : RunLe
       after = omega arith;
       ends = ends;
       some = some;
-      within = omega (arith, fits);
+      within = omega arith;
       one = one;
     }
 
@@ -81,10 +81,9 @@ module _ (s : Settings) (old new : Cursor) (due : Bool) (cds : Cds) (len : RunLe
     first-leads : IsUntestedAt s (begun_at count limit i old.pos) (i + s.interval) (i + z) new more
     first-leads = record {
       reached = reached-next old new allowed begun wanted due-there len_is read 0 (i + z) placed z more
-          new.list new.pos kept (fills (i - i) filled next) refl
-          (untested-begins are new.list new.pos);
+          new.list new.pos kept (fills (i - i) filled next) refl (untested-begins are new.list new.pos);
       aligned = aligned;
-      behind = omega (arith, some);
+      behind = omega arith;
       untested = ends;
     }
 
@@ -93,10 +92,10 @@ module _ (s : Settings) (old new : Cursor) (due : Bool) (cds : Cds) (len : RunLe
 
 -- the first segment of an interval has room for one block, that of a short interval for all
 pub first_fits : (s : Settings) (z : ℕ) → IsAllowed s → s.interval ≤ 64 → z ≤ s.interval → z ≤ segment_left s 0
-first_fits s z allowed short within = omega (arith, short, within)
+first_fits s z allowed short within = omega arith
 
 one_first : (s : Settings) → IsAllowed s → 1 ≤ segment_left s 0
-one_first s allowed = omega (arith, interval-positive s allowed)
+one_first s allowed = omega (arith, interval-positive)
 
 held-unmapped : (s : Settings) (x : ℤ) (values : List ℕ) (more : List ℤ) → Unmaps s x values [] more → AllByRecursion (IsHeld s) more
 held-unmapped s x values more unmaps = rw unmaps.appended unmaps.held
@@ -124,8 +123,7 @@ reads_unpredicted s old new values x more allowed off read one zero unmaps same 
 -- the places that were filled are those of the first block
 pub filled_front : {X : Type 0} (filled rest samples : List X) (n size : ℕ) → length filled ≡ length (take n samples) → n ≡ size → size ≤ length samples
     → take (1 * size) (filled ++ rest) ≡ filled
-filled_front filled rest samples n size is all room =
-    take_at filled rest (1 * size) (omega (arith, is, all, room, length-take n samples, one-mul size))
+filled_front filled rest samples n size is all room = take_at filled rest (1 * size) (omega (arith, length-take n samples, one-mul size))
 
 -- ---- one interval
 
@@ -142,9 +140,9 @@ reads_interval s first rest old mid new front samples allowed all begun rest_rea
   leads = λ count limit i aligned within.
       let one : i + 1 * s.interval ≡ i + s.interval = omega arith in
       let ends : IsUntestedEnd s count limit i (i + s.interval) = rw one at (whole_end s count limit i _ allowed one within) in
-      let there = rest_read.leads (begun_at count limit i old.pos) (i + s.interval) (i + first) refl (omega (arith, all))
+      let there = rest_read.leads (begun_at count limit i old.pos) (i + s.interval) (i + first) refl (omega arith)
       (begun.leads count limit i aligned ends) in
-      let end : i + first + rest ≡ i + 1 * s.interval = omega (arith, all) in
+      let end : i + first + rest ≡ i + 1 * s.interval = omega arith in
       rw (rest_read.list, begun.list, end) at there.reached;
 }
 
@@ -152,7 +150,7 @@ reads_interval s first rest old mid new front samples allowed all begun rest_rea
 pub reads_whole : (s : Settings) (n : ℕ) (old new : Cursor) (samples : List ℤ) → IsAllowed s → n ≡ s.interval → ReadsFirst s n old new samples
     → ReadsWhole s 1 old new samples
 reads_whole s n old new samples allowed all first =
-    reads_interval s n 0 old new new samples samples allowed (omega (arith, all)) first (none_read s n new samples first.held)
+    reads_interval s n 0 old new new samples samples allowed (omega arith) first (none_read s n new samples first.held)
 
 -- ---- intervals one after the other
 
@@ -171,7 +169,7 @@ reads_stay s n at len old here there before after stays place kept reads = rw st
 
 wanted_first : (s : Settings) (count : Option ℕ) (limit : ℕ) (bits : List Bool) (i b : ℕ) (sets : List CodedDataSet) (j e : ℕ) → i < j
     → LeadsTo s count limit bits i b sets j e → is_wanted s count bits i b ≡ true
-wanted_first s count limit bits i b [] j e further leads = absurd (omega (arith, further, leads.0))
+wanted_first s count limit bits i b [] j e further leads = absurd (omega arith)
 wanted_first s count limit bits i b (c ∷ sets) j e further leads = leads.0
 
 -- a reading goes on where an interval begins
@@ -193,8 +191,7 @@ reached-join s count limit bits first start n i b j e xs ys allowed i_is further
 
     whole : length xs ≡ n * interval_len s
     whole =
-        let blocks : length (stream_blocks s first front.sets) ≡ n * s.interval =
-        omega (arith, blocks-reached allowed front wanted, i_is) in
+        let blocks : length (stream_blocks s first front.sets) ≡ n * s.interval = omega (arith, blocks-reached allowed front wanted) in
         omega (arith, rw blocks at filled.whole)
 
 within_less : (s : Settings) (count : Option ℕ) (limit i j : ℕ) → i ≤ j → AreWithin s count limit j → AreWithin s count limit i
@@ -202,7 +199,7 @@ within_less s count limit i j less within = record {
   unpadded = within.unpadded;
   low = within.low;
   counted = within.counted;
-  samples = omega (arith, mul-le-mul_right s.block_size less, within.samples);
+  samples = omega (arith, mul-le-mul_right s.block_size less);
 }
 
 -- m intervals more
@@ -212,14 +209,13 @@ reads_more s n m old mid new xs ys all allowed some front back is = record {
   list = back.list ∙ front.list;
   leads = λ count limit i aligned within.
       let middle : ℕ = i + n * s.interval in
-      let end : middle + m * s.interval ≡ i + (n + m) * s.interval = omega (arith, add-mul n m s.interval) in
+      let end : middle + m * s.interval ≡ i + (n + m) * s.interval = omega arith in
       let there : middle % s.interval ≡ 0 = add-mul-mod_self_right i n s.interval ∙ aligned in
-      let first = front.leads count limit i aligned (within_less s count limit _ _ (omega (arith, end)) within) in
+      let first = front.leads count limit i aligned (within_less s count limit _ _ (omega arith) within) in
       let last = back.leads count limit middle there (rw end within) in
       let joined =
       reached-join s count limit old.list i old.pos n middle mid.pos (middle + m * s.interval) new.pos xs ys allowed refl
-      (omega (arith, some, le-mul_of_pos_right m (interval-positive s allowed))) first
-      (rw front.list at last) in
+      (omega (arith, le-mul_of_pos_right m (interval-positive s allowed))) first (rw front.list at last) in
       rw is (rw end at joined);
 }
 
@@ -247,7 +243,7 @@ module _ (s : Settings) (n most at len : ℕ) (samples : List ℤ) (place : at �
   rest_old = take (length samples - at) (drop at samples)
 
   fit : at + (most - n) * interval_len s ≤ length samples
-  fit = blocks_fit 0 at n most (interval_len s) (length samples) (grind arith) order (omega (arith, all))
+  fit = blocks_fit 0 at n most (interval_len s) (length samples) (grind arith) order (omega arith)
 
   pub rest_within : at ≤ length samples
   rest_within = omega (arith, fit)
@@ -262,7 +258,7 @@ module _ (s : Settings) (n most at len : ℕ) (samples : List ℤ) (place : at �
     rest_new = put_mid at (length samples - at) samples rest
 
     few : m * interval_len s ≤ length rest
-    few = omega (arith, mul-le-mul_right (interval_len s) fills.within, rest_room, fills.len)
+    few = omega (arith, mul-le-mul_right (interval_len s) fills.within, rest_room)
 
     cut : take k rest_new ≡ take at samples ++ take (m * interval_len s) rest
     cut = rw end (front_and_part samples rest at (length samples - at) (m * interval_len s) rest_within few)
@@ -273,10 +269,10 @@ module _ (s : Settings) (n most at len : ℕ) (samples : List ℤ) (place : at �
 
     none : m ≤ 0 → ReadsWhole s (n + m) old new (take k rest_new)
     none least =
-        let nothing : m ≡ 0 = omega (arith, least) in
+        let nothing : m ≡ 0 = omega arith in
         let place : k ≡ at = grind arith in
         let same : take k rest_new ≡ take at samples = rw place (front_kept samples rest at (length samples - at) rest_within) in
-        rw (same, fills.stays nothing) (subst (λ j. ReadsWhole s j old mid (take at samples)) (omega (arith, nothing)) front)
+        rw (same, fills.stays nothing) (subst (λ j. ReadsWhole s j old mid (take at samples)) (omega arith) front)
 
     pub reads_rest : ReadsWhole s (n + m) old new (take k rest_new)
     reads_rest = ⊎_elim some none (cases_lt 0 m)
@@ -286,20 +282,20 @@ module _ (s : Settings) (n most at len : ℕ) (samples : List ℤ) (place : at �
 -- the samples of the first blocks, and of the others
 pub rest_len : (first n j r len : ℕ) → first ≤ r → n ≡ j → len ≡ j * r → len ≡ first * n + (r - first) * j
 rest_len first n j r len within same is =
-    let all : first + (r - first) ≡ r = omega (arith, within) in
-    grind (arith, mul_comm, add-mul)
+    let all : first + (r - first) ≡ r = omega arith in
+    grind (arith, add-mul)
 
 pub part_fits : (at count most len interval total : ℕ) → at ≡ count * len → count < most → len ≡ interval → most * interval ≤ total → at + len ≤ total
 part_fits at count most len interval total place below same room =
-    let more : (count + 1) * len ≤ most * len = mul-le-mul_right len (omega (arith, below)) in
-    grind (arith, add-mul)
+    let more : (count + 1) * len ≤ most * len = mul-le-mul_right len (omega arith) in
+    grind arith
 
 pub whole_within : (first n r j samples left len : ℕ) → 0 < n → 0 < len → len ≡ j * r → left ≡ samples - first * j → n ≤ left / len
     → (first + n * r) * j ≤ samples
 whole_within first n r j samples left len some positive len_is left_is within =
     let most : n * len ≤ left / len * len = mul-le-mul_right len within in
-    let least : 1 * len ≤ n * len = mul-le-mul_right len (omega (arith, some)) in
-    grind (arith, div-mul-le_self, expanded)
+    let least : 1 * len ≤ n * len = mul-le-mul_right len (omega arith) in
+    grind arith
   where
     expanded : (first n r j : ℕ) → (first + n * r) * j ≡ first * j + n * (j * r)
     expanded first n r j = omega arith
@@ -307,7 +303,7 @@ whole_within first n r j samples left len some positive len_is left_is within =
 pub parts_within : (k q total len interval most : ℕ) → k ≤ q → q ≡ total / len → len ≡ interval → total ≤ most → k * interval ≤ most
 parts_within k q total len interval most fewer is same within =
     let all : k * len ≤ q * len = mul-le-mul_right len fewer in
-    grind (arith, div-mul-le_self)
+    grind arith
 
 pub within_few : (s : Settings) (count : Option ℕ) (limit first n : ℕ) → IsAllowed s → first < most_blocks
     → (0 < n → AreWithin s count limit (first + n * s.interval)) → first + n * s.interval < most_blocks
@@ -317,10 +313,10 @@ within_few s count limit first n allowed few within = ⊎_elim some none (cases_
     some there =
         let last : ℕ = first + n * s.interval in
         let is = within there in
-        omega (arith, is.samples, few_samples count limit is.low is.counted, le-mul_of_pos_right last (block_size-positive s allowed))
+        omega (arith, few_samples count limit is.low is.counted, le-mul_of_pos_right last (block_size-positive s allowed))
 
     none : n ≤ 0 → first + n * s.interval < most_blocks
-    none least = let nothing : n ≡ 0 = omega (arith, least) in grind arith
+    none least = let nothing : n ≡ 0 = omega arith in grind arith
 
 -- ---- by places
 

@@ -2,7 +2,6 @@
 -- interval or in several.
 use Rattle.std.proofs.Common.{◌≡◌, ℕ, ◌+◌, ◌-◌, ◌*◌, ◌/◌, ◌%◌, ◌<◌, ◌≤◌, Bool, true, false, Option, IfSome, unwrap_or, refl, sym, ◌∙◌, arith, ⊎_elim}
 use Rattle.std.proofs.Math.Nat.{mod-lt, mod-eq_of_lt, mul-mod_left, mod-add-mod, mul-le-mul_right, le-mul_of_pos_right}
-use Rattle.std.proofs.lemmas.Nat.{div-add-mod'}
 use Rattle.std.proofs.lemmas.Bool.{cases_lt}
 use Rattle.aec_params.specs.declared.settings.Settings.{Settings}
 use Rattle.aec_params.specs.Params.{IsAllowed}
@@ -63,7 +62,7 @@ module _ (s : Settings) (place most n at : ℕ) (old mid new : Cursor) (allowed 
     begin = j - j % s.interval
 
     whole : begin ≡ j / s.interval * s.interval
-    whole = omega (arith, div-add-mod' j s.interval)
+    whole = omega arith
 
     aligned : begin % s.interval ≡ 0
     aligned = rw (whole, mul-mod_left)
@@ -72,7 +71,7 @@ module _ (s : Settings) (place most n at : ℕ) (old mid new : Cursor) (allowed 
     inside = omega (arith, mod-lt j (interval-positive s allowed))
 
     fewer : j * s.block_size ≤ unwrap_or count limit
-    fewer = let less : j * s.block_size ≤ (i + (n + 1)) * s.block_size = mul-le-mul_right s.block_size (omega arith) in omega (arith, less, within)
+    fewer = let less : j * s.block_size ≤ (i + (n + 1)) * s.block_size = mul-le-mul_right s.block_size (omega arith) in omega arith
 
     ends : IsUntestedEnd s count limit begin (j + 1)
     ends = untested-within s count limit begin (begin + s.interval) 0 (j + 1) allowed low counted refl (rw unpadded)
@@ -101,7 +100,7 @@ module _ (s : Settings) (place most n at : ℕ) (old mid new : Cursor) (allowed 
   skips_more few = record {
     list = same ∙ before.list;
     within = few;
-    stays = λ none. absurd (omega (arith, none));
+    stays = λ none. absurd (omega arith);
     leads = λ count limit first start i there low counted within led. led_further count limit first start i there low counted (within (omega arith)) led;
   }
 
@@ -111,20 +110,21 @@ module _ (s : Settings) (place most n at : ℕ) (old mid new : Cursor) (allowed 
 pub fewer_samples : (s : Settings) (count : Option ℕ) (limit i n u : ℕ) → n ≤ u → (0 < u → (i + u) * s.block_size ≤ unwrap_or count limit)
     → 0 < n → (i + n) * s.block_size ≤ unwrap_or count limit
 fewer_samples s count limit i n u few within some =
-    let less : (i + n) * s.block_size ≤ (i + u) * s.block_size = mul-le-mul_right s.block_size (omega (arith, few)) in
-    omega (arith, less, within (omega (arith, some, few)))
+    let less : (i + n) * s.block_size ≤ (i + u) * s.block_size = mul-le-mul_right s.block_size (omega arith) in
+    omega (arith, within (omega arith))
 
 pub fewer_blocks : (s : Settings) (count : Option ℕ) (limit i n u : ℕ) → IsAllowed s → i < most_blocks → limit ≤ most_samples
     → IfSome count (λ m. m ≤ most_samples) → n ≤ u → (0 < u → (i + u) * s.block_size ≤ unwrap_or count limit) → i + n < most_blocks
 fewer_blocks s count limit i n u allowed low_block low counted few within = ⊎_elim more none (cases_lt 0 n)
   where
     more : 0 < n → i + n < most_blocks
-    more some = omega (
-      arith,
-      fewer_samples s count limit i n u few within some,
-      few_samples count limit low counted,
-      le-mul_of_pos_right (i + n) (block_size-positive s allowed),
-    )
+    more some =
+        omega (
+          arith,
+          fewer_samples s count limit i n u few within some,
+          few_samples count limit low counted,
+          le-mul_of_pos_right (i + n) (block_size-positive s allowed),
+        )
 
     none : n ≤ 0 → i + n < most_blocks
-    none zero = omega (arith, zero, low_block)
+    none zero = omega arith

@@ -16,7 +16,7 @@ use Rattle.aec_params.specs.Intervals.{unpadded_bits, interval_bits}
 use Rattle.aec_params.specs.Streams.{stream_of}
 use Rattle.aec_params.specs.Reading.{covered_blocks, ReadsBlocks, begin_of, LeadsTo, stream_blocks}
 use Rattle.aec_interval.specs.Laws.{ReadsEach}
-use Rattle.aec_interval.proofs.CuttingLemmas.{IsPieceBefore, by_pieces, pieces_of-nil, pieces_of-cons, pieces_of-one, div_ceil-zero, div_ceil-positive}
+use Rattle.aec_interval.proofs.CuttingLemmas.{IsPieceBefore, by_pieces, pieces_of-nil, pieces_of-cons, pieces_of-one, div_ceil-positive}
 use Rattle.aec_params.proofs.SettingLaws.{block_size-positive}
 use Rattle.aec_interval.proofs.BlockLemmas.{all_left, all_right, length-blocks_of, blocks-few}
 use Rattle.aec_interval.proofs.IntervalLemmas.{ReadsBlocks-unpadded_bits}
@@ -102,7 +102,7 @@ begin_of-code s code pre rest k aligned = ⊎_elim padded plain (cases_Bool s.pa
     enough = omega (arith, length-append pre (padded_code s code), length-append pre (padded_code s code ++ rest), length-append (padded_code s code) rest)
 
     plain : s.pad ≡ false → begin_of s bits i b ≡ length (pre ++ padded_code s code)
-    plain t = rw (and_left s.pad (i % s.interval == 0) t) (omega (arith, length-append pre (padded_code s code), ap length (no_padding s code t)))
+    plain t = rw and_left (omega (arith, length-append pre (padded_code s code), ap length (no_padding s code t)))
 
     padded : s.pad ≡ true → begin_of s bits i b ≡ length (pre ++ padded_code s code)
     padded t =
@@ -132,7 +132,7 @@ HasWalk s count limit tail xs = (codes : List (List Bool)) (k i b : ℕ) (pre bi
 
 no_walk : (s : Settings) (count limit : ℕ) (tail : List Bool) → IsAllowed s → HasWalk s count limit tail []
 no_walk s count limit tail a codes k i b pre bits each aligned e f spelled need =
-    let z : div_ceil count s.block_size - i ≡ 0 = omega (arith, div_ceil-zero s.block_size (block_size-positive s a)) in
+    let z : div_ceil count s.block_size - i ≡ 0 = omega arith in
     record {
       sets = [];
       end_block = i;
@@ -178,13 +178,11 @@ part_of s count limit k i b pre code rest bits v a some few r e f spelled need =
 
 last_walk : (s : Settings) (count limit : ℕ) (tail : List Bool) → IsAllowed s → (v : List ℤ) → 0 < length v → length v ≤ interval_len s
     → HasWalk s count limit tail v
-last_walk s count limit tail a v some few [] k i b pre bits each aligned e f spelled need =
-    absurd (rw (pieces_of-one (interval_len s) v some few) at each)
+last_walk s count limit tail a v some few [] k i b pre bits each aligned e f spelled need = absurd (rw pieces_of-one at each)
 last_walk s count limit tail a v some few (code ∷ codes) k i b pre bits each aligned e f spelled need =
-    let parts = rw (pieces_of-one (interval_len s) v some few) at each in
+    let parts = rw pieces_of-one at each in
     let later = flat_map (padded_code s) codes ++ tail in
-    let part = part_of s count limit k i b pre code later bits v a some few parts.0 e f
-    (rw (spelled, append_assoc)) (omega arith) in
+    let part = part_of s count limit k i b pre code later bits v a some few parts.0 e f (rw (spelled, append_assoc)) (omega arith) in
     let len = length-blocks_of s v a in
     let needed : div_ceil count s.block_size - i ≡ length (blocks_of s v) = omega arith in
     record {
@@ -192,15 +190,14 @@ last_walk s count limit tail a v some few (code ∷ codes) k i b pre bits each a
       end_block = k * s.interval + end_of s 0 part.sets;
       end_bit = begin_of s bits (k * s.interval + end_of s 0 part.sets) (length pre + length code);
       leads = part.leads;
-      enough = omega (arith, part.reaches);
+      enough = omega arith;
       blocks = rw (needed, part.covered, part.stand_for, all_blocks_of-one);
     }
 
 -- the walk through the code of a full interval, and on through the others
 walk_on : (s : Settings) (count limit : ℕ) (tail : List Bool) → IsAllowed s → (front rest : List ℤ) → IsPieceBefore (interval_len s) front rest
     → 0 < length rest → HasWalk s count limit tail rest → HasWalk s count limit tail (front ++ rest)
-walk_on s count limit tail a front rest piece more ih [] k i b pre bits each aligned e f spelled need =
-    absurd (rw (pieces_of-cons (interval_len s) front rest piece) at each)
+walk_on s count limit tail a front rest piece more ih [] k i b pre bits each aligned e f spelled need = absurd (rw pieces_of-cons at each)
 walk_on s count limit tail a front rest piece more ih (code ∷ codes) k i b pre bits each aligned e f spelled need =
     record {
       sets = part.sets ++ later.sets;
@@ -213,8 +210,7 @@ walk_on s count limit tail a front rest piece more ih (code ∷ codes) k i b pre
             all_needed,
             stream_blocks-append s (Some count) limit bits i b part.sets j g later.sets part.leads,
             part.covered,
-            take-append-add
-                (covered_blocks s 0 part.sets) (stream_blocks s j later.sets) (div_ceil count s.block_size - j),
+            take-append-add,
             here,
             later.blocks,
             all_blocks_of-cons,
@@ -222,7 +218,7 @@ walk_on s count limit tail a front rest piece more ih (code ∷ codes) k i b pre
     }
   where
     parts : ReadsEach s (code ∷ codes) (front ∷ intervals_of s rest)
-    parts = rw (pieces_of-cons (interval_len s) front rest piece) at each
+    parts = rw pieces_of-cons at each
 
     counted : div_ceil (length (front ++ rest)) s.block_size ≡ s.interval + div_ceil (length rest) s.block_size
     counted = div_ceil-interval s front rest a (piece.full more)
@@ -238,7 +234,7 @@ walk_on s count limit tail a front rest piece more ih (code ∷ codes) k i b pre
 
     part : IsPart s count limit k i b pre bits code front
     part = part_of s count limit k i b pre code behind bits front a piece.some piece.fits parts.0 e f cut
-        (omega (arith, n, length-blocks_of s front a, counted, need))
+        (omega (arith, n, length-blocks_of s front a, counted))
 
     j : ℕ
     j = k * s.interval + end_of s 0 part.sets
@@ -264,7 +260,7 @@ walk_on s count limit tail a front rest piece more ih (code ∷ codes) k i b pre
 
 step : (s : Settings) (count limit : ℕ) (tail : List Bool) → IsAllowed s → (front rest : List ℤ) → IsPieceBefore (interval_len s) front rest
     → HasWalk s count limit tail rest → HasWalk s count limit tail (front ++ rest)
-step s count limit tail a front [] piece ih = rw (append-nil front) (last_walk s count limit tail a front piece.some piece.fits)
+step s count limit tail a front [] piece ih = rw append-nil (last_walk s count limit tail a front piece.some piece.fits)
 step s count limit tail a front (x ∷ rest) piece ih = walk_on s count limit tail a front (x ∷ rest) piece (omega arith) ih
 
 pub walk_of : (s : Settings) (count limit : ℕ) (tail : List Bool) → IsAllowed s → (xs : List ℤ) → HasWalk s count limit tail xs
@@ -277,13 +273,12 @@ walk_of s count limit tail a =
 pub stream_of-codes : (s : Settings) (intervals : List (List ℤ))
     → flat_map (interval_bits s) intervals ≡ flat_map (padded_code s) (map (unpadded_bits s) intervals)
 stream_of-codes s [] = refl
-stream_of-codes s (v ∷ intervals) = rw (interval_bits-padded s v, stream_of-codes s intervals)
+stream_of-codes s (v ∷ intervals) = rw (interval_bits-padded, stream_of-codes s intervals)
 
 pub ReadsEach-unpadded_bits : (s : Settings) → IsAllowed s → (xs : List ℤ) → AllByRecursion (IsHeld s) xs
     → ReadsEach s (map (unpadded_bits s) (intervals_of s xs)) (intervals_of s xs)
 ReadsEach-unpadded_bits s a = by_pieces (λ xs. AllByRecursion (IsHeld s) xs → AreRead (intervals_of s xs)) (interval_len s) (interval_len-positive s a)
-    (λ held. rw (pieces_of-nil (interval_len s) (interval_len-positive s a)) tt)
-    (λ front rest piece ih held. rw (pieces_of-cons (interval_len s) front rest piece)
+    (λ held. rw (pieces_of-nil (interval_len s) (interval_len-positive s a)) tt) (λ front rest piece ih held. rw pieces_of-cons
     (ReadsBlocks-unpadded_bits s front a (all_left (IsHeld s) front rest held) piece.some piece.fits, ih (all_right (IsHeld s) front rest held)))
   where
     AreRead : List (List ℤ) → Type 0

@@ -67,7 +67,7 @@ bad_step None i k later ih e =
 bad_step (Some x) i k (Ok xs) ih e = absurd (cc)
 bad_step (Some x) i k (Err m) ih e =
     let same : m ≡ k = cc in
-    omega (arith, ih m refl)
+    omega (arith, ih)
 
 -- the number of a bad sample is not below that of the first sample
 pub bad_behind : (s : Settings) (i k : ℕ) (gs : List (List ℕ)) → samples_of_groups s i gs ≡ Err k → i ≤ k
@@ -130,9 +130,7 @@ judged_all s limit gs = judged_groups s limit 0 gs (omega arith) ∙ judged_at_s
 -- if none is refused, at most `limit` samples are taken
 pub taken_within : (s : Settings) (limit : ℕ) (gs : List (List ℕ)) → (taken_groups s limit 0 gs).refusal ≡ None
     → length (taken_groups s limit 0 gs).samples ≤ limit
-taken_within s limit gs none =
-    few (length (taken_groups s limit 0 gs).samples)
-    (cc (taken_groups-all s limit 0 gs none, judged_all s limit gs))
+taken_within s limit gs none = few (length (taken_groups s limit 0 gs).samples) (cc (taken_groups-all s limit 0 gs none, judged_all s limit gs))
   where
     few : (n : ℕ) → (if nat_lt limit n then Some (TooManySamples limit) else None) ≡ None → n ≤ limit
     few n e = ⊎_elim (λ l. absurd (past n l e)) (λ l. l) (cases_lt limit n)
@@ -153,7 +151,7 @@ length-samples s i (group ∷ groups) samples e =
         → sample_before first i later ≡ Ok samples → length samples ≡ suc (length groups)
     by_first None later all e = absurd (cc)
     by_first (Some x) (Err k) all e = absurd (cc)
-    by_first (Some x) (Ok xs) all e = let is : x ∷ xs ≡ samples = cc in rw (← is, all xs refl)
+    by_first (Some x) (Ok xs) all e = let is : x ∷ xs ≡ samples = cc in rw (← is, all xs)
 
 -- bytes hold one sample in each whole group
 pub length-samples_of_bytes : (s : Settings) (bytes : List ℕ) (samples : List ℤ) → samples_of_bytes s bytes ≡ Ok samples
@@ -169,7 +167,7 @@ all_taken xs = record { samples = xs; refusal = None }
 counted_step : (o : Option ℤ) (i j : ℕ) (later there : Result (List ℤ) ℕ) (xs : List ℤ) → sample_before o i later ≡ Ok xs
     → ((ys : List ℤ) → later ≡ Ok ys → there ≡ Ok ys) → sample_before o j there ≡ Ok xs
 counted_step None i j later there xs e ih = absurd (cc)
-counted_step (Some x) i j (Ok ys) there xs e ih = rw (ih ys refl) e
+counted_step (Some x) i j (Ok ys) there xs e ih = rw (ih ys) e
 counted_step (Some x) i j (Err k) there xs e ih = absurd (cc)
 
 pub counted_from : (s : Settings) (i j : ℕ) (gs : List (List ℕ)) (xs : List ℤ) → samples_of_groups s i gs ≡ Ok xs → samples_of_groups s j gs ≡ Ok xs

@@ -1,6 +1,6 @@
 -- Blocks of coded data sets without a reference sample, of which none needs a test of its place.
 use Rattle.std.proofs.Common.{length, take, ◌≡◌, ℕ, ◌+◌, ◌-◌, ◌*◌, ◌/◌, ◌%◌, ◌<◌, ◌≤◌, ◌==◌, ◌&&◌, Bool, true, false, if◌then◌else◌, Option, Some, None, IfSome, unwrap_or, ⊎_elim, Ok, ℤ, List, [], ◌∷◌, ◌++◌, refl, sym, ◌∙◌, arith}
-use Rattle.std.proofs.Math.Nat.{mod-lt, mul-le-mul_right, le-mul_of_pos_right, div-mul-le_self, add-mul}
+use Rattle.std.proofs.Math.Nat.{mod-lt, mul-le-mul_right, le-mul_of_pos_right, add-mul}
 use Rattle.std.proofs.lemmas.Grind.{div_ceil_times}
 use Rattle.std.proofs.lemmas.Bool.{cases_lt, and_right, ne_eqb, lt-ltb, le-ltb, le-leb, leb-true}
 use Rattle.std.proofs.Math.Seq.{take-append_seam}
@@ -48,10 +48,10 @@ pub untested-within : (s : Settings) (count : Option ℕ) (limit first end pad l
     → last * s.block_size ≤ unwrap_or count limit
     → IsUntestedEnd s count limit first last
 untested-within s count limit first end pad last allowed low counted end_is pad_is within samples = record {
-  within = omega (arith, within, end_is);
+  within = omega arith;
   unpadded = λ padded.
       let one : pad ≡ 1 = rw (pad_is, padded) in
-      omega (arith, within, one, end_is, interval-positive s allowed);
+      omega (arith, interval-positive s allowed);
   needed = needed_by count samples;
   keeps = keeps_by count samples;
   few = few_by count counted samples;
@@ -63,8 +63,8 @@ untested-within s count limit first end pad last allowed low counted end_is pad_
     needed_by : (count : Option ℕ) → last * s.block_size ≤ unwrap_or count limit → IfSome count (λ n. last ≤ div_ceil n s.block_size)
     needed_by None few = tt
     needed_by (Some n) few = ⊎_elim (λ (past : div_ceil n s.block_size < last).
-        let more : (div_ceil n s.block_size + 1) * s.block_size ≤ last * s.block_size = mul-le-mul_right s.block_size (omega (arith, past)) in
-        absurd (omega (arith, more, few, div_ceil_times n s.block_size positive, add-mul (div_ceil n s.block_size) 1 s.block_size, positive)))
+        let more : (div_ceil n s.block_size + 1) * s.block_size ≤ last * s.block_size = mul-le-mul_right s.block_size (omega arith) in
+        absurd (omega (arith, div_ceil_times n s.block_size positive, add-mul (div_ceil n s.block_size) 1 s.block_size)))
         (λ (kept : last ≤ div_ceil n s.block_size). kept) (cases_lt (div_ceil n s.block_size) last)
 
     keeps_by : (count : Option ℕ) → last * s.block_size ≤ unwrap_or count limit → keeps_limit s count limit last ≡ true
@@ -72,8 +72,8 @@ untested-within s count limit first end pad last allowed low counted end_is pad_
     keeps_by (Some n) few = refl
 
     few_by : (count : Option ℕ) → IfSome count (λ n. n ≤ most_samples) → last * s.block_size ≤ unwrap_or count limit → last < most_blocks
-    few_by None counted few = omega (arith, low, few, le-mul_of_pos_right last positive)
-    few_by (Some n) counted few = omega (arith, counted, few, le-mul_of_pos_right last positive)
+    few_by None counted few = omega (arith, le-mul_of_pos_right last positive)
+    few_by (Some n) counted few = omega (arith, le-mul_of_pos_right last positive)
 
 pub few_samples : (count : Option ℕ) (limit : ℕ) → limit ≤ most_samples → IfSome count (λ n. n ≤ most_samples) → unwrap_or count limit ≤ most_samples
 few_samples None limit low counted = low
@@ -93,27 +93,27 @@ pub record AreUntested (s : Settings) (count : Option ℕ) (limit first end i z 
 module _ {s : Settings} {count : Option ℕ} {limit first end i z : ℕ} {old : Cursor} (are : AreUntested s count limit first end i z old) where
   wanted_by : (count : Option ℕ) → IsUntestedEnd s count limit first end → is_wanted s count old.list i old.pos ≡ true
   wanted_by None ends = are.one
-  wanted_by (Some n) ends = lt-ltb i (div_ceil n s.block_size) (omega (arith, ends.needed, are.some, are.within))
+  wanted_by (Some n) ends = lt-ltb i (div_ceil n s.block_size) (omega arith)
 
   pub wanted_here : is_wanted s count old.list i old.pos ≡ true
   wanted_here = wanted_by count are.ends
 
   pub untested-place : i % s.interval ≡ i - first
-  untested-place = place-behind s first i are.aligned are.after (omega (arith, are.some, are.within, are.ends.within))
+  untested-place = place-behind s first i are.aligned are.after (omega arith)
 
   keeps_by : (count : Option ℕ) → keeps_limit s count limit end ≡ true → keeps_limit s count limit (i + z) ≡ true
   keeps_by None keeps =
       let fewer : (i + z) * s.block_size ≤ end * s.block_size = mul-le-mul_right s.block_size are.within in
-      le-leb ((i + z) * s.block_size) limit (omega (arith, fewer, leb-true (end * s.block_size) limit keeps))
+      le-leb ((i + z) * s.block_size) limit (omega (arith, leb-true (end * s.block_size) limit keeps))
   keeps_by (Some n) keeps = refl
 
   -- they are no more than their segment has left
   pub untested-placed : z ≤ segment_left s (i % s.interval) → Ok (i + z) ≡ block_behind s count limit i z 0
-  untested-placed fits = rw (le-ltb (segment_left s (i % s.interval)) z fits, keeps_by count are.ends.keeps)
+  untested-placed fits = rw (le-ltb, keeps_by count are.ends.keeps)
 
   kept_by : (count : Option ℕ) → IsUntestedEnd s count limit first end → z ≡ kept_count s count i (i + z - i)
   kept_by None ends = omega arith
-  kept_by (Some n) ends = omega (arith, ends.needed, are.within)
+  kept_by (Some n) ends = omega arith
 
   pub untested-kept : z ≡ kept_count s count i (i + z - i)
   untested-kept = kept_by count are.ends
@@ -121,9 +121,8 @@ module _ {s : Settings} {count : Option ℕ} {limit first end i z : ℕ} {old : 
   unpadded : (pad : Bool) → (pad ≡ true → end < first + s.interval) → (pad && ((i + z) % s.interval == 0)) ≡ false
   unpadded false padded = refl
   unpadded true padded =
-      let next : (i + z) % s.interval ≡ i + z - first =
-      place-behind s first (i + z) are.aligned (omega (arith, are.after)) (omega (arith, are.within, padded refl)) in
-      ne_eqb ((i + z) % s.interval) 0 (λ e. omega (arith, e, next, are.after, are.some))
+      let next : (i + z) % s.interval ≡ i + z - first = place-behind s first (i + z) are.aligned (omega arith) (omega (arith, padded refl)) in
+      ne_eqb ((i + z) % s.interval) 0 (λ e. omega arith)
 
   pub untested-begins : (list : List Bool) (b : ℕ) → b ≡ begin_of s list (i + z) b
   untested-begins list b = rw (unpadded s.pad are.ends.unpadded)
@@ -140,7 +139,7 @@ module _ {s : Settings} {wanted : Wanted} {end i : ℕ} {old : Cursor} {samples 
   untested-here = record {
     allowed = allowed;
     aligned = here.aligned;
-    after = omega (arith, here.behind);
+    after = omega arith;
     ends = here.untested;
     some = some;
     within = within;
@@ -151,8 +150,7 @@ module _ {s : Settings} {wanted : Wanted} {end i : ℕ} {old : Cursor} {samples 
   wanted_there = wanted_here untested-here
 
   due : false ≡ is_reference_block s (i % s.interval)
-  due = sym (and_right s.preprocess (i % s.interval == 0)
-      (ne_eqb (i % s.interval) 0 (λ e. omega (arith, e, untested-place untested-here, here.behind))))
+  due = sym (and_right s.preprocess (i % s.interval == 0) (ne_eqb (i % s.interval) 0 (λ e. omega (arith, untested-place untested-here))))
 
   -- a coded data set of these blocks was read there
   module _ (new : Cursor) (cds : Cds) (len : RunLen) (len_is : len ≡ read_len cds) (read : (c : CodedDataSet) × IsReadAs s false old new c cds)
@@ -169,7 +167,7 @@ module _ {s : Settings} {wanted : Wanted} {end i : ℕ} {old : Cursor} {samples 
       reached = reached-next old new allowed here.reached wanted_there due len_is read 0 (i + z) placed z more new.list new.pos (untested-kept untested-here)
           fills refl (untested-begins untested-here new.list new.pos);
       aligned = here.aligned;
-      behind = omega (arith, here.behind);
+      behind = omega arith;
       untested = here.untested;
     }
 
@@ -180,7 +178,7 @@ single-fills : (s : Settings) (all part : List ℤ) (values : List ℕ) (p : ℤ
     → FillsNext s (take at all) (take n (put_mid at k all part)) (block_of_values None values ∷ [])
 single-fills s all part values p at k n allowed next previous sum within len unmaps =
     fills_block_single s (take at all) (take n (put_mid at k all part)) (block_of_values None values) p values allowed next refl previous refl
-    (rw (take-put_mid at k all part n (omega (arith, sum, len)) (omega (arith, within))) (unmaps-behind s p values (take at all) part unmaps))
+    (rw (take-put_mid at k all part n (omega arith) (omega arith)) (unmaps-behind s p values (take at all) part unmaps))
 
 pub one_single : (s : Settings) (place : ℕ) (old new : Cursor) (all part : List ℤ) (values : List ℕ) (p : ℤ) (at k n : ℕ) → IsAllowed s
     → IsReadSingle s old new None values → has_one (bits_at old) ≡ true → new.list ≡ old.list → AllByRecursion (IsHeld s) (take at all)
@@ -189,11 +187,10 @@ pub one_single : (s : Settings) (place : ℕ) (old new : Cursor) (all part : Lis
 one_single s place old new all part values p at k n allowed read one same held previous sum within len unmaps = record {
   list = same;
   held =
-      rw (take-put_mid at k all part n (omega (arith, sum, len)) (omega (arith, within)))
-      (all-append (IsHeld s) (take at all) part held (rw unmaps.appended unmaps.held));
+      rw (take-put_mid at k all part n (omega arith) (omega arith)) (all-append (IsHeld s) (take at all) part held (rw unmaps.appended unmaps.held));
   leads = λ wanted end i there some here.
       let single : Cds = Single (block_of_values None values) in
-      let before : i + 1 ≤ end = omega (arith, some) in
+      let before : i + 1 ≤ end = omega arith in
       place-next 1 allowed here (omega arith) before one new single (Blocks 1) refl (read.set, read.read) refl
       (one_fits s i allowed) (take n (put_mid at k all part))
       (single-fills s all part values p at k n allowed
@@ -219,22 +216,21 @@ more_read s place n m old mid new samples front more first second = record {
   held = second.held;
   leads = λ wanted end i there some here.
       let last : i + n + m ≡ i + (n + m) = omega arith in
-      rw last at (second.leads wanted end (i + n) (omega (arith, there)) (omega (arith, some))
-      (first.leads wanted end i there (omega (arith, some)) here));
+      rw last at (second.leads wanted end (i + n) (omega arith) (omega arith) (first.leads wanted end i there (omega arith) here));
 }
 
 -- the samples before the places that were added
 front_of_extended : (items more extended all : List ℤ) (b : Bool) (from : ℕ) → extended ≡ (if b then items ++ more else items) → all ≡ extended
     → from ≡ length items → take from all ≡ items
 front_of_extended items more extended all true from is same place = rw (same, is, place) (take-append_seam items more)
-front_of_extended items more extended all false from is same place = rw (same, is) (take_all from items (omega (arith, place)))
+front_of_extended items more extended all false from is same place = rw (same, is) (take_all from items (omega arith))
 
 -- blocks were read into places that were added after the samples; only filled places are kept
 reads_kept : (s : Settings) (p n j from : ℕ) (old new : Cursor) (items more extended all filled kept : List ℤ) (b : Bool)
     → extended ≡ (if b then items ++ more else items) → all ≡ extended → from ≡ length items → j ≡ s.block_size → kept ≡ take (from + n * j) filled
     → ReadsBlocks s p n old (take from all) new (take (from + n * s.block_size) filled) → ReadsBlocks s p n old items new kept
 reads_kept s p n j from old new items more extended all filled kept b is same place size cut read =
-    rw (← (front_of_extended items more extended all b from is same place), cut, size) read
+    rw (← (front_of_extended items more extended all b from), cut, size) read
 
 -- ---- how many samples
 
@@ -242,13 +238,13 @@ pub few_places : (blocks size j : ℕ) → size ≡ j → j ≤ 64 → blocks �
 few_places blocks size j is small few =
     let most : blocks * j ≤ (2 + 120 / j) * j = mul-le-mul_right j few in
     let both : (2 + 120 / j) * j ≡ 2 * j + 120 / j * j = add-mul 2 (120 / j) j in
-    grind (arith, div-mul-le_self)
+    grind arith
 
 -- what is left has room for its blocks
 pub blocks_fit : (from at count most size all : ℕ) → at ≡ from + count * size → count ≤ most → from + most * size ≤ all → at + (most - count) * size ≤ all
 blocks_fit from at count most size all is within room =
     let both : (count + (most - count)) * size ≡ count * size + (most - count) * size = add-mul count (most - count) size in
-    let all : count + (most - count) ≡ most = omega (arith, within) in
+    let all : count + (most - count) ≡ most = omega arith in
     grind arith
 
 pub blocks_more : (from at count read size j : ℕ) → at ≡ from + count * size → j ≡ size → at + read * j ≡ from + (count + read) * size
@@ -258,15 +254,15 @@ blocks_more from at count read size j is same =
 pub len-joined : (old mid new block next read size : ℕ) → block ≤ next → mid ≤ old + (next - block) * size → new ≤ mid + read * size
     → new ≤ old + (next + read - block) * size
 len-joined old mid new block next read size forward front more =
-    let sum : next + read - block ≡ next - block + read = omega (arith, forward) in
-    grind (arith, add-mul)
+    let sum : next + read - block ≡ next - block + read = omega arith in
+    grind arith
 
 -- a capacity too small for the next blocks is too small for all up to the end
 pub len-lacking : (old mid block next end asked size j capacity grown : ℕ) → size ≡ j → block ≤ next → mid ≤ old + (next - block) * j
     → next + asked ≤ end → capacity ≤ grown → grown < mid + asked * size → capacity < old + (end - block) * j
 len-lacking old mid block next end asked size j capacity grown is forward front within more full =
-    let all : (next - block + asked) * j ≤ (end - block) * j = mul-le-mul_right j (omega (arith, forward, within)) in
-    grind (arith, add-mul)
+    let all : (next - block + asked) * j ≤ (end - block) * j = mul-le-mul_right j (omega arith) in
+    grind arith
 
 -- a list that isn't empty has a last item
 last-of : {X : Type 0} (x : X) (xs : List X) → (front : List X) × (last : X) × (x ∷ xs ≡ front ++ (last ∷ []))
@@ -276,7 +272,7 @@ last-of x (y ∷ ys) = let rest = last-of y ys in (x ∷ rest.0, rest.1, rw rest
 -- a reading that has come past a block was not refused at its first coded data set
 pub behind-one : (s : Settings) (count : Option ℕ) (limit : ℕ) (bits : List Bool) (first start : ℕ) (sets : List CodedDataSet) (i b : ℕ)
     → LeadsTo s count limit bits first start sets i b → first < i → (h : LeadsBehindOne s count limit bits first start) × (h.block ≡ i)
-behind-one s count limit bits first start [] i b leads after = absurd (omega (arith, after, leads.0))
+behind-one s count limit bits first start [] i b leads after = absurd (omega arith)
 behind-one s count limit bits first start (c ∷ sets) i b leads after =
     let last = last-of c sets in
     (record { sets = last.0; last = last.1; block = i; bit = b; leads = rw (← last.2) leads }, refl)
@@ -287,7 +283,7 @@ pub lacks_room : (s : Settings) (wanted : Wanted) (last next end : ℕ) (before 
     → RefusesUpTo s wanted.count wanted.limit old.list wanted.first wanted.start end fault
 lacks_room s wanted last next end before old samples fault stays here within memory =
     let one = behind-one s wanted.count wanted.limit before.list wanted.first wanted.start here.reached.sets next before.pos here.reached.leads here.behind in
-    rw (stays, memory) (no_room one.0 (omega (arith, one.1, within)))
+    rw (stays, memory) (no_room one.0 (omega arith))
 
 -- so a reading goes n blocks further, to a block that needs no test either
 pub reads_further : (s : Settings) (wanted : Wanted) (last next n j from : ℕ) (before old new : Cursor) (items more extended all filled kept : List ℤ)
@@ -299,5 +295,5 @@ pub reads_further : (s : Settings) (wanted : Wanted) (last next n j from : ℕ) 
 reads_further s wanted last next n j from before old new items more extended all filled kept b is same place size cut read stays here few =
     let whole = reads_kept s (next - wanted.first) n j from old new items more extended all filled kept b is same place size cut read in (
       whole,
-      whole.leads wanted last next (omega (arith, here.behind)) few (rw stays here),
+      whole.leads wanted last next (omega arith) few (rw stays here),
     )

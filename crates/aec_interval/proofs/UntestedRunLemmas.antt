@@ -60,7 +60,7 @@ module _ (s : Settings) (due : Bool) (p : ℕ) (old new : Cursor) (reference : O
   some =
       let told = (skipped-read s due old new read.0 (Zeros reference len) len refl read.1).told in
       let blocks : run_count s p len ≡ block_count s p read.0 = rw (told, run_count-body_len) in
-      omega (arith, count_is, blocks, block_count-positive s p read.0 place)
+      omega (arith, block_count-positive s p read.0 place)
 
   repeated-held : (n : ℕ) → AllByRecursion (IsHeld s) (replicate n x)
   repeated-held n =
@@ -82,14 +82,11 @@ one_run s p most old new reference len z all part x at k allowed place read coun
       rw written (all-append (IsHeld s) (take at all) (replicate k x) held (repeated-held s false p old new reference len z (take at all) x allowed
       place read count_is held x_is k));
   leads = λ wanted end i there some_left here.
-      let before : i + z ≤ end = omega (arith, some_left, positive) in
-      let at_place : i % s.interval ≡ p =
-      untested-place (untested-here z allowed here positive before one)
-      ∙ omega (arith, there) in
+      let before : i + z ≤ end = omega (arith, positive) in
+      let at_place : i % s.interval ≡ p = untested-place (untested-here z allowed here positive before one) ∙ omega arith in
       let count_there : run_count s (i % s.interval) len ≡ z = rw at_place count_is in
       let fits_there : z ≤ segment_left s (i % s.interval) = rw at_place fits in
-      let next =
-      next-there z allowed here positive before one new (Zeros reference len) len refl read count_there fits_there in
+      let next = next-there z allowed here positive before one new (Zeros reference len) len refl read count_there fits_there in
       let filled : AreFilled s (i - wanted.first) (take at all) =
       AreFilled-reached allowed here.reached (wanted_there z allowed here positive before one) in
       place-next z allowed here positive before one new (Zeros reference len) len refl read count_there fits_there
@@ -102,18 +99,14 @@ one_run s p most old new reference len z all part x at k allowed place read coun
     positive = some s false p old new reference len z (take at all) x allowed place read count_is held x_is
 
     within : at + k ≤ length all
-    within = omega (arith, size, mul-le-mul_right s.block_size few, room)
+    within = omega (arith, mul-le-mul_right s.block_size few)
 
     repeated : part ≡ replicate k x
     repeated = part_is ∙ ap (λ n. replicate n x) (omega (arith, length-take k (drop at all), length-drop at all, within))
 
     written : take (at + z * s.block_size) (put_mid at k all part) ≡ (take at all) ++ replicate k x
     written =
-        rw (
-          take-put_mid at k all part (at + z * s.block_size) (omega (arith, size, ap length repeated, length-replicate k x))
-              (omega (arith, within)),
-          repeated,
-        )
+        rw (take-put_mid at k all part (at + z * s.block_size) (omega (arith, ap length repeated, length-replicate k x)) (omega arith), repeated)
 
 -- ---- a run with which a short interval begins
 
@@ -141,7 +134,7 @@ run_in_front s z k all part x within size len part_is =
     rw (take_at part (drop k all) (z * s.block_size) (rw (repeated, length-replicate) size), repeated, size)
   where
     room : k ≤ length all
-    room = omega (arith, size, mul-le-mul_right s.block_size within, mul_comm s.interval s.block_size, len)
+    room = omega (arith, mul-le-mul_right s.block_size within, mul_comm s.interval s.block_size)
 
     repeated : part ≡ replicate k x
     repeated = part_is ∙ ap (λ n. replicate n x) (omega (arith, length-take k all, room))

@@ -67,10 +67,10 @@ module _ (s : Settings) (a : IsAllowed s) (count : Option ℕ) (limit : ℕ) (bi
       read_there (is_reference_block s (i % s.interval)) b c fault (record { shape = l.shape; stands = x }) l.small none
   not_wrong i b c fault x l within (too_long d at small long) =
       both_ways (stays_in_segment s (i % s.interval) d) long
-      (rw (same_set s bits b (is_reference_block s (i % s.interval)) d c a at.shape l.shape at.stands x) l.within)
+      (rw (same_set s bits b (is_reference_block s (i % s.interval)) d c a at.shape l.shape at.stands) l.within)
   not_wrong i b c fault x l within (too_many d at lawful past) =
       both_ways (keeps_limit s count limit (next_block s i d)) past
-      (rw (same_set s bits b (is_reference_block s (i % s.interval)) d c a at.shape l.shape at.stands x) within)
+      (rw (same_set s bits b (is_reference_block s (i % s.interval)) d c a at.shape l.shape at.stands) within)
 
   wrong-back : (i b j e : ℕ) (fault : Fault) → (j ≡ i) × (e ≡ b) → IsWrongAt s count limit bits j e fault → IsWrongAt s count limit bits i b fault
   wrong-back i b j e fault h w = rw (h.1, h.0) at w

@@ -126,7 +126,7 @@ module _ {s : Settings} {count : Option ℕ} {limit first start : ℕ} (old new 
     lawful within = record {
       shape = found.read.set.shape;
       small = found.read.small;
-      within = le-leb (block_count s (i % s.interval) c) (segment_left s (i % s.interval)) (omega (arith, blocks-is, within));
+      within = le-leb (block_count s (i % s.interval) c) (segment_left s (i % s.interval)) (omega (arith, blocks-is));
     }
 
     pub keeps-is : (b : Bool) → keeps_limit s count limit (i + blocks) ≡ b → keeps_limit s count limit (next_block s i c) ≡ b
@@ -138,7 +138,7 @@ module _ {s : Settings} {count : Option ℕ} {limit first start : ℕ} (old new 
         may_not_stand s count limit i blocks bit fault (IsFaultBefore s count limit old.list first start (i + blocks_before_end s i)) is
         (λ past. subst (λ b. IsFaultBefore s count limit old.list first start (i + blocks_before_end s i) (RunTooLong b)) (sym at)
         (wrong_here (RunTooLong old.pos) (too_long c found.read.set found.read.small
-        (lt-leb (block_count s (i % s.interval) c) (segment_left s (i % s.interval)) (omega (arith, blocks-is, past))))))
+        (lt-leb (block_count s (i % s.interval) c) (segment_left s (i % s.interval)) (omega (arith, blocks-is))))))
         (λ within many. wrong_here (TooManySamples limit) (too_many c found.read.set (lawful within) (keeps-is false many)))
 
     pub blocks-some : 1 ≤ blocks
@@ -168,7 +168,7 @@ module _ {s : Settings} {count : Option ℕ} {limit first start : ℕ} (old new 
 
       pub led-next : (list : List Bool) (e : ℕ) → list ≡ new.list → e ≡ begin_of s new.list next new.pos
           → IsLedTo s count limit list first start next e
-      led-next list e same begins = rw (same, same_list, next-is, begin-is e begins) (record { sets = led.sets ++ c ∷ []; leads = leads-next })
+      led-next list e same begins = rw (same, same_list, next-is, begin-is e) (record { sets = led.sets ++ c ∷ []; leads = leads-next })
 
       few : limit ≤ most_samples → IfSome count (λ n. n ≤ most_samples) → next < most_blocks
       few low counted = by_count count wanted stand.keeps counted
@@ -180,12 +180,11 @@ module _ {s : Settings} {count : Option ℕ} {limit first start : ℕ} (old new 
               → IfSome count (λ n. n ≤ most_samples) → next < most_blocks
           by_count None wanted keeps counted =
               let kept = leb-true ((i + blocks) * s.block_size) limit keeps in
-              omega (arith, kept, low, stand.next_is, le-mul_of_pos_right (i + blocks) positive)
+              omega (arith, low, stand.next_is, le-mul_of_pos_right (i + blocks) positive)
           by_count (Some n) wanted keeps counted =
               let below = ltb-true i (div_ceil n s.block_size) wanted in
               omega (
                 arith,
-                below,
                 counted,
                 stand.within,
                 stand.next_is,

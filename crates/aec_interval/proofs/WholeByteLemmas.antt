@@ -19,7 +19,7 @@ led-whole s count limit bits i b (c ∷ sets) j e pad from leads begins =
     n = b + length (cds_bits s c)
 
     either : (m l : ℕ) → (8 * (min (next_multiple_of m 8) l / 8) ≡ min (next_multiple_of m 8) l) ⊎ (min (next_multiple_of m 8) l ≡ l)
-    either m l = ⊎_elim (λ below. inl (omega (arith, below))) (λ above. inr (omega (arith, above))) (cases_lt (next_multiple_of m 8) l)
+    either m l = ⊎_elim (λ below. inl (omega arith)) (λ above. inr (omega arith)) (cases_lt (next_multiple_of m 8) l)
 
     here : next_block s i c % s.interval ≡ 0 → (8 * (next_begin s bits i b c / 8) ≡ next_begin s bits i b c) ⊎ (next_begin s bits i b c ≡ length bits)
     here first =

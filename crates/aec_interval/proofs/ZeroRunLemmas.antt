@@ -1,6 +1,6 @@
 -- Zero blocks that come next, one after the other.
 use Rattle.std.proofs.Common.{◌≡◌, ℕ, zero, suc, ◌+◌, ◌*◌, ◌/◌, ◌%◌, ◌<◌, ◌≤◌, ◌==◌, ◌&&◌, Bool, true, false, Option, Some, None, ℤ, pos, List, [], ◌∷◌, ◌++◌, length, take, drop, replicate, ◌-◌, ◌^◌, refl, sym, ap, ap₂, ◌∙◌, append_assoc, add-one, arith}
-use Rattle.std.proofs.Math.Nat.{mul_comm, mod-lt, zero-mul, one-mul, suc-mul, mul-pos, mul-lt-mul_of_pos_right}
+use Rattle.std.proofs.Math.Nat.{mod-lt, zero-mul, one-mul, suc-mul, mul-pos, mul-lt-mul_of_pos_right}
 use Rattle.std.proofs.lemmas.Nat.{div-add-mod', mod-mul-add}
 use Rattle.std.proofs.lemmas.Bool.{ne_eqb}
 use Rattle.std.specs.List.{last_or}
@@ -27,17 +27,17 @@ use Rattle.aec_interval.proofs.NextFillLemmas.{held-zero, held-last_sample, mapp
 
 -- the samples of i blocks end an interval exactly if i is a multiple of r
 starts_alike : (j r i : ℕ) → 0 < j → 0 < r → (i * j % (j * r) == 0) ≡ (i % r == 0)
-starts_alike j r i some positive = rw (whole, mod-mul-add (i / r) (j * r) (i % r * j) below, zero_alike (i % r))
+starts_alike j r i some positive = rw (whole, mod-mul-add (i / r) (j * r) (i % r * j) below, zero_alike)
   where
     whole : i * j ≡ i / r * (j * r) + i % r * j
     whole = omega (arith, ap (λ n. n * j) (div-add-mod' i r))
 
     below : i % r * j < j * r
-    below = omega (arith, mul-lt-mul_of_pos_right (mod-lt i positive) some, mul_comm j r)
+    below = omega (arith, mul-lt-mul_of_pos_right (mod-lt i positive) some)
 
     zero_alike : (m : ℕ) → (m * j == 0) ≡ (m == 0)
     zero_alike zero = rw zero-mul
-    zero_alike (suc m) = ne_eqb (suc m * j) 0 (λ e. absurd (omega (arith, suc-mul m j))) ∙ sym (ne_eqb (suc m) 0 (λ e. absurd (omega arith)))
+    zero_alike (suc m) = ne_eqb (suc m * j) 0 (λ e. absurd (omega arith)) ∙ sym (ne_eqb (suc m) 0 (λ e. absurd (omega arith)))
 
 pub HasReference-next : (s : Settings) (i : ℕ) (samples : List ℤ) (reference : Option ℕ) → IsAllowed s → AreFilled s i samples
     → HasReference s (is_reference_block s (i % s.interval)) reference
@@ -79,14 +79,14 @@ pub no_reference-later : (s : Settings) (i k : ℕ) → 1 ≤ k → i % s.interv
 no_reference-later s i k some within = rw not_first tt
   where
     place : (i + k) % s.interval ≡ i % s.interval + k
-    place = ap (λ n. n % s.interval) (omega (arith, div-add-mod' i s.interval)) ∙ mod-mul-add (i / s.interval) s.interval (i % s.interval + k) within
+    place = ap (λ n. n % s.interval) (omega arith) ∙ mod-mul-add (i / s.interval) s.interval (i % s.interval + k) within
 
     and_false : (b : Bool) → (b && false) ≡ false
     and_false true = refl
     and_false false = refl
 
     not_first : is_reference_block s ((i + k) % s.interval) ≡ false
-    not_first = rw (place, ne_eqb (i % s.interval + k) 0 (λ e. absurd (omega arith)), and_false s.preprocess)
+    not_first = rw (place, ne_eqb (i % s.interval + k) 0 (λ e. absurd (omega arith)), and_false)
 
 -- one more zero block
 pub run_blocks-push : (s : Settings) (reference : Option ℕ) (z : ℕ) → 1 ≤ z
@@ -102,8 +102,7 @@ pub FillsNext-push : (s : Settings) (old mid new : List ℤ) (reference : Option
     → FillsNext s mid new (zero_block s None ∷ [])
     → FillsNext s old new (run_blocks s reference (z + 1))
 FillsNext-push s old mid new reference z some first later blocks filled =
-    rw (append_assoc blocks (run_blocks s reference z) (zero_block s None ∷ []), ← (run_blocks-push s reference z some))
-    at (later (blocks ++ run_blocks s reference z) (first blocks filled))
+    rw (append_assoc, ← run_blocks-push) at (later (blocks ++ run_blocks s reference z) (first blocks filled))
 
 -- ---- the samples of zero blocks
 
@@ -121,8 +120,7 @@ unmaps-zeros s p x n old held first later =
 unmaps-reference : (s : Settings) (x : ℤ) (n : ℕ) (old : List ℤ) → 0 < n → IsHeld s x → mapped_value s x x ≡ 0
     → Unmaps s x (drop 1 (replicate n 0)) (old ++ x ∷ []) (old ++ replicate n x)
 unmaps-reference s x zero old some held later = absurd (omega arith)
-unmaps-reference s x (suc n) old some held later =
-    rw (append_assoc old (x ∷ []) (replicate n x)) at (unmaps-zeros s x x n (old ++ x ∷ []) held later later)
+unmaps-reference s x (suc n) old some held later = rw append_assoc at (unmaps-zeros s x x n (old ++ x ∷ []) held later later)
 
 -- what has to hold of the sample x that a run repeats
 pub record Repeats (s : Settings) (reference : Option ℕ) (old : List ℤ) (x : ℤ) : Type 0 where
@@ -206,7 +204,7 @@ fills-one s old (Some r) x allowed next repeats =
 
 last_sample-repeated : (old : List ℤ) (n : ℕ) (x : ℤ) → 0 < n → last_sample (old ++ replicate n x) ≡ x
 last_sample-repeated old zero x some = absurd (omega arith)
-last_sample-repeated old (suc n) x some = rw (last_or-append None old (replicate (suc n) x), same n)
+last_sample-repeated old (suc n) x some = rw (last_or-append, same n)
   where
     same : (n : ℕ) → last_or (Some x) (replicate n x) ≡ Some x
     same zero = refl
@@ -243,9 +241,9 @@ pub fills-run : (s : Settings) (i z : ℕ) (old : List ℤ) (reference : Option 
     → FillsNext s old (old ++ replicate (z * s.block_size) x) (run_blocks s reference z)
 fills-run s i zero old reference x allowed some within due filled repeats = absurd (omega arith)
 fills-run s i (suc zero) old reference x allowed some within due filled repeats =
-    rw (one-mul s.block_size) (fills-one s old reference x allowed (zero_block-next s i old reference allowed filled due) repeats)
+    rw one-mul (fills-one s old reference x allowed (zero_block-next s i old reference allowed filled due) repeats)
 fills-run s i (suc (suc k)) old reference x allowed some within due filled repeats =
-    rw (add-one (suc k)) at (fills-longer s i (suc k) old reference x allowed (omega arith) (omega arith) filled repeats
+    rw add-one at (fills-longer s i (suc k) old reference x allowed (omega arith) (omega arith) filled repeats
     (fills-run s i (suc k) old reference x allowed (omega arith) (omega arith) due filled repeats))
 
 -- the samples of a run are all appended at once
@@ -257,6 +255,6 @@ fills-resized s i z old new reference kept len n allowed some within due filled 
     rw whole (fills-run s i z old reference kept allowed some within due filled (repeats-zeros s i old reference kept allowed filled due is))
   where
     whole : new ≡ old ++ replicate (z * s.block_size) kept
-    whole = pushed ∙ ap₂ (λ front k. front ++ replicate k kept) (take_all n old (omega (arith, len_is, n_is))) (omega (arith, n_is))
+    whole = pushed ∙ ap₂ (λ front k. front ++ replicate k kept) (take_all n old (omega arith)) (omega arith)
 
 pub ruleset repeated = (sample_of_zeros-reference, sample_of_zeros-predicted, sample_of_zeros-plain)

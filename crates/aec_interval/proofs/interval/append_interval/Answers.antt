@@ -8,11 +8,7 @@ pub returns : goal.returns
 returns c =
     record {
       ok = on_ok_weaker c.append_intervals.result
-          (λ e. rw (
-            e,
-            code_of_interval (interval_format c.args.params.now) c.args.samples.now (omega (arith, c.requires.some))
-                (omega (arith, c.requires.fits)),
-          ))
+          (λ e. rw (e, code_of_interval (interval_format c.args.params.now) c.args.samples.now (omega arith) (omega arith)))
           c.append_intervals.ensures.ok;
       err = c.append_intervals.ensures.err;
       fault = c.append_intervals.ensures.fault;

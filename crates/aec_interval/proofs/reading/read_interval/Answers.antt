@@ -9,7 +9,7 @@ pub loop-behind-init : goal.loop-behind-init
 loop-behind-init c = record {
   reached = reached-start c.args.params.now _ _ _ _ _ _ _ c.requires.begins c.requires.empty;
   list = refl;
-  inside = inside-begun _ _ _ _ _ _ _ c.interval.ensures.allowed (omega (arith, c.from.ensures, c.interval.ensures.value)) c.requires.wanted;
+  inside = inside-begun _ _ _ _ _ _ _ c.interval.ensures.allowed (omega arith) c.requires.wanted;
   len = grind arith;
   capacity = omega arith;
 }
@@ -38,8 +38,7 @@ returns-in_err-block-clause-full c =
     of_refusal _ _ _ c.from_residual-in_err-block.ensures.1
     (λ memory. no_room-untested _ _ _ _ _ _ _ _ c.loop-behind.invariant.inside c.in_ok-behind.behind (vec_len c.loop-behind.samples)
     (vec_len c.read_next.new.samples) (vec_capacity c.read_next.new.samples) (vec_capacity c.args.samples.now) c.in_ok-behind.ensures.next
-    c.loop-behind.invariant.len c.in_ok-behind.ensures.len (omega (arith, c.loop-behind.invariant.capacity, c.read_next.ensures.capacity))
-    c.in_err-block.ensures.full)
+    c.loop-behind.invariant.len c.in_ok-behind.ensures.len (omega arith) c.in_err-block.ensures.full)
 
 pub returns-then-not-goes_on-clause-over : goal.returns-then-not-goes_on-clause-over
 returns-then-not-goes_on-clause-over c =

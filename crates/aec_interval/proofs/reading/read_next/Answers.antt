@@ -10,8 +10,7 @@ use Rattle.aec_interval.proofs.reading.read_next.Goals as goal
 pub returns-in_err-found-clause-refuses : goal.returns-in_err-found-clause-refuses
 returns-in_err-found-clause-refuses c =
     of_refusal _ _ _ c.from_residual.ensures.1
-    (refuses-fault _ _ _ _ _ _ _ _
-    (unread-wrong c.args.reader.now c.args.reader.now c.has_reference.ensures.allowed
+    (refuses-fault _ _ _ _ _ _ _ _ (unread-wrong c.args.reader.now c.args.reader.now c.has_reference.ensures.allowed
     (led-reached _ _ _ _ _ _ _ _ _ c.requires.reached) c.requires.wanted.wanted _ _
     (due_there c.args.params.now _ _ _ c.has_reference.ensures.value c.requires.place)
     c.in_err-found.ensures.refuses))
@@ -58,8 +57,7 @@ returns-clause-ok c =
     reached-next c.args.reader.now c.read_into.new.reader c.has_reference.ensures.allowed c.requires.reached c.requires.wanted.wanted
     (due_there c.args.params.now _ _ _ c.has_reference.ensures.value c.requires.place)
     (c.stands_for.ensures _) c.in_ok-found.ensures.ok _ _ c.in_ok-next.ensures.value
-    _ _ _ _ c.blocks_kept-kept.ensures
-    (rw c.reserve_blocks.ensures.items at c.push_cds.ensures.items)
+    _ _ _ _ c.blocks_kept-kept.ensures (rw c.reserve_blocks.ensures.items at c.push_cds.ensures.items)
     c.skip_padding.ensures.list c.skip_padding.ensures.pos
 
 pub returns-clause-next : goal.returns-clause-next
@@ -77,7 +75,7 @@ returns-in_err-reserve_blocks-clause-full c =
     (c.stands_for.ensures _) c.in_ok-found.ensures.ok _ _ c.in_ok-next.ensures.value _ c.blocks_kept-kept.ensures in
     of_refusal _ _ _ c.from_residual-in_err-reserve_blocks.ensures.1
     (λ _. more_room _ _ (vec_capacity c.args.samples.now) (vec_len c.args.samples.now) c.args.params.now.block_size
-    (omega (arith, bounds.1, c.in_ok-next.ensures.within)) c.in_err-reserve_blocks.ensures.full)
+    (omega (arith, c.in_ok-next.ensures.within)) c.in_err-reserve_blocks.ensures.full)
 
 pub returns-clause-len : goal.returns-clause-len
 returns-clause-len c =
@@ -85,4 +83,4 @@ returns-clause-len c =
     kept-bounds c.args.reader.now c.read_into.new.reader c.has_reference.ensures.allowed c.requires.reached c.requires.wanted.wanted
     (due_there c.args.params.now _ _ _ c.has_reference.ensures.value c.requires.place)
     (c.stands_for.ensures _) c.in_ok-found.ensures.ok _ _ c.in_ok-next.ensures.value _ c.blocks_kept-kept.ensures in
-    omega (arith, mul-le-mul_right c.args.params.now.block_size bounds.1, c.push_cds.ensures.len, c.in_ok-reserve_blocks.ensures.len)
+    omega (arith, mul-le-mul_right c.args.params.now.block_size bounds.1)

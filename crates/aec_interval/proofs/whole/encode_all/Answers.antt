@@ -12,5 +12,4 @@ returns-in-None-clause-shortest c unpadded =
     let s = c.args.params.now in
     let held = all-held s 0 c.args.samples.now (sym c.in-None.ensures) in
     let law = codes_are_shortest s c.args.samples.now c.code_intervals.ensures.allowed in
-    IfOk-weaker c.code_intervals.result _ _
-    (λ b same codes each. grind arith) c.code_intervals.ensures.ok
+    IfOk-weaker c.code_intervals.result _ _ (λ b same codes each. grind arith) c.code_intervals.ensures.ok

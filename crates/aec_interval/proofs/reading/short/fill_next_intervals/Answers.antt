@@ -5,7 +5,7 @@ pub returns : goal.returns
 returns c =
     let s = c.args.params.now in
     let mixed = c.fill_mixed_intervals-2 in
-    let stays = c.fill_usual_intervals-zeros.ensures.stays (omega (arith, c.if-zeros-gt0.false)) in
+    let stays = c.fill_usual_intervals-zeros.ensures.stays (omega arith) in
     record {
       reads = λ some. rw (stays, c.is_single_next.ensures.stays) at (mixed.ensures.reads some);
       stays = λ none. mixed.ensures.stays none ∙ (stays ∙ c.is_single_next.ensures.stays);

@@ -1,6 +1,5 @@
 use Rattle.std.proofs.Common.{rules, ◌≡◌, ◌-◌, ◌*◌, unwrap_or, arith}
 use Rattle.aec_params.specs.Params.{interval_len}
-use Rattle.aec_params.proofs.SampleLaws.{interval_len-positive}
 use Rattle.aec_interval.proofs.ShortLemmas.{whole_within}
 use Rattle.aec_interval.proofs.reading.short.untested_intervals.Goals as goal
 
@@ -16,6 +15,5 @@ returns c =
       unpadded = c.requires.unpadded;
       low = c.requires.limit;
       counted = c.requires.counted;
-      samples = whole_within first n s.interval s.block_size _ c.saturating_sub.result c.interval_len.result some
-          (omega (arith, len, interval_len-positive s c.interval_len.ensures.allowed)) len left within;
+      samples = whole_within first n s.interval s.block_size _ c.saturating_sub.result c.interval_len.result some (omega arith) len left within;
     }

@@ -6,13 +6,13 @@ use Rattle.aec_interval.proofs.reading.short_interval.fill_first.Goals as goal
 pub fill_first_block-first-requires-clause-room : goal.fill_first_block-first-requires-clause-room
 fill_first_block-first-requires-clause-room g c =
     let s = c.args.params.now in
-    omega (arith, c.requires.len, le-mul_of_pos_right s.block_size (interval-positive s c.known_allowed.ensures))
+    omega (arith, le-mul_of_pos_right s.block_size (interval-positive s c.known_allowed.ensures))
 
 pub returns-clause-fills : goal.returns-clause-fills
 returns-clause-fills g c =
     let s = c.args.params.now in
     let run = c.fill_first_run in
-    let none : c.fill_first_block-first.result ≡ 0 = omega (arith, c.if-first-gt0.false) in
+    let none : c.fill_first_block-first.result ≡ 0 = omega arith in
     let stays = c.fill_first_block-first.ensures.stays none in
     record {
       ok = λ some. rw stays at (run.ensures.ok some);

@@ -13,7 +13,7 @@ returns c =
     run_in_front s z (z * c.block_size.result) c.args.samples.now c.fill.new.self x c.in-Some.ensures.within
     (rw c.block_size.ensures.value) c.requires.len (c.fill.ensures.after (λ y same. search (rules, same))) in
     record {
-      ok = λ some. rw (front, to_z-of_z w64 c.in-Some.sample fits) c.in-Some.ensures.read;
+      ok = λ some. rw (front, to_z-of_z) c.in-Some.ensures.read;
       within = c.in-Some.ensures.within;
       list = search rules;
       len = search rules;

@@ -10,7 +10,7 @@ returns-then-blocks-from-clause-read c =
     let z = c.block_count-blocks.result in
     let fits : FitsSigned w64 c.repeated_sample.result = search (rules, c.repeated_sample.type_inv) in
     let x : ℤ = to_z w64 (of_z w64 c.repeated_sample.result) in
-    let few : z ≤ s.interval = omega (arith, c.if-blocks-from.true, c.from.ensures, c.interval.ensures.value) in
+    let few : z ≤ s.interval = omega arith in
     let read = rw c.preprocess.ensures at c.in-Some.ensures.read in
     first_run s c.args.reader.now new c.in-Some.reference c.in-Some.len z x c.known_allowed.ensures c.requires.short read
     (c.in-Some.ensures.one refl) (sym c.block_count-blocks.ensures) few

@@ -11,5 +11,5 @@ returns-then-blocks-from-clause-ok c =
     let all : z ≡ s.interval = c.if-blocks-from.true ∙ (c.from.ensures ∙ c.interval.ensures.value) in
     let fits : FitsSigned w64 c.in-Some.sample = search (rules, c.read_first_run.type_inv) in
     let kept : to_z w64 (of_z w64 c.in-Some.sample) ≡ c.in-Some.sample = to_z-of_z w64 c.in-Some.sample fits in
-    rw kept (rw (all, mul_comm s.interval s.block_size) at (reads_whole s z c.args.reader.now c.read_first_run.new.reader _ c.interval.ensures.allowed
+    rw kept (rw (all, mul_comm) at (reads_whole s z c.args.reader.now c.read_first_run.new.reader _ c.interval.ensures.allowed
     all c.in-Some.ensures.read))

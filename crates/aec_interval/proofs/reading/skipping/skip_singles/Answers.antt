@@ -17,9 +17,9 @@ loop-count-preserved c =
     let interval : c.from-interval.result ≡ s.interval = c.from-interval.ensures ∙ c.interval.ensures.value in
     record {
       skips = skips_more s c.args.place c.args.most c.loop-count.count c.loop-count.at c.args.reader.now c.loop-count.reader c.skip_single.new.reader
-          c.interval.ensures.allowed (c.requires.unpadded (omega (arith, c.loop-count-test.true))) inv.skips inv.at (found.one refl)
-          c.has_reference.result c.has_reference.ensures.value (found.skipped refl) c.skip_single.ensures.list (omega (arith, c.loop-count-test.true));
+          c.interval.ensures.allowed (c.requires.unpadded (omega arith)) inv.skips inv.at (found.one refl)
+          c.has_reference.result c.has_reference.ensures.value (found.skipped refl) c.skip_single.ensures.list (omega arith);
       at = place-next s.interval c.args.place c.loop-count.count c.loop-count.at c.next_place-at.result inv.at
           (rw (c.next_place-at.ensures.value, interval));
-      within = omega (arith, c.next_place-at.ensures.within, interval);
+      within = omega arith;
     }

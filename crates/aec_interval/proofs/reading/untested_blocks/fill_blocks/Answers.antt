@@ -14,8 +14,7 @@ loop-count-init g c = record {
 pub fill_next-read-requires-clause-room : goal.fill_next-read-requires-clause-room
 fill_next-read-requires-clause-room g c =
     let inv = c.loop-count.invariant in
-    blocks_fit c.args.from c.loop-count.at c.loop-count.count c.args.most c.args.params.now.block_size _ inv.at inv.within
-    (omega (arith, c.requires.room, inv.len))
+    blocks_fit c.args.from c.loop-count.at c.loop-count.count c.args.most c.args.params.now.block_size _ inv.at inv.within (omega arith)
 
 pub loop-count-preserved : goal.loop-count-preserved
 loop-count-preserved g c =
@@ -26,7 +25,7 @@ loop-count-preserved g c =
     let at = blocks_more c.args.from c.loop-count.at c.loop-count.count fill.result s.block_size _ inv.at size in
     record {
       reads = rw size (more_read s c.args.place c.loop-count.count fill.result _ _ _ _ _ _ inv.reads fill.ensures.fills.reads);
-      within = omega (arith, fill.ensures.fills.within, inv.within);
+      within = omega arith;
       at = at;
       values = search rules;
       len = search rules;
@@ -38,7 +37,7 @@ returns-then-read-eq0-clause-fills g c =
     let s = c.args.params.now in
     let fill = c.fill_next-read in
     let none : fill.result ≡ 0 = c.if-read-eq0.true in
-    let count : c.loop-count.count + fill.result ≡ c.loop-count.count = omega (arith, none) in
+    let count : c.loop-count.count + fill.result ≡ c.loop-count.count = omega arith in
     let last : c.loop-count.at + fill.result * s.block_size ≡ c.args.from + c.loop-count.count * s.block_size = grind arith in
     record {
       reads = rw (count, last) at (more_read s c.args.place c.loop-count.count fill.result _ _ _ _ _ _ inv.reads fill.ensures.fills.reads);

@@ -5,8 +5,7 @@ use Rattle.aec_interval.proofs.stream_coder.pieces.complete_rest.Goals as goal
 
 pub returns-then-len-eq0-clause-completes : goal.returns-then-len-eq0-clause-completes
 returns-then-len-eq0-clause-completes c =
-    no_rest c.args.terms.now c.args.progress.now c.args.rest.now c.args.piece.now c.args.out.now.list c.requires.begun.progress
-    (omega (arith, c.len.ensures, c.if-len-eq0.true))
+    no_rest c.args.terms.now c.args.progress.now c.args.rest.now c.args.piece.now c.args.out.now.list c.requires.begun.progress (omega arith)
 
 pub returns-in_err-len-clause-completes : goal.returns-in_err-len-clause-completes
 returns-in_err-len-clause-completes c =

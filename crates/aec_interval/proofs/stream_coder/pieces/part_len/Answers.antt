@@ -17,7 +17,7 @@ returns-then-taken-interval-clause-stops c bits =
     c.taken_samples-taken.ensures.value in
     rw c.refusal.ensures (first_refused u p bytes bits _ _ _ _ _ c.requires.progress c.storage-width.ensures.value
     c.interval_len-interval.ensures.value c.len.ensures c.part_samples-samples.ensures.there c.part_samples-samples.ensures.begun
-    c.taken_samples-taken.ensures.value (omega (arith, few, c.if-taken-samples.false)) c.if-taken-interval.true)
+    c.taken_samples-taken.ensures.value (omega arith) c.if-taken-interval.true)
 
 pub overflow_mul-result-2 : goal.overflow_mul-result-2
 overflow_mul-result-2 c =
@@ -32,8 +32,7 @@ returns-clause-few c =
     let most = max 4096 (interval_len c.args.terms.now.params) in
     let few = few_of_first c.args.terms.now c.args.progress.now c.args.bytes.now _ _ _ c.requires.progress c.storage-width.ensures.value
     c.part_samples-samples.ensures.there c.taken_samples-taken.ensures.value in
-    let within : whole ≤ most =
-    omega (arith, few, c.part_samples-samples.ensures.at_once, c.samples_at_once-at_once.ensures.few, c.interval_len-interval.ensures.value) in
+    let within : whole ≤ most = omega arith in
     rw (← c.storage-width.ensures.value) (mul-le-mul_right c.storage-width.result within)
 
 pub returns-clause-within : goal.returns-clause-within
@@ -46,4 +45,4 @@ pub returns-clause-part : goal.returns-clause-part
 returns-clause-part c =
     front_of_first c.args.terms.now c.args.progress.now c.args.bytes.now _ _ _ _ _ c.requires.progress c.storage-width.ensures.value
     c.interval_len-interval.ensures.value c.len.ensures c.part_samples-samples.ensures.there c.part_samples-samples.ensures.begun
-    c.taken_samples-taken.ensures.value (omega (arith, c.if-taken-interval.false))
+    c.taken_samples-taken.ensures.value (omega arith)
