@@ -36,14 +36,6 @@ ALLOWED = {
     ("crates/aec_edit/src/workspace.rt", "ghost written:"): "the formatter writes it on one line",
     ("crates/aec_block/proofs/reading/pairs/read_long_pairs/Answers.antt", "loop-i-preserved"): "one record, a line for each member",
     ("crates/aec_edit/proofs/workspace/Workspace/code_fresh/Answers.antt", "loop-left-preserved"): "one record, a line for each member",
-    (
-        "crates/aec_interval/proofs/interval/write_known_intervals/Answers.antt",
-        "loop-chunk-preserved",
-    ): "one record, a line for each member",
-    (
-        "crates/aec_interval/proofs/interval/write_known_intervals/Answers.antt",
-        "loop-chunk-preserved-then-place-interval",
-    ): "one record, a line for each member",
 }
 
 

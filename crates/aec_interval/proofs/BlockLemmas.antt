@@ -1,64 +1,42 @@
 -- Blocks: each has J values below 2^n. It has a reference sample, and 0 in the reference place,
 -- exactly if one is due.
-use Rattle.std.proofs.Common.{◌≡◌, ℕ, zero, suc, ◌+◌, ◌-◌, ◌*◌, ◌^◌, ◌<◌, false, Option, Some, None, ℤ, pos, List, [], ◌∷◌, ◌++◌, length, replicate, refl, sym, ap, ◌∙◌, subst, arith, ⊎_elim, ◌≤◌, add-one, mod-eq_of_lt, lt_of_mul-lt-mul_right}
+use Rattle.std.proofs.Common.{◌≡◌, ℕ, zero, suc, ◌+◌, ◌-◌, ◌*◌, ◌^◌, ◌<◌, false, Some, ℤ, pos, List, [], ◌∷◌, ◌++◌, length, replicate, subst, arith, ⊎_elim, ◌≤◌, add-one, mod-eq_of_lt, lt_of_mul-lt-mul_right}
 use Rattle.std.specs.Prelude.{⊤, ◌==◌, unwrap_or}
 use Rattle.std.specs.List.{AllByRecursion, last_or}
 use Rattle.std.specs.Int.{div_ceil}
-use Rattle.std.proofs.lemmas.List.{length-append, length-replicate, length-map}
+use Rattle.std.proofs.lemmas.List.{length-append, length-replicate}
 use Rattle.std.proofs.lemmas.Bool.{cases_lt, cond_both, and_right, ne_eqb}
 use Rattle.std.proofs.lemmas.Nat.{pow_pos}
 use Rattle.aec_params.specs.declared.settings.Settings.{Settings}
 use Rattle.aec_params.specs.Params.{IsAllowed, IsHeld, interval_len, sample_pattern}
 use Rattle.aec_params.specs.Cutting.{pieces_of, up_to_multiple}
 use Rattle.aec_params.specs.Mapping.{mapped_after, mapped_values}
-use Rattle.aec_params.specs.Blocks.{Block, filled_samples, reference_of, with_reference, blocks_of}
+use Rattle.aec_params.specs.Blocks.{Block, filled_samples, blocks_of}
 use Rattle.aec_params.specs.BlockShapes.{IsBlockAt, AreBlocksFrom}
 use Rattle.aec_params.specs.Places.{is_reference_block}
 use Rattle.aec_interval.proofs.CuttingLemmas.{IsPieceBefore, by_pieces, pieces_of-nil, pieces_of-cons, length-pieces_of, up_to_multiple-fills, div_ceil-times, div_ceil-bounds}
+pub use Rattle.aec_params.proofs.ListLaws.{all-append, all-front as all_left, all-back as all_right, all-replicate}
+pub use Rattle.aec_params.proofs.SampleLaws.{length-mapped_values}
+pub use Rattle.aec_block.proofs.ListMappingLemmas.{length-mapped_after}
+use Rattle.aec_params.proofs.SampleLaws.{length-with_reference}
 use Rattle.aec_params.proofs.ValueLaws.{mapped_value-fits}
 use Rattle.aec_params.proofs.PatternLaws.{pattern-fits}
 use Rattle.aec_params.proofs.SampleShapeLaws.{blocks_of-shape}
 use Rattle.aec_params.proofs.SettingLaws.{block_size-positive}
 
--- ---- what holds of each element
-
-pub all-append : {X : Type 0} (P : X → Type 0) (xs ys : List X) → AllByRecursion P xs → AllByRecursion P ys → AllByRecursion P (xs ++ ys)
-all-append P [] ys h k = k
-all-append P (x ∷ xs) ys h k = (h.0, all-append P xs ys h.1 k)
-
-pub all_left : {X : Type 0} (P : X → Type 0) (xs ys : List X) → AllByRecursion P (xs ++ ys) → AllByRecursion P xs
-all_left P [] ys h = tt
-all_left P (x ∷ xs) ys h = (h.0, all_left P xs ys h.1)
-
-pub all_right : {X : Type 0} (P : X → Type 0) (xs ys : List X) → AllByRecursion P (xs ++ ys) → AllByRecursion P ys
-all_right P [] ys h = h
-all_right P (x ∷ xs) ys h = all_right P xs ys h.1
-
-pub all-replicate : {X : Type 0} (P : X → Type 0) (n : ℕ) (x : X) → P x → AllByRecursion P (replicate n x)
-all-replicate P zero x h = tt
-all-replicate P (suc n) x h = (h, all-replicate P n x h)
-
-pub all-pieces_of : {X : Type 0} (P : X → Type 0) (n : ℕ) → 0 < n → (xs : List X) → AllByRecursion P xs → AllByRecursion (AllByRecursion P) (pieces_of n xs)
-all-pieces_of P n h = by_pieces (λ xs. AllByRecursion P xs → AllByRecursion (AllByRecursion P) (pieces_of n xs)) n h
-    (λ _. subst (AllByRecursion (AllByRecursion P)) (sym (pieces_of-nil n h)) tt)
-    (λ front rest piece ih all. subst (AllByRecursion (AllByRecursion P)) (sym (pieces_of-cons n front rest piece))
-    (all_left P front rest all, ih (all_right P front rest all)))
-
 -- if a list has k * n elements, each of its pieces has n
 pub whole_pieces : {X : Type 0} (n : ℕ) → 0 < n → (xs : List X) (k : ℕ) → length xs ≡ k * n → AllByRecursion (λ piece. length piece ≡ n) (pieces_of n xs)
 whole_pieces n h = by_pieces (λ xs. (k : ℕ) → length xs ≡ k * n → AllByRecursion (λ piece. length piece ≡ n) (pieces_of n xs)) n h
-    (λ k e. subst (AllByRecursion (λ piece. length piece ≡ n)) (sym (pieces_of-nil n h)) tt)
-    (λ front rest piece ih k e. subst (AllByRecursion (λ piece. length piece ≡ n)) (sym (pieces_of-cons n front rest piece))
-    (let f = full front rest piece k e in (f, ih (k - 1) (less front rest f k e))))
+    (λ k e. rw pieces_of-nil tt)
+    (λ front rest piece ih k e. rw pieces_of-cons (let f = full front rest piece k e in (f, ih (k - 1) (less front rest f k e))))
   where
     less : {X : Type 0} (front rest : List X) → length front ≡ n → (k : ℕ) → length (front ++ rest) ≡ k * n → length rest ≡ (k - 1) * n
     less front rest f zero e = omega (arith, length-append front rest)
-    less front rest f (suc k) e = let z : suc k - 1 ≡ k = omega arith in omega (arith, length-append front rest, ap (λ j. j * n) z)
+    less front rest f (suc k) e = let z : suc k - 1 ≡ k = omega arith in grind (arith, length-append)
 
     full : {X : Type 0} (front rest : List X) → IsPieceBefore n front rest → (k : ℕ) → length (front ++ rest) ≡ k * n → length front ≡ n
-    full front rest piece zero e = absurd (omega (arith, length-append front rest, piece.some))
-    full front rest piece (suc k) e =
-        ⊎_elim (λ l. piece.full l) (λ l. omega (arith, length-append front rest, piece.fits)) (cases_lt 0 (length rest))
+    full front rest piece zero e = absurd (omega (arith, length-append front rest))
+    full front rest piece (suc k) e = ⊎_elim (λ l. piece.full l) (λ l. omega (arith, length-append front rest)) (cases_lt 0 (length rest))
 
 -- ---- an interval's values
 
@@ -79,19 +57,8 @@ all-mapped_values s (x ∷ xs) a h = (
   all-mapped_after s x xs a h.0 h.1,
 )
 
-pub length-mapped_after : (s : Settings) (p : ℤ) (xs : List ℤ) → length (mapped_after s p xs) ≡ length xs
-length-mapped_after s p [] = refl
-length-mapped_after s p (x ∷ xs) = ap suc (length-mapped_after s x xs)
-
-pub length-mapped_values : (s : Settings) (xs : List ℤ) → length (mapped_values s xs) ≡ length xs
-length-mapped_values s [] = refl
-length-mapped_values s (x ∷ xs) = ap suc (length-mapped_after s x xs)
-
 pub length-filled_samples : (s : Settings) (v : List ℤ) → 0 < s.block_size → length (filled_samples s v) ≡ div_ceil (length v) s.block_size * s.block_size
-length-filled_samples s v h =
-    length-append v (replicate (up_to_multiple s.block_size (length v)) (unwrap_or (last_or None v) (pos 0)))
-    ∙ ap (λ k. length v + k) (length-replicate (up_to_multiple s.block_size (length v)) (unwrap_or (last_or None v) (pos 0)))
-    ∙ up_to_multiple-fills s.block_size (length v) h
+length-filled_samples s v h = rw (length-append, length-replicate, up_to_multiple-fills)
 
 pub all-filled_samples : (s : Settings) (x : ℤ) (v : List ℤ) → AllByRecursion (IsHeld s) (x ∷ v) → AllByRecursion (IsHeld s) (filled_samples s (x ∷ v))
 all-filled_samples s x v h =
@@ -114,19 +81,19 @@ AreDueFrom-stream : (s : Settings) (p : ℕ) (blocks : List Block) → p + lengt
 AreDueFrom-stream s p [] within h = tt
 AreDueFrom-stream s p (b ∷ blocks) within h = (
   subst (λ q. IsBlockAt s q b) (mod-eq_of_lt (omega arith)) h.0,
-  AreDueFrom-stream s (suc p) blocks (omega arith) (subst (λ q. AreBlocksFrom s q blocks) (add-one p) h.1),
+  AreDueFrom-stream s (suc p) blocks (omega arith) (rw add-one at h.1),
 )
-
-length-with_reference : (reference : Option ℕ) (groups : List (List ℕ)) → length (with_reference reference groups) ≡ length groups
-length-with_reference reference [] = refl
-length-with_reference reference (g ∷ groups) = ap suc (length-map groups (λ values. record { reference = None; values = values }))
 
 -- the number of blocks is the number of samples divided by J, rounded up
 pub length-blocks_of : (s : Settings) (v : List ℤ) → IsAllowed s → length (blocks_of s v) ≡ div_ceil (length v) s.block_size
 length-blocks_of s v a =
-    length-with_reference (reference_of s v) (pieces_of s.block_size values) ∙ length-pieces_of s.block_size values
-    ∙ ap (λ k. div_ceil k s.block_size) (length-mapped_values s (filled_samples s v) ∙ length-filled_samples s v positive)
-    ∙ div_ceil-times (div_ceil (length v) s.block_size) s.block_size positive
+    rw (
+      length-with_reference,
+      length-pieces_of,
+      length-mapped_values,
+      length-filled_samples s v positive,
+      div_ceil-times (div_ceil (length v) s.block_size) s.block_size positive,
+    )
   where
     positive : 0 < s.block_size
     positive = block_size-positive s a
@@ -145,5 +112,4 @@ blocks-few s v a h =
 
 pub AreDueFrom-blocks_of : (s : Settings) (x : ℤ) (v : List ℤ) → IsAllowed s → AllByRecursion (IsHeld s) (x ∷ v) → length (x ∷ v) ≤ interval_len s
     → AreDueFrom s 0 (blocks_of s (x ∷ v))
-AreDueFrom-blocks_of s x v a h few =
-    AreDueFrom-stream s 0 (blocks_of s (x ∷ v)) (omega (arith, blocks-few s (x ∷ v) a few)) (blocks_of-shape s x v a h few)
+AreDueFrom-blocks_of s x v a h few = AreDueFrom-stream s 0 (blocks_of s (x ∷ v)) (omega (arith, blocks-few)) (blocks_of-shape s x v a h few)

@@ -1,13 +1,12 @@
 -- Samples cut at the end of a block: the block of the front, and the blocks of the rest.
-use Rattle.std.proofs.Common.{◌≡◌, ℕ, zero, suc, ◌+◌, ◌-◌, ◌*◌, ◌%◌, ◌<◌, ◌≤◌, Option, Some, None, ℤ, pos, List, [], ◌∷◌, ◌++◌, length, map, replicate, refl, sym, ap, ap₂, ◌∙◌, arith}
-use Rattle.std.specs.Prelude.{unwrap_or, if◌then◌else◌}
+use Rattle.std.proofs.Common.{◌≡◌, ℕ, zero, suc, ◌+◌, ◌-◌, ◌*◌, ◌%◌, ◌<◌, ◌≤◌, Option, Some, None, ℤ, List, [], ◌∷◌, ◌++◌, length, map, replicate, refl, sym, ap, ◌∙◌, arith}
+use Rattle.std.specs.Prelude.{if◌then◌else◌}
 use Rattle.std.specs.List.{last_or}
-use Rattle.std.proofs.Math.Nat.{add-mod_right, mod_self, mod-eq_of_lt, mul-mod_left, one-mul, sub-zero}
+use Rattle.std.proofs.Math.Nat.{add-mod_right, mod_self, mul-mod_left, one-mul, sub-zero}
 use Rattle.std.proofs.lemmas.List.{append_assoc, append-nil, length-append}
 use Rattle.aec_params.specs.declared.settings.Settings.{Settings}
 use Rattle.aec_params.specs.Params.{sample_pattern}
-use Rattle.aec_params.specs.Cutting.{pieces_of, up_to_multiple}
-use Rattle.aec_params.specs.Mapping.{mapped_value}
+use Rattle.aec_params.specs.Cutting.{up_to_multiple}
 use Rattle.aec_params.specs.Blocks.{filled_samples, with_reference}
 use Rattle.aec_block.proofs.ListMappingLemmas.{last_or-append}
 use Rattle.aec_interval.specs.Chunks.{values_after, reference_after, block_after, blocks_after}
@@ -24,37 +23,33 @@ last_or-some x (y ∷ xs) = last_or-some y xs
 
 pub filled_samples-nil : (s : Settings) → 0 < s.block_size → filled_samples s [] ≡ []
 filled_samples-nil s h =
-    let z : s.block_size - 0 % s.block_size ≡ s.block_size = omega (arith, mod-eq_of_lt h) in
-    ap (λ n. replicate n (pos 0)) (ap (λ n. n % s.block_size) z ∙ mod_self s.block_size)
+    let z : s.block_size - 0 % s.block_size ≡ s.block_size = omega arith in
+    rw (z, mod_self)
 
 -- whole blocks get no filler
 pub filled_samples-whole : (s : Settings) (v : List ℤ) → 0 < s.block_size → (k : ℕ) → length v ≡ k * s.block_size → filled_samples s v ≡ v
-filled_samples-whole s v positive k whole = ap (λ n. v ++ replicate n (unwrap_or (last_or None v) (pos 0))) none ∙ append-nil v
+filled_samples-whole s v positive k whole = rw (none, append-nil)
   where
     even : length v % s.block_size ≡ 0
-    even = ap (λ n. n % s.block_size) whole ∙ mul-mod_left k s.block_size
+    even = rw (whole, mul-mod_left)
 
     none : up_to_multiple s.block_size (length v) ≡ 0
-    none = ap (λ n. (s.block_size - n) % s.block_size) even ∙ (ap (λ n. n % s.block_size) (sub-zero s.block_size) ∙ mod_self s.block_size)
+    none = rw (even, sub-zero, mod_self)
 
 up_to_multiple-add : (n m : ℕ) → up_to_multiple n (n + m) ≡ up_to_multiple n m
 up_to_multiple-add n m =
     let e : n + m ≡ m + n = omega arith in
-    ap (λ k. (n - k) % n) (ap (λ k. k % n) e ∙ add-mod_right m n)
+    rw (e, add-mod_right)
 
 pub filled_samples-append : (s : Settings) (front rest : List ℤ) → 0 < s.block_size → IsPieceBefore s.block_size front rest
     → filled_samples s (front ++ rest) ≡ filled_samples s front ++ filled_samples s rest
-filled_samples-append s front [] h piece =
-    ap (filled_samples s) (append-nil front) ∙ sym (append-nil (filled_samples s front)) ∙ ap (λ l. filled_samples s front ++ l) (sym (filled_samples-nil s h))
+filled_samples-append s front [] h piece = rw (append-nil, filled_samples-nil, append-nil)
 filled_samples-append s front (y ∷ rest) h piece =
     let whole : length front ≡ s.block_size = piece.full (omega arith) in
     let last : last_or None (front ++ y ∷ rest) ≡ last_or (Some y) rest = last_or-append None front (y ∷ rest) in
     let missing : up_to_multiple s.block_size (length (front ++ y ∷ rest)) ≡ up_to_multiple s.block_size (length (y ∷ rest)) =
-    ap (up_to_multiple s.block_size) (length-append front (y ∷ rest) ∙ ap (λ n. n + length (y ∷ rest)) whole)
-    ∙ up_to_multiple-add s.block_size (length (y ∷ rest)) in
-    ap₂ (λ n o. (front ++ y ∷ rest) ++ replicate n (unwrap_or o (pos 0))) missing last
-    ∙ append_assoc front (y ∷ rest) (replicate (up_to_multiple s.block_size (length (y ∷ rest))) (unwrap_or (last_or (Some y) rest) (pos 0)))
-    ∙ ap (λ l. l ++ filled_samples s (y ∷ rest)) (sym (filled_samples-whole s front h 1 (whole ∙ sym (one-mul s.block_size))))
+    rw (length-append, whole, up_to_multiple-add) in
+    rw (missing, last, append_assoc, filled_samples-whole s front h 1 (whole ∙ sym (one-mul s.block_size)))
 
 last_or-replicate : (y : ℤ) (n : ℕ) → last_or (Some y) (replicate n y) ≡ Some y
 last_or-replicate y zero = refl
@@ -65,9 +60,7 @@ last_or-filled : (s : Settings) (o : Option ℤ) (x : ℤ) (xs : List ℤ) → l
 last_or-filled s o x xs =
     let last = last_or-some x xs in
     let n = up_to_multiple s.block_size (length (x ∷ xs)) in
-    last_or-append (Some x) xs (replicate n (unwrap_or (last_or (Some x) xs) (pos 0)))
-    ∙ ap (λ l. last_or l (replicate n (unwrap_or l (pos 0)))) last.1
-    ∙ last_or-replicate last.0 n ∙ sym last.1
+    rw (last_or-append, last.1, last_or-replicate)
 
 -- one block is filled up to J samples
 pub length-filled_block : (s : Settings) (v : List ℤ) → 0 < length v → length v ≤ s.block_size → length (filled_samples s v) ≡ s.block_size
@@ -81,7 +74,7 @@ pub values_after-append : (s : Settings) (o : Option ℤ) (xs ys : List ℤ) →
 values_after-append s None [] ys = refl
 values_after-append s (Some p) [] ys = refl
 values_after-append s None (x ∷ xs) ys = ap (λ l. (if s.preprocess then 0 else sample_pattern s x) ∷ l) (values_after-append s (Some x) xs ys)
-values_after-append s (Some p) (x ∷ xs) ys = ap (λ l. mapped_value s p x ∷ l) (values_after-append s (Some x) xs ys)
+values_after-append s (Some p) (x ∷ xs) ys = rw (values_after-append s (Some x) xs)
 
 pub length-values_after : (s : Settings) (o : Option ℤ) (v : List ℤ) → length (values_after s o v) ≡ length v
 length-values_after s None v = length-mapped_values s v
@@ -94,12 +87,10 @@ no_values s None = refl
 no_values s (Some p) = refl
 
 pub blocks_after-nil : (s : Settings) (o : Option ℤ) → 0 < s.block_size → blocks_after s o [] ≡ []
-blocks_after-nil s o h =
-    ap (with_reference (reference_after s o []))
-    (ap (pieces_of s.block_size) (ap (values_after s o) (filled_samples-nil s h) ∙ no_values s o) ∙ pieces_of-nil s.block_size h)
+blocks_after-nil s o h = rw (filled_samples-nil, no_values, pieces_of-nil)
 
 reference_after-some : (s : Settings) (x : ℤ) (xs rest : List ℤ) → reference_after s (last_or (Some x) xs) rest ≡ None
-reference_after-some s x xs rest = ap (λ o. reference_after s o rest) (last_or-some x xs).1
+reference_after-some s x xs rest = rw (last_or-some x xs).1
 
 reference_after-front : (s : Settings) (o : Option ℤ) (x : ℤ) (xs ys : List ℤ) → reference_after s o (x ∷ xs) ≡ reference_after s o (x ∷ ys)
 reference_after-front s None x xs ys = refl
@@ -112,11 +103,15 @@ with_no_reference (g ∷ groups) = refl
 -- the first block, and the blocks after it
 pub blocks_after-cons : (s : Settings) (o : Option ℤ) (front rest : List ℤ) → 0 < s.block_size → IsPieceBefore s.block_size front rest
     → blocks_after s o (front ++ rest) ≡ block_after s o front ∷ blocks_after s (last_or o front) rest
-blocks_after-cons s o [] rest h piece = absurd (omega (arith, piece.some))
+blocks_after-cons s o [] rest h piece = absurd (omega arith)
 blocks_after-cons s o (x ∷ xs) rest h piece =
-    ap₂ with_reference (reference_after-front s o x (xs ++ rest) xs) (ap (pieces_of s.block_size) values ∙ pieces_of-cons s.block_size first later one)
-    ∙ ap (λ l. record { reference = reference_after s o front; values = first } ∷ l)
-    (with_no_reference (pieces_of s.block_size later) ∙ ap (λ r. with_reference r (pieces_of s.block_size later)) (sym (reference_after-some s x xs rest)))
+    rw (
+      reference_after-front s o x (xs ++ rest) xs,
+      values,
+      pieces_of-cons s.block_size first later one,
+      with_no_reference,
+      reference_after-some s x xs,
+    )
   where
     front : List ℤ
     front = x ∷ xs
@@ -128,9 +123,7 @@ blocks_after-cons s o (x ∷ xs) rest h piece =
     later = values_after s (last_or o front) (filled_samples s rest)
 
     values : values_after s o (filled_samples s (front ++ rest)) ≡ first ++ later
-    values =
-        ap (values_after s o) (filled_samples-append s front rest h piece) ∙ values_after-append s o (filled_samples s front) (filled_samples s rest)
-        ∙ ap (λ l. first ++ values_after s l (filled_samples s rest)) (last_or-filled s o x xs)
+    values = rw (filled_samples-append, values_after-append, last_or-filled)
 
     len : length first ≡ s.block_size
     len = length-values_after s o (filled_samples s front) ∙ length-filled_block s front piece.some piece.fits

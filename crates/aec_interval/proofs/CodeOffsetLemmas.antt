@@ -1,8 +1,8 @@
 -- The offsets of the code of samples are where the codes of the intervals begin.
-use Rattle.std.proofs.Common.{◌≡◌, ℕ, zero, suc, ◌+◌, ◌*◌, ◌%◌, ◌<◌, ◌≤◌, Bool, Option, Some, ℤ, List, [], ◌∷◌, ◌++◌, length, take, drop, get_or, refl, sym, ap, ap₂, ◌∙◌, subst, arith, append-nil, append_assoc}
+use Rattle.std.proofs.Common.{◌≡◌, ℕ, zero, suc, ◌+◌, ◌*◌, ◌%◌, ◌<◌, ◌≤◌, Bool, Option, Some, ℤ, List, [], ◌∷◌, ◌++◌, length, take, drop, get_or, refl, sym, ap, ◌∙◌, subst, arith, append-nil, append_assoc}
 use Rattle.std.specs.List.{AllByRecursion}
 use Rattle.std.specs.Int.{div_ceil}
-use Rattle.std.proofs.Math.Nat.{mod-lt}
+use Rattle.std.proofs.Math.Nat.{mod-lt, suc-mul}
 use Rattle.std.proofs.lemmas.Bool.{ltb-true}
 use Rattle.std.proofs.lemmas.List.{length-append, length-take-le, length-drop, take-append-drop, nil_from_length}
 use Rattle.aec_params.specs.declared.settings.Settings.{Settings}
@@ -43,12 +43,11 @@ module _ (s : Settings) (a : IsAllowed s) (count : Option ℕ) (limit : ℕ) (bi
 
   same_bit : (i b : ℕ) (sets later : List CodedDataSet) (j e f : ℕ) → LeadsTo s count limit bits i b sets j e → LeadsTo s count limit bits i b later j f → e ≡ f
   same_bit i b [] [] j e f h t = h.1 ∙ sym t.1
-  same_bit i b [] (d ∷ later) j e f h t = absurd (omega (arith, leads-ahead i b d later j f t, h.0))
-  same_bit i b (c ∷ sets) [] j e f h t = absurd (omega (arith, leads-ahead i b c sets j e h, t.0))
+  same_bit i b [] (d ∷ later) j e f h t = absurd (omega (arith, leads-ahead i b d later j f t))
+  same_bit i b (c ∷ sets) [] j e f h t = absurd (omega (arith, leads-ahead i b c sets j e h))
   same_bit i b (c ∷ sets) (d ∷ later) j e f h t =
       let same : d ≡ c = same_set s bits b (is_reference_block s (i % s.interval)) d c a t.2.shape h.2.shape t.1 h.1 in
-      same_bit (next_block s i c) (next_begin s bits i b c) sets later j e f h.4
-      (subst (λ x. LeadsTo s count limit bits (next_block s i x) (next_begin s bits i b x) later j f) same t.4)
+      same_bit (next_block s i c) (next_begin s bits i b c) sets later j e f h.4 (rw same at t.4)
 
 -- ---- the way through the codes of whole intervals
 
@@ -65,11 +64,8 @@ module _ (s : Settings) (a : IsAllowed s) (count limit : ℕ) (bits tail : List 
   through_one : (m : ℕ) → GoesThrough m → GoesThrough (suc m)
   through_one m on k xs pre len held aligned spelled enough = (
     part.sets ++ later.0,
-    subst (λ l. LeadsTo s (Some count) limit bits (k * s.interval) (length pre) (part.sets ++ later.0) ((k + suc m) * s.interval) l) bit-is
-        (subst (λ j. LeadsTo s (Some count) limit bits (k * s.interval) (length pre) (part.sets ++ later.0) j (length (next_pre ++ stream_of s behind)))
-        block-is
-        (LeadsTo-append s (Some count) limit bits (k * s.interval) (length pre) part.sets (suc k * s.interval) (length next_pre) later.0
-        ((suc k + m) * s.interval) (length (next_pre ++ stream_of s behind)) led later.1)),
+    rw (block-is, bit-is) at (LeadsTo-append s (Some count) limit bits (k * s.interval) (length pre) part.sets (suc k * s.interval) (length next_pre)
+        later.0 ((suc k + m) * s.interval) (length (next_pre ++ stream_of s behind)) led later.1),
   )
     where
       n : ℕ
@@ -87,14 +83,11 @@ module _ (s : Settings) (a : IsAllowed s) (count limit : ℕ) (bits tail : List 
       next_pre : List Bool
       next_pre = pre ++ padded_code s code
 
-      one_more : (m n : ℕ) → suc m * n ≡ m * n + n
-      one_more m n = omega arith
-
       first-len : length first ≡ interval_len s
-      first-len = length-take-le (interval_len s) xs (omega (arith, len, one_more m (interval_len s)))
+      first-len = length-take-le (interval_len s) xs (omega arith)
 
       behind-len : length behind ≡ m * interval_len s
-      behind-len = omega (arith, length-drop (interval_len s) xs, len, one_more m (interval_len s))
+      behind-len = omega (arith, length-drop (interval_len s) xs, suc-mul m (interval_len s))
 
       some : 0 < length first
       some = omega (arith, first-len, interval_len-positive s a)
@@ -106,12 +99,15 @@ module _ (s : Settings) (a : IsAllowed s) (count limit : ℕ) (bits tail : List 
       first-held = held-take s (interval_len s) xs held
 
       cut : stream_of s xs ≡ padded_code s code ++ stream_of s behind
-      cut = ap (stream_of s) (sym (take-append-drop (interval_len s) xs))
-          ∙ (stream_of-cons s first behind (record { some = some; fits = few; full = λ _. first-len })
-          ∙ ap (λ l. l ++ stream_of s behind) (interval_bits-padded s first))
+      cut =
+          cc (
+            take-append-drop (interval_len s) xs,
+            stream_of-cons s first behind (record { some = some; fits = few; full = λ _. first-len }),
+            interval_bits-padded s first,
+          )
 
       spelled-here : bits ≡ pre ++ (padded_code s code ++ (stream_of s behind ++ tail))
-      spelled-here = spelled ∙ ap (λ l. pre ++ l) (ap (λ l. l ++ tail) cut ∙ append_assoc (padded_code s code) (stream_of s behind) tail)
+      spelled-here = rw (spelled, cut, append_assoc)
 
       spelled-later : bits ≡ next_pre ++ (stream_of s behind ++ tail)
       spelled-later = spelled-here ∙ sym (append_assoc pre (padded_code s code) (stream_of s behind ++ tail))
@@ -125,35 +121,32 @@ module _ (s : Settings) (a : IsAllowed s) (count limit : ℕ) (bits tail : List 
       part : IsPart s count limit k (k * s.interval) (length pre) pre bits code first
       part = part_of s count limit k (k * s.interval) (length pre) pre code (stream_of s behind ++ tail) bits first a some few
           (ReadsBlocks-unpadded_bits s first a first-held some few) refl refl spelled-here
-          (omega (arith, full, length-blocks_of s first a, enough, blocks k m s.interval))
+          (omega (arith, full, length-blocks_of s first a, blocks k m s.interval))
 
       next : k * s.interval + end_of s 0 part.sets ≡ suc k * s.interval
-      next = omega (arith, part.reaches, part.within, full, one_more k s.interval)
+      next = omega (arith, part.reaches, part.within, full)
 
       start : begin_of s bits (k * s.interval + end_of s 0 part.sets) (length pre + length code) ≡ length next_pre
-      start = ap₂ (λ x q. begin_of s x q (length pre + length code)) spelled-here next
-          ∙ begin_of-code s code pre (stream_of s behind ++ tail) (suc k) aligned
+      start = simp (spelled-here, next, begin_of-code)
 
       led : LeadsTo s (Some count) limit bits (k * s.interval) (length pre) part.sets (suc k * s.interval) (length next_pre)
-      led = subst (λ e. LeadsTo s (Some count) limit bits (k * s.interval) (length pre) part.sets (suc k * s.interval) e) start
-          (subst (λ j. LeadsTo s (Some count) limit bits (k * s.interval) (length pre) part.sets j
-          (begin_of s bits (k * s.interval + end_of s 0 part.sets) (length pre + length code))) next part.leads)
+      led = rw (← start, ← next) part.leads
 
       block-is : (suc k + m) * s.interval ≡ (k + suc m) * s.interval
       block-is = ap (λ n. n * s.interval) (omega arith)
 
       later : Through m (suc k) behind next_pre
       later = on (suc k) behind next_pre behind-len (held-drop s (interval_len s) xs held) (IsAligned-code s code pre aligned) spelled-later
-          (omega (arith, enough, block-is))
+          (omega arith)
 
       bit-is : length (next_pre ++ stream_of s behind) ≡ length (pre ++ stream_of s xs)
-      bit-is = ap length (append_assoc pre (padded_code s code) (stream_of s behind) ∙ ap (λ l. pre ++ l) (sym cut))
+      bit-is = rw (append_assoc, cut)
 
   through : (m : ℕ) → GoesThrough m
   through zero k xs pre len held aligned spelled enough =
-      let none : xs ≡ [] = nil_from_length xs (omega (arith, len)) in
+      let none : xs ≡ [] = nil_from_length xs (omega arith) in
       let same : (k + 0) * s.interval ≡ k * s.interval = ap (λ n. n * s.interval) (omega arith) in
-      ([], (same, ap (λ xs. length (pre ++ stream_of s xs)) none ∙ ap (λ l. length (pre ++ l)) (stream_of-nil s a) ∙ ap length (append-nil pre)))
+      ([], (same, rw (none, stream_of-nil, append-nil)))
   through (suc m) k xs pre len held aligned spelled enough = through_one m (through m) k xs pre len held aligned spelled enough
 
 -- where a reading of the code comes to interval i, the code of the interval begins
@@ -178,28 +171,25 @@ passed-begin s limit samples rest i b a held passed =
     regrouped i r j = omega arith
 
     within : i * interval_len s ≤ length samples
-    within = omega (arith, before_count s (length samples) (i * s.interval) a needed, regrouped i s.interval s.block_size)
+    within = omega (arith, before_count s (length samples) (i * s.interval) a needed)
 
     no_more : 0 + i ≡ i
     no_more = omega arith
 
     spelled : stream_of s samples ++ rest ≡ [] ++ (stream_of s front ++ (stream_of s back ++ rest))
-    spelled = ap (λ l. l ++ rest) (cut_code s a samples i within) ∙ append_assoc (stream_of s front) (stream_of s back) rest
+    spelled = rw (cut_code s a samples i within, append_assoc)
 
     way : Through s a (length samples) limit (stream_of s samples ++ rest) (stream_of s back ++ rest) i 0 front []
     way = through s a (length samples) limit (stream_of s samples ++ rest) (stream_of s back ++ rest) i 0 front []
-        (length-take-le (i * interval_len s) samples within) (held-take s (i * interval_len s) samples held) (λ _. refl) spelled
-        (omega (arith, needed, ap (λ n. n * s.interval) no_more))
+        (length-take-le (i * interval_len s) samples within) (held-take s (i * interval_len s) samples held) (λ _. refl) spelled (grind arith)
 
     no_start : 0 * s.interval ≡ 0
     no_start = omega arith
 
     way_there : LeadsTo s (Some (length samples)) limit (stream_of s samples ++ rest) 0 0 way.0 (i * s.interval) (interval_begin s i samples)
     way_there =
-        subst (λ x. LeadsTo s (Some (length samples)) limit (stream_of s samples ++ rest) x 0 way.0 (i * s.interval) (interval_begin s i samples))
-        no_start
-        (subst (λ x. LeadsTo s (Some (length samples)) limit (stream_of s samples ++ rest) (0 * s.interval) 0 way.0 x (interval_begin s i samples))
-        (ap (λ n. n * s.interval) no_more) way.1)
+        rw no_start at (subst (λ x. LeadsTo s (Some (length samples)) limit (stream_of s samples ++ rest) (0 * s.interval) 0 way.0 x
+        (interval_begin s i samples)) (ap (λ n. n * s.interval) no_more) way.1)
 
 pub offsets_are_of_the_code : OffsetsAreOfTheCode
 offsets_are_of_the_code s limit samples rest offsets a held h i below = passed-begin s limit samples rest i (get_or offsets i 0) a held (h.passed i below)

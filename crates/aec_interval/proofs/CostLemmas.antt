@@ -1,11 +1,10 @@
 -- What coded data sets cost before the groups of their segment: joining their blocks to the groups
 -- never costs more bits.
-use Rattle.std.proofs.Common.{◌≡◌, ℕ, zero, suc, ◌+◌, ◌-◌, ◌<◌, ◌≤◌, true, false, Option, None, List, [], ◌∷◌, ◌++◌, length, replicate, refl, sym, ap, ◌∙◌, subst, arith, ◌⊎◌, ⊎_elim}
+use Rattle.std.proofs.Common.{◌≡◌, ℕ, zero, suc, ◌+◌, ◌-◌, ◌<◌, ◌≤◌, true, false, Option, None, List, [], ◌∷◌, ◌++◌, length, replicate, refl, arith, ◌⊎◌, ⊎_elim}
 use Rattle.std.specs.Prelude.{◌==◌}
 use Rattle.std.specs.List.{flat_map, list_all}
 use Rattle.std.proofs.lemmas.List.{length-append}
-use Rattle.std.proofs.lemmas.Bool.{cond_both, cond-true}
-use Rattle.std.proofs.lemmas.Bool.Decides.{nat_tests}
+use Rattle.std.proofs.lemmas.Bool.{cond_both}
 use Rattle.aec_params.specs.declared.settings.Settings.{Settings}
 use Rattle.aec_params.specs.Params.{IsAllowed, id_len}
 use Rattle.aec_params.specs.Blocks.{Block, is_zero_block}
@@ -40,14 +39,13 @@ with_zeros reference k [] = zero_run reference k ∷ []
 with_zeros-one : (reference : Option ℕ) (groups : List Group) → with_zero_block reference groups ≡ with_zeros reference 1 groups
 with_zeros-one reference [] = refl
 with_zeros-one reference (single_block b ∷ groups) = refl
-with_zeros-one reference (zero_run later a ∷ groups) = let e : a + 1 ≡ 1 + a = omega arith in ap (λ z. zero_run reference z ∷ groups) e
+with_zeros-one reference (zero_run later a ∷ groups) = let e : a + 1 ≡ 1 + a = omega arith in rw e
 
 with_zeros-more : (reference : Option ℕ) (k : ℕ) (groups : List Group)
     → with_zero_block reference (with_zeros None (suc k) groups) ≡ with_zeros reference (suc (suc k)) groups
-with_zeros-more reference k [] = let e : suc k + 1 ≡ suc (suc k) = omega arith in ap (λ z. zero_run reference z ∷ []) e
-with_zeros-more reference k (single_block b ∷ groups) = let e : suc k + 1 ≡ suc (suc k) =
-    omega arith in ap (λ z. zero_run reference z ∷ (single_block b ∷ groups)) e
-with_zeros-more reference k (zero_run later a ∷ groups) = let e : suc k + a + 1 ≡ suc (suc k) + a = omega arith in ap (λ z. zero_run reference z ∷ groups) e
+with_zeros-more reference k [] = let e : suc k + 1 ≡ suc (suc k) = omega arith in rw e
+with_zeros-more reference k (single_block b ∷ groups) = let e : suc k + 1 ≡ suc (suc k) = omega arith in rw e
+with_zeros-more reference k (zero_run later a ∷ groups) = let e : suc k + a + 1 ≡ suc (suc k) + a = omega arith in rw e
 
 zeros-all : (n : ℕ) → list_all (λ v. v == 0) (replicate n 0) ≡ true
 zeros-all zero = refl
@@ -55,15 +53,10 @@ zeros-all (suc n) = zeros-all n
 
 pub groups_of-zeros : (s : Settings) (reference : Option ℕ) (k : ℕ) (blocks : List Block)
     → groups_of (zero_block s reference ∷ (replicate k (zero_block s None) ++ blocks)) ≡ with_zeros reference (suc k) (groups_of blocks)
-groups_of-zeros s reference zero blocks =
-    cond-true (is_zero_block (zero_block s reference)) (with_zero_block reference (groups_of blocks))
-    (single_block (zero_block s reference) ∷ groups_of blocks) (zeros-all s.block_size)
-    ∙ with_zeros-one reference (groups_of blocks)
+groups_of-zeros s reference zero blocks = rw (zeros-all, with_zeros-one)
 groups_of-zeros s reference (suc k) blocks =
     let later = groups_of (zero_block s None ∷ (replicate k (zero_block s None) ++ blocks)) in
-    cond-true (is_zero_block (zero_block s reference)) (with_zero_block reference later) (single_block (zero_block s reference) ∷ later)
-    (zeros-all s.block_size)
-    ∙ ap (with_zero_block reference) (groups_of-zeros s None k blocks) ∙ with_zeros-more reference k (groups_of blocks)
+    cc (zeros-all s.block_size, groups_of-zeros s None k blocks, with_zeros-more reference k (groups_of blocks))
 
 abbrev pub run_set : Option ℕ → ℕ → CodedDataSet
 run_set reference m = record { reference = reference; body = zero_blocks m }
@@ -97,48 +90,48 @@ with_zeros-cost s p reference k (zero_run later a ∷ groups) h g =
 -- ---- one coded data set before the rest of its segment
 
 pub run_code-at_end : (s : Settings) (p m z : ℕ) → 0 < z → z ≤ run_len s p m → run_code z true ≤ m
-run_code-at_end s p m z h l = grind (arith, nat_tests)
+run_code-at_end s p m z h l = grind arith
 
 run_code-inside : (s : Settings) (p m : ℕ) → run_len s p m < segment_left s p → run_code (run_len s p m) false ≤ m
-run_code-inside s p m h = grind (arith, nat_tests)
+run_code-inside s p m h = grind arith
 
 single_step : (s : Settings) (p : ℕ) (b : Block) (c : CodedDataSet) (x : List Block) → length (cds_bits s (shortest_spelling s b)) ≤ length (cds_bits s c)
     → id_len s + length (reference_bits s b.reference) + 2 ≤ length (cds_bits s c) → AreGroupsFrom s p (groups_of x)
     → group_cost s (groups_of (b ∷ x)) ≤ length (cds_bits s c) + group_cost s (groups_of x)
 single_step s p b c x least longer g =
     cond_both (is_zero_block b) (with_zero_block b.reference (groups_of x)) (single_block b ∷ groups_of x)
-    (λ groups. group_cost s groups ≤ length (cds_bits s c) + group_cost s (groups_of x))
-    (λ _. subst (λ groups. group_cost s groups ≤ length (cds_bits s c) + group_cost s (groups_of x)) (sym (with_zeros-one b.reference (groups_of x)))
-    (omega (arith, with_zeros-cost s p b.reference 1 (groups_of x) (omega arith) g, length-run s b.reference (run_code 1 false))))
+    (λ groups. group_cost s groups ≤ length (cds_bits s c) + group_cost s (groups_of x)) (λ _. rw with_zeros-one (omega (
+      arith,
+      with_zeros-cost s p b.reference 1 (groups_of x) (omega arith) g,
+      length-run s b.reference (run_code 1 false),
+    )))
     (λ _. omega (arith, length-append (cds_bits s (shortest_spelling s b)) (flat_map (cds_bits s) (group_sets s (groups_of x)))))
 
 run_step : (s : Settings) (p q : ℕ) (reference : Option ℕ) (m : ℕ) (x : List Block) → 0 < run_len s p m → (x ≡ []) ⊎ (run_len s p m < segment_left s p)
     → AreGroupsFrom s q (groups_of x)
     → group_cost s (groups_of (blocks_in s p reference (zero_blocks m) ++ x)) ≤ length (cds_bits s (run_set reference m)) + group_cost s (groups_of x)
-run_step s p q reference m x some ends g =
-    subst (λ groups. group_cost s groups ≤ length (cds_bits s (run_set reference m)) + group_cost s (groups_of x)) (sym together)
-    (⊎_elim last inside ends)
+run_step s p q reference m x some ends g = rw together (⊎_elim last inside ends)
   where
     k : ℕ
     k = run_len s p m
 
     together : groups_of (blocks_in s p reference (zero_blocks m) ++ x) ≡ with_zeros reference k (groups_of x)
-    together = let e : suc (k - 1) ≡ k = omega arith in groups_of-zeros s reference (k - 1) x ∙ ap (λ z. with_zeros reference z (groups_of x)) e
+    together = let e : suc (k - 1) ≡ k = omega arith in rw (groups_of-zeros, e)
 
     inside : k < segment_left s p → group_cost s (with_zeros reference k (groups_of x)) ≤ length (cds_bits s (run_set reference m)) + group_cost s
         (groups_of x)
-    inside l = omega (
-      arith,
-      with_zeros-cost s q reference k (groups_of x) some g,
-      length-run s reference m,
-      length-run s reference (run_code k false),
-      run_code-inside s p m l,
-    )
+    inside l =
+        omega (
+          arith,
+          with_zeros-cost s q reference k (groups_of x) some g,
+          length-run s reference m,
+          length-run s reference (run_code k false),
+          run_code-inside s p m l,
+        )
 
     last : x ≡ [] → group_cost s (with_zeros reference k (groups_of x)) ≤ length (cds_bits s (run_set reference m)) + group_cost s (groups_of x)
-    last e = subst (λ y. group_cost s (with_zeros reference k (groups_of y)) ≤ length (cds_bits s (run_set reference m)) + group_cost s (groups_of y))
-        (sym e)
-        (omega (
+    last e =
+        rw e (omega (
           arith,
           length-append (cds_bits s (run_set reference (run_code k true))) [],
           length-run s reference (run_code k true),
@@ -157,7 +150,7 @@ body_step s p reference (uncompressed_values values) x a h l ends due =
     (shortest-uncompressed_values s reference values) (plain-longer s (is_reference_block s p) reference values a l.shape.body.0)
     (AreGroupsFrom-groups_of s (suc p) x due.1)
 body_step s p reference (value_pairs members) x a h l ends due =
-    let two : 2 ≤ length members = omega (arith, block_size-least s a, l.shape.body) in
+    let two : 2 ≤ length members = omega (arith, block_size-least s a) in
     single_step s (suc p) (record { reference = reference; values = placed_members reference members })
     (record { reference = reference; body = value_pairs members }) x
     (shortest-value_pairs s reference members two) (pairs-longer s reference members two) (AreGroupsFrom-groups_of s (suc p) x due.1)

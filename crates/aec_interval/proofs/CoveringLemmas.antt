@@ -1,11 +1,11 @@
 -- An interval's coded data sets cover its blocks: each group becomes one set, and only the very
 -- last set may go past the blocks.
-use Rattle.std.proofs.Common.{◌≡◌, ℕ, ◌+◌, ◌-◌, ◌<◌, ◌≤◌, Bool, true, false, Option, Some, None, unwrap_or, List, [], ◌∷◌, ◌++◌, length, take, replicate, refl, sym, ap, ◌∙◌, subst, arith, inl, inr, ◌⊎◌, ⊎_elim}
-use Rattle.std.specs.Prelude.{nat_le, nat_lt, ◌==◌, if◌then◌else◌}
+use Rattle.std.proofs.Common.{◌≡◌, ℕ, ◌+◌, ◌-◌, ◌<◌, ◌≤◌, Bool, true, false, Option, None, List, [], ◌∷◌, ◌++◌, length, take, refl, sym, ◌∙◌, subst, arith, inl, inr, ◌⊎◌, ⊎_elim}
+use Rattle.std.specs.Prelude.{nat_le, if◌then◌else◌}
 use Rattle.std.specs.List.{flat_map}
 use Rattle.std.proofs.lemmas.List.{length-append, length-replicate, append_assoc, append-nil, take-replicate}
 use Rattle.std.proofs.Math.Seq.{take-append-add}
-use Rattle.std.proofs.lemmas.Bool.{cond_both, le-leb, leb-true, leb-false, cond-true, cond-false, lt-ltb, le-ltb, ne_eqb}
+use Rattle.std.proofs.lemmas.Bool.{cond_both, le-leb, leb-true, leb-false, lt-ltb, le-ltb, ne_eqb}
 use Rattle.aec_params.specs.declared.settings.Settings.{Settings}
 use Rattle.aec_params.specs.Blocks.{Block}
 use Rattle.aec_params.specs.CodedDataSets.{zero_blocks, CodedDataSet, HasReference}
@@ -32,12 +32,9 @@ pub IsCovering-cons : (s : Settings) (n p : ℕ) (c : CodedDataSet) (sets : List
     → cds_blocks s p c ≡ front → length front ≡ block_count s p c → 0 < block_count s p c
     → IsCovering s n (p + block_count s p c) sets behind → IsCovering s n p (c ∷ sets) (front ++ behind)
 IsCovering-cons s n p c sets front behind l e len some h = record {
-  reach = omega (arith, length-append front behind, h.reach);
-  covers = (omega (arith, h.reach), l, h.covers);
-  stand_for = ap (λ k. take k (cds_blocks s p c ++ covered_blocks s (p + block_count s p c) sets)) (length-append front behind)
-      ∙ ap (λ blocks. take (length front + length behind) (blocks ++ covered_blocks s (p + block_count s p c) sets)) e
-      ∙ take-append-add front (covered_blocks s (p + block_count s p c) sets) (length behind)
-      ∙ ap (◌++◌ front) h.stand_for;
+  reach = omega (arith, length-append front behind);
+  covers = (omega arith, l, h.covers);
+  stand_for = rw (length-append, e, take-append-add, h.stand_for);
 }
 
 -- the last coded data set, which may go past the blocks
@@ -46,7 +43,7 @@ pub IsCovering-last : (s : Settings) (n p : ℕ) (c : CodedDataSet) (blocks : Li
 IsCovering-last s n p c blocks l e some most t = record {
   reach = e;
   covers = (omega arith, l, le-leb n (p + block_count s p c) (omega arith));
-  stand_for = ap (take (length blocks)) (append-nil (cds_blocks s p c)) ∙ t;
+  stand_for = rw append-nil t;
 }
 
 -- ---- one group
@@ -68,15 +65,10 @@ SpellsRun s p z is_last m = (run_len s p m ≡ z) ⊎ ((is_last ≡ true) × (ru
 
 SpellsRun-long : (s : Settings) (p z : ℕ) (is_last : Bool) → 4 < z → SpellsRun s p z is_last (if is_last then 4 else z)
 SpellsRun-long s p z true l = inr (refl, refl)
-SpellsRun-long s p z false l =
-    inl (ap (λ told. unwrap_or told (segment_left s p))
-    (cond-false (nat_lt z 4) (Some (z + 1)) (if z == 4 then None else Some z) (le-ltb z 4 (omega arith))
-    ∙ cond-false (z == 4) None (Some z) (ne_eqb z 4 (λ e. omega arith))))
+SpellsRun-long s p z false l = inl (rw (le-ltb z 4 (omega arith), ne_eqb z 4 (λ e. omega arith)))
 
 SpellsRun-short : (s : Settings) (p z : ℕ) (is_last : Bool) → 0 < z → z ≤ 4 → SpellsRun s p z is_last (z - 1)
-SpellsRun-short s p z is_last h l =
-    inl (ap (λ told. unwrap_or told (segment_left s p))
-    (cond-true (nat_lt (z - 1) 4) (Some (z - 1 + 1)) (if z - 1 == 4 then None else Some (z - 1)) (lt-ltb (z - 1) 4 (omega arith))) ∙ omega arith)
+SpellsRun-short s p z is_last h l = inl (rw (lt-ltb (z - 1) 4 (omega arith)) (omega arith))
 
 SpellsRun-run_code : (s : Settings) (p z : ℕ) (is_last : Bool) → 0 < z → SpellsRun s p z is_last (run_code z is_last)
 SpellsRun-run_code s p z is_last h =
@@ -89,7 +81,7 @@ run_written : (s : Settings) (p z m : ℕ) (reference : Option ℕ) → HasRefer
     → IsWrittenFor s p (zero_run reference z) (record { reference = reference; body = zero_blocks m })
 run_written s p z m reference h k e = record {
   lawful = run_lawful s p reference m h (omega arith);
-  blocks = ap (λ n. zero_block s reference ∷ replicate (n - 1) (zero_block s None)) e;
+  blocks = rw e;
   count = e;
 }
 
@@ -101,8 +93,7 @@ block_written s p b h k =
       lawful = record {
         shape = w.shape;
         small = w.small;
-        within =
-            le-leb (block_count s p (shortest_spelling s b)) (segment_left s p) (omega (arith, w.single p));
+        within = le-leb (block_count s p (shortest_spelling s b)) (segment_left s p) (omega arith);
       };
       blocks = w.blocks p;
       count = w.single p;
@@ -126,7 +117,7 @@ IsCovering-written : (s : Settings) (n p : ℕ) (g : Group) (c : CodedDataSet) (
     → IsWrittenFor s p g c → IsCovering s n (p + group_len g) sets behind → IsCovering s n p (c ∷ sets) (group_blocks s g ++ behind)
 IsCovering-written s n p g c sets behind h w k =
     IsCovering-cons s n p c sets (group_blocks s g) behind w.lawful w.blocks (length-group_blocks s p g h ∙ sym w.count)
-    (subst (λ z. 0 < z) (sym w.count) (group_len-positive s p g h)) (subst (λ z. IsCovering s n (p + z) sets behind) (sym w.count) k)
+    (rw w.count (group_len-positive s p g h)) (rw w.count k)
 
 -- the run at the end of the blocks; its number stands for all that the segment has left
 IsCovering-overhang : (s : Settings) (n p z m : ℕ) (reference : Option ℕ) → (0 < z) × HasReference s (is_reference_block s p) reference
@@ -135,10 +126,8 @@ IsCovering-overhang : (s : Settings) (n p z m : ℕ) (reference : Option ℕ) �
 IsCovering-overhang s n p z m reference h e most reach =
     let len = length-group_blocks s p (zero_run reference z) h in
     IsCovering-last s n p (record { reference = reference; body = zero_blocks m }) (group_blocks s (zero_run reference z))
-    (run_lawful s p reference m h.1 (omega arith)) (omega arith) (omega (arith, h.0)) (omega (arith, h.0))
-    (ap (λ blocks. zero_block s reference ∷ blocks)
-    (ap (λ k. take k (replicate (run_len s p m - 1) (zero_block s None))) (length-replicate (z - 1) (zero_block s None))
-    ∙ take-replicate (z - 1) (run_len s p m - 1) (zero_block s None) (omega arith)))
+    (run_lawful s p reference m h.1 (omega arith)) (omega arith) (omega arith) (omega arith)
+    (rw (length-replicate (z - 1), take-replicate (z - 1) (run_len s p m - 1) (zero_block s None) (omega arith)))
 
 -- such a run, if no group, coded data set or block comes after it
 IsCovering-last_run : (s : Settings) (n p z : ℕ) (reference : Option ℕ) (groups : List Group) (sets : List CodedDataSet) (behind : List Block)
@@ -148,9 +137,7 @@ IsCovering-last_run : (s : Settings) (n p z : ℕ) (reference : Option ℕ) (gro
     → IsCovering s n p (group_set s (zero_run reference z) (is_empty groups) ∷ (group_sets s groups ++ sets))
     (group_blocks s (zero_run reference z) ++ (flat_map (group_blocks s) groups ++ behind))
 IsCovering-last_run s n p z reference [] [] [] h l f g e most reach =
-    subst (IsCovering s n p (record { reference = reference; body = zero_blocks (run_code z true) } ∷ []))
-    (sym (append-nil (group_blocks s (zero_run reference z))))
-    (IsCovering-overhang s n p z (run_code z true) reference h e most (omega arith))
+    rw (append-nil (group_blocks s (zero_run reference z))) (IsCovering-overhang s n p z (run_code z true) reference h e most (omega arith))
 IsCovering-last_run s n p z reference [] [] (b ∷ behind) h l f g e most reach = absurd (cc)
 IsCovering-last_run s n p z reference [] (c ∷ sets) behind h l f g e most reach = absurd (cc)
 IsCovering-last_run s n p z reference (b ∷ groups) sets behind h l f g e most reach = absurd (cc)
@@ -182,7 +169,7 @@ IsCovering-run s n p left z reference groups sets behind h k most ends reach c =
         (flat_map (group_blocks s) groups ++ behind) h (run_written s p z m reference h.1 (omega arith) e) c
 
     last : is_empty groups ≡ true → run_len s p m ≡ segment_left s p → Goal
-    last l e = ⊎_elim (λ f. exact (omega (arith, empty_groups s groups l)))
+    last l e = ⊎_elim (λ f. exact (omega (arith, empty_groups)))
         (λ w. IsCovering-last_run s n p z reference groups sets behind h l w.0 w.1 e (omega arith) reach) ends
 
 -- what a segment has left after its first group
@@ -205,15 +192,14 @@ left_after s n p left g groups sets behind h k most ends c =
     let z = group_len g in
     let t = length (flat_map (group_blocks s) groups) in
     let some = group_len-positive s p g h.0 in
-    let total : length (flat_map (group_blocks s) (g ∷ groups)) ≡ z + t =
-    length-append (group_blocks s g) (flat_map (group_blocks s) groups) ∙ ap (λ x. x + t) (length-group_blocks s p g h.0) in
+    let total : length (flat_map (group_blocks s) (g ∷ groups)) ≡ z + t = rw (length-append, length-group_blocks s p g h.0) in
     let here : segment_left s p ≡ left = k (omega arith) in
     record {
       here = here;
       fits = omega arith;
       ends = ⊎_elim (λ f. inl (omega arith)) (λ f. inr f) ends;
-      reach = omega (arith, c.reach);
-      later = λ f. segment_left-later s p z (omega arith) ∙ ap (λ x. x - z) here;
+      reach = omega arith;
+      later = λ f. rw (segment_left-later s p z (omega arith), here);
       later_fits = omega arith;
       later_ends = ⊎_elim (λ f. inl (omega arith)) (λ f. inr f) ends;
       later_covered = subst (λ q. IsCovering s n q sets behind) (omega arith) c;
@@ -227,14 +213,11 @@ pub IsCovering-groups : (s : Settings) (n p left : ℕ) (groups : List Group) (s
 IsCovering-groups s n p left [] sets behind h k most ends c = subst (λ q. IsCovering s n q sets behind) (omega arith) c
 IsCovering-groups s n p left (zero_run reference z ∷ groups) sets behind h k most ends c =
     let d = left_after s n p left (zero_run reference z) groups sets behind h k most ends c in
-    subst (IsCovering s n p (group_sets s (zero_run reference z ∷ groups) ++ sets))
-    (sym (append_assoc (group_blocks s (zero_run reference z)) (flat_map (group_blocks s) groups) behind))
-    (IsCovering-run s n p left z reference groups sets behind h.0 d.here d.fits d.ends d.reach
+    rw append_assoc (IsCovering-run s n p left z reference groups sets behind h.0 d.here d.fits d.ends d.reach
     (IsCovering-groups s n (p + z) (left - z) groups sets behind h.1 d.later d.later_fits d.later_ends d.later_covered))
 IsCovering-groups s n p left (single_block b ∷ groups) sets behind h k most ends c =
     let d = left_after s n p left (single_block b) groups sets behind h k most ends c in
-    subst (IsCovering s n p (group_sets s (single_block b ∷ groups) ++ sets))
-    (sym (append_assoc (group_blocks s (single_block b)) (flat_map (group_blocks s) groups) behind))
+    rw append_assoc
     (IsCovering-written s n p (single_block b) (shortest_spelling s b) (group_sets s groups ++ sets) (flat_map (group_blocks s) groups ++ behind) h.0
-    (block_written s p b h.0 (omega (arith, d.here, d.fits)))
-    (IsCovering-groups s n (p + 1) (left - 1) groups sets behind h.1 d.later d.later_fits d.later_ends d.later_covered))
+    (block_written s p b h.0 (omega arith)) (IsCovering-groups s n (p + 1) (left - 1) groups sets behind h.1 d.later d.later_fits
+    d.later_ends d.later_covered))

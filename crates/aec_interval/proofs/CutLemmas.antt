@@ -1,47 +1,33 @@
 -- However its input is cut, a coder appends the stream of all samples.
-use Rattle.std.proofs.Common.{◌≡◌, ℕ, ℤ, ◌/◌, ◌<◌, Bool, None, List, [], ◌∷◌, ◌++◌, length, sym, ap, ◌∙◌, subst, arith, append_assoc, append-nil}
+use Rattle.std.proofs.Common.{ℕ, ◌/◌, Bool, List, [], ◌∷◌, ◌++◌, length, arith, append_assoc, append-nil}
 use Rattle.aec_params.specs.declared.settings.Settings.{Settings}
-use Rattle.aec_params.specs.Params.{IsAllowed, interval_len, storage_len}
+use Rattle.aec_params.specs.Params.{IsAllowed, interval_len}
 use Rattle.aec_params.specs.Stored.{byte_groups}
-use Rattle.aec_params.specs.Streams.{stream_of}
-use Rattle.aec_params.proofs.StoredLemmas.{storage-least, byte_groups-short}
 use Rattle.aec_params.proofs.SampleLaws.{interval_len-positive}
-use Rattle.aec_interval.specs.Taking.{TakenSamples, none_taken, taken_groups}
-use Rattle.aec_interval.specs.Feeding.{Coder, fresh_coder, whole_front, left_behind, taken_of, fed, Feeds, StopsFeeding, FeedsAll}
+use Rattle.aec_interval.specs.Feeding.{Coder, fresh_coder, whole_front, left_behind, taken_of, Feeds, FeedsAll}
 use Rattle.aec_interval.specs.CutLaws.{all_bytes, IsStreamSoFar, AllCutsMakeNoDifference}
-use Rattle.aec_interval.proofs.PieceLemmas.{whole_and_left, length-whole_front, whole_front-few, left_behind-few_all, stream_of-none, stream_of-append}
+use Rattle.aec_interval.proofs.PieceLemmas.{whole_and_left, length-whole_front, stream_of-append}
 use Rattle.aec_interval.proofs.TakingLemmas.{taken_groups-all, taken_within, judged_all}
-use Rattle.aec_interval.proofs.FeedingLemmas.{same_coding, feeds_both, stops_later, stops_before}
+use Rattle.aec_interval.proofs.PartLemmas.{nothing_fed}
+use Rattle.aec_interval.proofs.FeedingLemmas.{feeds_both, stops_later, stops_before}
 
 -- an empty piece changes nothing
 nothing_begun : (s : Settings) (limit : ℕ) (bits : List Bool) → IsAllowed s → Feeds (fresh_coder s limit) [] bits bits (fresh_coder s limit)
-nothing_begun s limit bits a =
-    let c : Coder = fresh_coder s limit in
-    let n = interval_len s in
-    let short : length {A = ℕ} [] < storage_len s = omega (arith, storage-least s a) in
-    let some : length {A = ℤ} [] < n = interval_len-positive s a in
-    let none : taken_of c [] ≡ none_taken None = ap (taken_groups s limit 0) (byte_groups-short s [] short) in
-    record {
-      taken = ap (λ (t : TakenSamples). t.refusal) none;
-      bits = sym (append-nil bits)
-          ∙ ap (λ l. bits ++ l)
-          (sym (ap (λ (t : TakenSamples). stream_of s (whole_front n t.samples)) none ∙ ap (stream_of s) (whole_front-few n [] some) ∙ stream_of-none s a));
-      coder = same_coding s limit [] (fed c []).held [] (fed c []).rest 0 (fed c []).count None (fed c []).refusal
-          (sym (ap (λ (t : TakenSamples). left_behind n t.samples) none ∙ left_behind-few_all n [] some)) (sym (left_behind-few_all (storage_len s) [] short))
-          (omega (arith, ap (λ (t : TakenSamples). length t.samples) none)) (sym (ap (λ (t : TakenSamples). t.refusal) none));
-    }
+nothing_begun s limit bits a = nothing_fed (record { params = s; limit = limit }) (record { held = []; count = 0 }) bits (record {
+  held = record { allowed = a; samples = tt; few = interval_len-positive s a };
+  within = omega arith;
+})
 
 -- pieces that are taken after other bytes
 pieces_taken : (s : Settings) (limit : ℕ) (pieces : List (List ℕ)) (bytes : List ℕ) (b0 b1 b2 : List Bool) (d e : Coder) → IsAllowed s
     → Feeds (fresh_coder s limit) bytes b0 b1 d → FeedsAll d pieces b1 b2 e → Feeds (fresh_coder s limit) (bytes ++ all_bytes pieces) b0 b2 e
 pieces_taken s limit [] bytes b0 b1 b2 d e a first (bits, same) =
     let c = fresh_coder s limit in
-    subst (λ l. Feeds c l b0 b2 e) (sym (append-nil bytes))
-    (subst (λ x. Feeds c bytes b0 b2 x) (sym same) (subst (λ x. Feeds c bytes b0 x d) (sym bits) first))
+    rw (append-nil, same, bits) first
 pieces_taken s limit (piece ∷ pieces) bytes b0 b1 b2 d e a first (between, (next, (feeds, later))) =
     let c = fresh_coder s limit in
-    subst (λ l. Feeds c l b0 b2 e) (append_assoc bytes piece (all_bytes pieces))
-    (pieces_taken s limit pieces (bytes ++ piece) b0 between b2 next e a (feeds_both c d next bytes piece b0 b1 between a first feeds) later)
+    rw append_assoc at (pieces_taken s limit pieces (bytes ++ piece) b0 between b2 next e a
+    (feeds_both c d next bytes piece b0 b1 between a first feeds) later)
 
 all_taken : (s : Settings) (limit : ℕ) (pieces : List (List ℕ)) (before after : List Bool) (d : Coder) → IsAllowed s
     → FeedsAll (fresh_coder s limit) pieces before after d → Feeds (fresh_coder s limit) (all_bytes pieces) before after d
@@ -59,11 +45,15 @@ stream_so_far s limit bytes before after d a feeds =
     record {
       samples = samples;
       taken = taken_groups-all s limit 0 (byte_groups s bytes) feeds.taken;
-      bits = ap (λ (x : Coder). after ++ stream_of s x.held) feeds.coder ∙ ap (λ l. l ++ stream_of s left) feeds.bits
-          ∙ append_assoc before (stream_of s front) (stream_of s left)
-          ∙ ap (λ l. before ++ l) (sym (stream_of-append s (length samples / n) front left a (length-whole_front n samples (interval_len-positive s a)))
-          ∙ ap (stream_of s) (whole_and_left n samples));
-      counted = ap (λ (x : Coder). x.count) feeds.coder ∙ omega arith;
+      bits =
+          rw (
+            feeds.coder,
+            feeds.bits,
+            append_assoc,
+            ← (stream_of-append s (length samples / n) front left a (length-whole_front n samples (interval_len-positive s a))),
+            whole_and_left,
+          );
+      counted = rw feeds.coder (omega arith);
       within = taken_within s limit (byte_groups s bytes) feeds.taken;
     }
 
@@ -74,8 +64,7 @@ cuts_make_no_difference s limit a = record {
   refused = λ pieces piece rest before between after d fault feeds stops.
       let c = fresh_coder s limit in
       let bytes = all_bytes pieces in
-      subst (λ l. StopsFeeding c l before after fault) (append_assoc bytes piece rest)
-      (stops_before c (bytes ++ piece) rest before after fault a
+      rw append_assoc at (stops_before c (bytes ++ piece) rest before after fault a
       (stops_later c d bytes piece before between after fault a (all_taken s limit pieces before between d a feeds) stops));
   judged = λ bytes. judged_all s limit (byte_groups s bytes);
   begun = λ bits. nothing_begun s limit bits a;

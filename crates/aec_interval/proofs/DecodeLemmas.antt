@@ -1,5 +1,5 @@
 -- What a coded data set that was read stands for: how many blocks, which ones, and which are kept.
-use Rattle.std.proofs.Common.{◌≡◌, ℕ, suc, ◌+◌, ◌-◌, ◌%◌, ◌<◌, ◌≤◌, min, Bool, true, unwrap_or, Option, Some, None, ℤ, List, [], ◌∷◌, length, replicate, refl, sym, ap, ◌∙◌, arith, ⊎_elim}
+use Rattle.std.proofs.Common.{◌≡◌, ℕ, ◌+◌, ◌-◌, ◌%◌, ◌<◌, ◌≤◌, min, Bool, true, unwrap_or, Option, Some, None, ℤ, List, [], ◌∷◌, length, replicate, refl, sym, ◌∙◌, arith, ⊎_elim}
 use Rattle.std.proofs.lemmas.Bool.{cases_lt, ltb-true}
 use Rattle.std.proofs.lemmas.List.{take_all, length-take, length-replicate}
 use Rattle.std.specs.Int.{div_ceil}
@@ -61,7 +61,7 @@ min_right a b h = omega arith
 run_within : (s : Settings) (reference : Option ℕ) (z : ℕ) → 1 ≤ z → length (zero_block s reference ∷ replicate (z - 1) (zero_block s None)) ≤ z
 run_within s reference z some =
     let later : length (replicate (z - 1) (zero_block s None)) ≡ z - 1 = length-replicate (z - 1) (zero_block s None) in
-    omega (arith, ap suc later)
+    grind arith
 
 kept_run : (s : Settings) (count : Option ℕ) (bits : List Bool) (i b : ℕ) (reference : Option ℕ) (z : ℕ) → 1 ≤ z → is_wanted s count bits i b ≡ true
     → run_blocks s reference (kept_count s count i z) ≡ kept_blocks s count i (zero_block s reference ∷ replicate (z - 1) (zero_block s None))
@@ -78,16 +78,19 @@ kept_run s (Some count) bits i b reference z some wanted = ⊎_elim fewer all (c
         ≡ kept_blocks s (Some count) i (zero_block s reference ∷ replicate (z - 1) (zero_block s None))
     fewer h =
         let k : kept_count s (Some count) i z ≡ div_ceil count s.block_size - i = min_right z (div_ceil count s.block_size - i) (omega arith) in
-        ap (run_blocks s reference) k ∙ sym (run_front s reference z (div_ceil count s.block_size - i) (omega (arith, below)) (omega arith))
+        rw (k, run_front s reference z (div_ceil count s.block_size - i) (omega (arith, below)) (omega arith))
 
     all : z ≤ div_ceil count s.block_size - i
         → run_blocks s reference (kept_count s (Some count) i z)
         ≡ kept_blocks s (Some count) i (zero_block s reference ∷ replicate (z - 1) (zero_block s None))
     all h =
-        ap (run_blocks s reference) (min_left z (div_ceil count s.block_size - i) h) ∙ (sym (run_front s reference z z some (omega arith))
-        ∙ (take_all z (zero_block s reference ∷ replicate (z - 1) (zero_block s None)) (run_within s reference z some)
-        ∙ sym (take_all (div_ceil count s.block_size - i) (zero_block s reference ∷ replicate (z - 1) (zero_block s None))
-        (omega (arith, run_within s reference z some, h)))))
+        rw (
+          min_left,
+          ← (run_front s reference z z some (omega arith)),
+          take_all z (zero_block s reference ∷ replicate (z - 1) (zero_block s None)) (run_within s reference z some),
+          take_all (div_ceil count s.block_size - i)
+              (zero_block s reference ∷ replicate (z - 1) (zero_block s None)) (omega (arith, run_within s reference z some, h)),
+        )
 
 pub front-answer_of : (s : Settings) (count : Option ℕ) (bits : List Bool) (i b : ℕ) (reference : Option ℕ) (body : Body)
     → 1 ≤ body_blocks s (i % s.interval) body

@@ -1,11 +1,10 @@
 -- What is read from a position of some bits on is the reading of the bits that are left there. With
 -- padding the position is a whole byte.
-use Rattle.std.proofs.Common.{◌≡◌, ℕ, ◌+◌, ◌%◌, ◌≤◌, min, Bool, true, false, Option, Some, None, Result, Ok, Err, IfOk, IfErr, ℤ, List, [], ◌∷◌, ◌++◌, length, drop, refl, sym, ap, ◌∙◌, subst, arith, ⊎_elim}
+use Rattle.std.proofs.Common.{◌≡◌, ℕ, ◌+◌, ◌%◌, ◌≤◌, min, Bool, true, false, Option, Some, None, Result, Ok, Err, IfOk, IfErr, ℤ, List, [], ◌∷◌, ◌++◌, length, drop, refl, sym, ◌∙◌, arith, ⊎_elim}
 use Rattle.std.specs.Prelude.{◌==◌, ◌&&◌, nat_lt, if◌then◌else◌}
-use Rattle.std.specs.List.{list_any}
 use Rattle.std.specs.Int.{next_multiple_of}
 use Rattle.std.proofs.lemmas.List.{length-drop, drop-drop}
-use Rattle.std.proofs.lemmas.Bool.{cases_Bool, cond-true, cond-false, and_parts}
+use Rattle.std.proofs.lemmas.Bool.{cases_Bool, and_parts}
 use Rattle.aec_params.specs.declared.settings.Settings.{Settings}
 use Rattle.aec_params.specs.declared.fault.Fault.{Fault}
 use Rattle.aec_params.specs.declared.fault.Fault.TheVariants.{Memory, Truncated, ValueTooLarge, RunTooLong, TooManySamples}
@@ -37,28 +36,26 @@ module _ (s : Settings) (count : Option ℕ) (limit : ℕ) (bits : List Bool) (s
       padded : s.pad && (i % s.interval == 0) ≡ true → begin_of s bits i (start + b) ≡ start + begin_of s (drop start bits) i b
       padded t =
           let aligned = whole (and_parts s.pad (i % s.interval == 0) t).0 in
-          let same : here ≡ start + there = omega (arith, aligned, within, length-drop start bits) in
-          cond-true (s.pad && (i % s.interval == 0)) here (start + b) t ∙ same
-          ∙ ap (λ n. start + n) (sym (cond-true (s.pad && (i % s.interval == 0)) there b t))
+          let same : here ≡ start + there = omega (arith, length-drop start bits) in
+          rw (t, same)
 
       plain : s.pad && (i % s.interval == 0) ≡ false → begin_of s bits i (start + b) ≡ start + begin_of s (drop start bits) i b
-      plain t = cond-false (s.pad && (i % s.interval == 0)) here (start + b) t
-          ∙ ap (λ n. start + n) (sym (cond-false (s.pad && (i % s.interval == 0)) there b t))
+      plain t = rw t
 
   wanted-dropped : (count : Option ℕ) (i b : ℕ) → is_wanted s count bits i (start + b) ≡ is_wanted s count (drop start bits) i b
-  wanted-dropped None i b = ap (list_any (λ bit. bit)) (sym (drop-drop b start bits))
+  wanted-dropped None i b = rw drop-drop
   wanted-dropped (Some n) i b = refl
 
   further : (b : ℕ) (c : CodedDataSet) → drop (start + b + length (cds_bits s c)) bits ≡ drop (b + length (cds_bits s c)) (drop start bits)
   further b c =
       let e : start + b + length (cds_bits s c) ≡ start + (b + length (cds_bits s c)) = omega arith in
-      ap (λ n. drop n bits) e ∙ sym (drop-drop (b + length (cds_bits s c)) start bits)
+      rw (e, drop-drop)
 
   stands-dropped : (b : ℕ) (c : CodedDataSet) → StandsAt s bits (start + b) c → StandsAt s (drop start bits) b c
-  stands-dropped b c h = drop-drop b start bits ∙ h ∙ ap (λ l. cds_bits s c ++ l) (further b c)
+  stands-dropped b c h = rw (drop-drop, h, further)
 
   stands-whole : (b : ℕ) (c : CodedDataSet) → StandsAt s (drop start bits) b c → StandsAt s bits (start + b) c
-  stands-whole b c h = sym (drop-drop b start bits) ∙ h ∙ ap (λ l. cds_bits s c ++ l) (sym (further b c))
+  stands-whole b c h = rw (← drop-drop, h, further)
 
   set-dropped : (t : Bool) (b : ℕ) (c : CodedDataSet) → IsSetAt s t bits (start + b) c → IsSetAt s t (drop start bits) b c
   set-dropped t b c at = record { shape = at.shape; stands = stands-dropped b c at.stands }
@@ -69,7 +66,7 @@ module _ (s : Settings) (count : Option ℕ) (limit : ℕ) (bits : List Bool) (s
   next-dropped : (i b : ℕ) (c : CodedDataSet) → next_begin s bits i (start + b) c ≡ start + next_begin s (drop start bits) i b c
   next-dropped i b c =
       let e : start + b + length (cds_bits s c) ≡ start + (b + length (cds_bits s c)) = omega arith in
-      ap (begin_of s bits (next_block s i c)) e ∙ begin-dropped (next_block s i c) (b + length (cds_bits s c))
+      rw (e, begin-dropped)
 
   -- ---- the way
 
@@ -78,15 +75,14 @@ module _ (s : Settings) (count : Option ℕ) (limit : ℕ) (bits : List Bool) (s
   leads-dropped i b [] j e leads = (b, leads.1, (leads.0, refl))
   leads-dropped i b (c ∷ sets) j e leads =
       let next = next_block s i c in
-      let later = leads-dropped next (next_begin s (drop start bits) i b c) sets j e
-      (subst (λ x. LeadsTo s count limit bits next x sets j e) (next-dropped i b c) leads.4) in
+      let later = leads-dropped next (next_begin s (drop start bits) i b c) sets j e (rw next-dropped at leads.4) in
       (later.0, later.1, (sym (wanted-dropped count i b) ∙ leads.0, stands-dropped b c leads.1, leads.2, leads.3, later.2))
 
   pub from_start : (sets : List CodedDataSet) (j e : ℕ) → LeadsTo s count limit bits 0 start sets j e
       → (f : ℕ) × (e ≡ start + f) × LeadsTo s count limit (drop start bits) 0 0 sets j f
   from_start sets j e leads =
       let zero_more : start ≡ start + 0 = omega arith in
-      leads-dropped 0 0 sets j e (subst (λ x. LeadsTo s count limit bits 0 x sets j e) zero_more leads)
+      leads-dropped 0 0 sets j e (rw zero_more at leads)
 
   blocks-dropped : (blocks : List Block) → IsBlockReading s count limit bits 0 start blocks → IsBlockReading s count limit (drop start bits) 0 0 blocks
   blocks-dropped blocks h =
@@ -96,7 +92,7 @@ module _ (s : Settings) (count : Option ℕ) (limit : ℕ) (bits : List Bool) (s
         end_block = h.end_block;
         end_bit = led.0;
         leads = led.2;
-        done = sym (ap (is_wanted s count bits h.end_block) led.1 ∙ wanted-dropped count h.end_block led.0) ∙ h.done;
+        done = rw (← wanted-dropped, ← led.1) h.done;
         kept = h.kept;
       }
 
@@ -129,14 +125,14 @@ module _ (s : Settings) (count : Option ℕ) (limit : ℕ) (bits : List Bool) (s
       → (alone : Fault) × IsFault s count limit (drop start bits) 0 0 alone × (fault ≡ fault_from start alone)
   fault-dropped fault h =
       let led = from_start h.sets h.block h.bit h.leads in
-      let r = wrong-dropped h.block led.0 fault (subst (λ x. IsWrongAt s count limit bits h.block x fault) led.1 h.wrong) in (
+      let r = wrong-dropped h.block led.0 fault (rw led.1 at h.wrong) in (
         r.0,
         record {
           sets = h.sets;
           block = h.block;
           bit = led.0;
           leads = led.2;
-          wanted = sym (ap (is_wanted s count bits h.block) led.1 ∙ wanted-dropped count h.block led.0) ∙ h.wanted;
+          wanted = rw (← wanted-dropped, ← led.1) h.wanted;
           wrong = r.1;
         },
         r.2,
@@ -161,15 +157,14 @@ count-from limit start None fault is = absurd (cc)
 count-from limit start (Some n) fault is = by_test (nat_lt limit n) is
   where
     by_test : (t : Bool) → (if t then Some (TooManySamples limit) else None) ≡ Some fault → fault ≡ fault_from start fault
-    by_test true e = let same : fault ≡ TooManySamples limit = cc in same ∙ sym (ap (fault_from start) same)
+    by_test true e = let same : fault ≡ TooManySamples limit = cc in rw same
     by_test false e = absurd (cc)
 
 pub count-refuses-at : {X : Type 0} (r : Result X Fault) (fault : Fault) (s : Settings) (count : Option ℕ) (limit start : ℕ) (bits : List Bool)
     → r ≡ Err fault → Some fault ≡ count_refusal limit count → IfErr r (λ fault. RefusesDecodingAt s count limit bits start fault)
 count-refuses-at {X} r fault s count limit start bits is above =
     let P : Result X Fault → Type 0 = λ r. IfErr r (λ fault. RefusesDecodingAt s count limit bits start fault) in
-    subst P (sym is)
-    (record { alone = fault; refuses = above_limit fault (sym above); counted = count-from limit start count fault (sym above) })
+    rw is (record { alone = fault; refuses = above_limit fault (sym above); counted = count-from limit start count fault (sym above) })
 
 -- ---- by the result of the call
 

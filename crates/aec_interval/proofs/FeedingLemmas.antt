@@ -1,15 +1,13 @@
 -- Pieces that are fed one after the other are like one piece.
-use Rattle.std.proofs.Common.{◌≡◌, ℕ, ◌+◌, ◌/◌, ◌<◌, Bool, Option, Some, None, ℤ, List, ◌++◌, length, refl, sym, ap, ◌∙◌, subst, arith, append_assoc}
+use Rattle.std.proofs.Common.{◌≡◌, ℕ, ◌+◌, ◌/◌, ◌<◌, Bool, Option, Some, None, ℤ, List, ◌++◌, length, refl, ◌∙◌, arith, append_assoc}
 use Rattle.std.proofs.lemmas.List.{length-append}
 use Rattle.aec_params.specs.declared.settings.Settings.{Settings}
 use Rattle.aec_params.specs.declared.fault.Fault.{Fault}
 use Rattle.aec_params.specs.declared.fault.Fault.TheVariants.{Memory}
 use Rattle.aec_params.specs.Params.{IsAllowed, interval_len, storage_len}
 use Rattle.aec_params.specs.Stored.{byte_groups}
-use Rattle.aec_params.specs.Streams.{stream_of}
 use Rattle.aec_params.proofs.StoredLemmas.{storage-least}
 use Rattle.aec_params.proofs.SampleLaws.{interval_len-positive}
-use Rattle.aec_interval.specs.Taking.{TakenSamples, taken_groups}
 use Rattle.aec_interval.specs.Feeding.{Coder, whole_front, left_behind, taken_of, samples_with, fed, fed_bits, Feeds, StopsFeeding, refused, no_memory}
 use Rattle.aec_interval.proofs.PieceLemmas.{whole_and_left, length-whole_front, whole_front-append, left_behind-append, stream_of-append, byte_groups-append}
 use Rattle.aec_interval.proofs.TakingLemmas.{taken_behind, taken_groups-append, taken_groups-refused}
@@ -19,27 +17,27 @@ use Rattle.aec_interval.proofs.TakingLemmas.{taken_behind, taken_groups-append, 
 -- the groups of both pieces
 groups_of_both : (c : Coder) (p q : List ℕ) → IsAllowed c.settings
     → byte_groups c.settings (c.rest ++ (p ++ q)) ≡ byte_groups c.settings (c.rest ++ p) ++ byte_groups c.settings ((fed c p).rest ++ q)
-groups_of_both c p q a =
-    ap (byte_groups c.settings) (sym (append_assoc c.rest p q)) ∙ byte_groups-append c.settings (c.rest ++ p) q a
+groups_of_both c p q a = rw (← append_assoc, byte_groups-append)
 
 pub taken_of-append : (c : Coder) (p q : List ℕ) → IsAllowed c.settings → (taken_of c p).refusal ≡ None
     → taken_of c (p ++ q) ≡ taken_behind (taken_of c p) (taken_of (fed c p) q)
 taken_of-append c p q a none =
-    ap (taken_groups c.settings c.limit c.count) (groups_of_both c p q a)
-    ∙ taken_groups-append c.settings c.limit c.count (fed c p).count (byte_groups c.settings (c.rest ++ p))
-    (byte_groups c.settings ((fed c p).rest ++ q)) none refl
+    rw groups_of_both (taken_groups-append c.settings c.limit c.count (fed c p).count (byte_groups c.settings (c.rest ++ p))
+    (byte_groups c.settings ((fed c p).rest ++ q)) none refl)
 
 pub taken_of-refused : (c : Coder) (p q : List ℕ) (fault : Fault) → IsAllowed c.settings → (taken_of c p).refusal ≡ Some fault
     → taken_of c (p ++ q) ≡ taken_of c p
 taken_of-refused c p q fault a refusal =
-    ap (taken_groups c.settings c.limit c.count) (groups_of_both c p q a)
-    ∙ taken_groups-refused c.settings c.limit c.count (byte_groups c.settings (c.rest ++ p)) (byte_groups c.settings ((fed c p).rest ++ q)) fault refusal
+    rw groups_of_both (taken_groups-refused c.settings c.limit c.count (byte_groups c.settings (c.rest ++ p))
+    (byte_groups c.settings ((fed c p).rest ++ q)) fault refusal)
+
+length-taken : (c : Coder) (p q : List ℕ) → IsAllowed c.settings → (taken_of c p).refusal ≡ None
+    → length (taken_of c (p ++ q)).samples ≡ length (taken_of c p).samples + length (taken_of (fed c p) q).samples
+length-taken c p q a none = rw taken_of-append (length-append (taken_of c p).samples (taken_of (fed c p) q).samples)
 
 samples_with-append : (c : Coder) (p q : List ℕ) → IsAllowed c.settings → (taken_of c p).refusal ≡ None
     → samples_with c (p ++ q) ≡ samples_with c p ++ (taken_of (fed c p) q).samples
-samples_with-append c p q a none =
-    ap (λ (t : TakenSamples). c.held ++ t.samples) (taken_of-append c p q a none)
-    ∙ sym (append_assoc c.held (taken_of c p).samples (taken_of (fed c p) q).samples)
+samples_with-append c p q a none = rw (taken_of-append, append_assoc)
 
 fed_bits-append : (c : Coder) (p q : List ℕ) → IsAllowed c.settings → (taken_of c p).refusal ≡ None
     → fed_bits c (p ++ q) ≡ fed_bits c p ++ fed_bits (fed c p) q
@@ -47,10 +45,8 @@ fed_bits-append c p q a none =
     let s = c.settings in
     let n = interval_len s in
     let some : 0 < n = interval_len-positive s a in
-    ap (λ xs. stream_of s (whole_front n xs)) (samples_with-append c p q a none)
-    ∙ ap (stream_of s) (whole_front-append n (samples_with c p) (taken_of (fed c p) q).samples some)
-    ∙ stream_of-append s (length (samples_with c p) / n) (whole_front n (samples_with c p)) (whole_front n (samples_with (fed c p) q)) a
-    (length-whole_front n (samples_with c p) some)
+    rw (samples_with-append, whole_front-append) (stream_of-append s (length (samples_with c p) / n) (whole_front n (samples_with c p))
+    (whole_front n (samples_with (fed c p) q)) a (length-whole_front n (samples_with c p) some))
 
 -- a coder by its parts
 abbrev pub coding_of : Settings → ℕ → List ℤ → List ℕ → ℕ → Option Fault → Coder
@@ -58,102 +54,68 @@ coding_of s limit held rest count refusal = record { settings = s; limit = limit
 
 pub same_coding : (s : Settings) (limit : ℕ) (h k : List ℤ) (r t : List ℕ) (m n : ℕ) (f g : Option Fault) → h ≡ k → r ≡ t → m ≡ n → f ≡ g
     → coding_of s limit h r m f ≡ coding_of s limit k t n g
-same_coding s limit h k r t m n f g held rest count refusal =
-    ap (λ x. coding_of s limit x r m f) held ∙ ap (λ x. coding_of s limit k x m f) rest ∙ ap (λ x. coding_of s limit k t x f) count
-    ∙ ap (coding_of s limit k t n) refusal
+same_coding s limit h k r t m n f g held rest count refusal = rw (held, rest, count, refusal)
 
 pub fed-append : (c : Coder) (p q : List ℕ) → IsAllowed c.settings → (taken_of c p).refusal ≡ None → fed (fed c p) q ≡ fed c (p ++ q)
 fed-append c p q a none =
     let s = c.settings in
     let taken = taken_of-append c p q a none in
-    let some : 0 < storage_len s = omega (arith, storage-least s a) in
+    let some : 0 < storage_len s = omega (arith, storage-least) in
     same_coding s c.limit (fed (fed c p) q).held (fed c (p ++ q)).held (fed (fed c p) q).rest (fed c (p ++ q)).rest (fed (fed c p) q).count
     (fed c (p ++ q)).count (fed (fed c p) q).refusal (fed c (p ++ q)).refusal
-    (sym (ap (left_behind (interval_len s)) (samples_with-append c p q a none)
-    ∙ left_behind-append (interval_len s) (samples_with c p) (taken_of (fed c p) q).samples (interval_len-positive s a)))
-    (sym (ap (left_behind (storage_len s)) (sym (append_assoc c.rest p q)) ∙ left_behind-append (storage_len s) (c.rest ++ p) q some))
-    (omega (arith, length-append (taken_of c p).samples (taken_of (fed c p) q).samples, ap (λ (t : TakenSamples). length t.samples) taken))
-    (sym (ap (λ (t : TakenSamples). t.refusal) taken))
+    (rw (samples_with-append, left_behind-append (interval_len s) (samples_with c p) (taken_of (fed c p) q).samples (interval_len-positive s a)))
+    (rw (← left_behind-append, append_assoc)) (omega (arith, length-taken)) (rw taken)
 
 -- ---- one piece after another
 
 bits_of_both : (c : Coder) (p q : List ℕ) (b0 b1 b2 : List Bool) → IsAllowed c.settings → (taken_of c p).refusal ≡ None
     → b1 ≡ b0 ++ fed_bits c p → b2 ≡ b1 ++ fed_bits (fed c p) q → b2 ≡ b0 ++ fed_bits c (p ++ q)
-bits_of_both c p q b0 b1 b2 a none e f =
-    f ∙ ap (λ l. l ++ fed_bits (fed c p) q) e ∙ append_assoc b0 (fed_bits c p) (fed_bits (fed c p) q)
-    ∙ ap (λ l. b0 ++ l) (sym (fed_bits-append c p q a none))
+bits_of_both c p q b0 b1 b2 a none e f = rw (f, e, append_assoc, fed_bits-append)
 
 pub feeds_both : (c d e : Coder) (p q : List ℕ) (b0 b1 b2 : List Bool) → IsAllowed c.settings → Feeds c p b0 b1 d → Feeds d q b1 b2 e
     → Feeds c (p ++ q) b0 b2 e
 feeds_both c d e p q b0 b1 b2 a first second =
-    let next = subst (λ x. Feeds x q b1 b2 e) first.coder second in
+    let next = rw first.coder at second in
     record {
-      taken = ap (λ (t : TakenSamples). t.refusal) (taken_of-append c p q a first.taken) ∙ next.taken;
+      taken = rw (taken_of-append c p q a first.taken) next.taken;
       bits = bits_of_both c p q b0 b1 b2 a first.taken first.bits next.bits;
       coder = next.coder ∙ fed-append c p q a first.taken;
     }
 
--- if the second piece completes a sample, both together do; the same with the first
-more_samples : (c : Coder) (p q : List ℕ) → IsAllowed c.settings → (taken_of c p).refusal ≡ None → 0 < length (taken_of (fed c p) q).samples
-    → 0 < length (taken_of c (p ++ q)).samples
-more_samples c p q a none some =
-    omega (
-      arith,
-      some,
-      length-append (taken_of c p).samples (taken_of (fed c p) q).samples,
-      ap (λ (t : TakenSamples). length t.samples) (taken_of-append c p q a none),
-    )
-
-still_samples : (c : Coder) (p q : List ℕ) → IsAllowed c.settings → (taken_of c p).refusal ≡ None → 0 < length (taken_of c p).samples
-    → 0 < length (taken_of c (p ++ q)).samples
-still_samples c p q a none some =
-    omega (
-      arith,
-      some,
-      length-append (taken_of c p).samples (taken_of (fed c p) q).samples,
-      ap (λ (t : TakenSamples). length t.samples) (taken_of-append c p q a none),
-    )
-
 -- a refusal of the second piece is a refusal of both pieces as one
 stops_next : (c : Coder) (p q : List ℕ) (b0 b1 b2 : List Bool) (fault : Fault) → IsAllowed c.settings → (taken_of c p).refusal ≡ None
     → b1 ≡ b0 ++ fed_bits c p → StopsFeeding (fed c p) q b1 b2 fault → StopsFeeding c (p ++ q) b0 b2 fault
-stops_next c p q b0 b1 b2 fault a none bits (refused f refusal e) =
-    refused f (ap (λ (t : TakenSamples). t.refusal) (taken_of-append c p q a none) ∙ refusal) (bits_of_both c p q b0 b1 b2 a none bits e)
+stops_next c p q b0 b1 b2 fault a none bits (refused f refusal e) = refused f (rw taken_of-append refusal) (bits_of_both c p q b0 b1 b2 a none bits e)
 stops_next c p q b0 b1 b2 fault a none bits (no_memory k front behind cut whole left some e) =
     let s = c.settings in
     let n = interval_len s in
     let xs = samples_with c p in
     let w = whole_front n xs in
     let l = length-whole_front n xs (interval_len-positive s a) in
-    no_memory (length xs / n + k) (w ++ front) behind
-    (samples_with-append c p q a none ∙ ap (λ ys. ys ++ (taken_of (fed c p) q).samples) (sym (whole_and_left n xs))
-    ∙ append_assoc w (left_behind n xs) (taken_of (fed c p) q).samples ∙ ap (λ ys. w ++ ys) cut ∙ sym (append_assoc w front behind))
-    (omega (arith, length-append w front, l, whole))
-    left
-    (more_samples c p q a none some)
-    (e ∙ ap (λ ys. ys ++ stream_of s front) bits ∙ append_assoc b0 (fed_bits c p) (stream_of s front)
-    ∙ ap (λ ys. b0 ++ ys) (sym (stream_of-append s (length xs / n) w front a l)))
+    no_memory (length xs / n + k) (w ++ front) behind (cc (
+      samples_with-append c p q a none,
+      whole_and_left n xs,
+      append_assoc w (left_behind n xs) (taken_of (fed c p) q).samples,
+      append_assoc w front behind,
+    ))
+    (omega (arith, length-append w front)) left (omega (arith, length-taken c p q a none))
+    (rw (e, bits, append_assoc, stream_of-append s (length xs / n)))
 
 pub stops_later : (c d : Coder) (p q : List ℕ) (b0 b1 b2 : List Bool) (fault : Fault) → IsAllowed c.settings → Feeds c p b0 b1 d
     → StopsFeeding d q b1 b2 fault → StopsFeeding c (p ++ q) b0 b2 fault
-stops_later c d p q b0 b1 b2 fault a first stops =
-    stops_next c p q b0 b1 b2 fault a first.taken first.bits (subst (λ x. StopsFeeding x q b1 b2 fault) first.coder stops)
+stops_later c d p q b0 b1 b2 fault a first stops = stops_next c p q b0 b1 b2 fault a first.taken first.bits (rw first.coder at stops)
 
 -- the refusal of a piece stays the same, whatever bytes follow
 pub stops_before : (c : Coder) (p q : List ℕ) (b0 b1 : List Bool) (fault : Fault) → IsAllowed c.settings → StopsFeeding c p b0 b1 fault
     → StopsFeeding c (p ++ q) b0 b1 fault
 stops_before c p q b0 b1 fault a (refused f refusal e) =
     let same = taken_of-refused c p q f a refusal in
-    refused f (ap (λ (t : TakenSamples). t.refusal) same ∙ refusal)
-    (e ∙ ap (λ (t : TakenSamples). b0 ++ stream_of c.settings (whole_front (interval_len c.settings) (c.held ++ t.samples))) (sym same))
+    refused f (rw same refusal) (rw (e, same))
 stops_before c p q b0 b1 fault a (no_memory k front behind cut whole left some e) = more (taken_of c p).refusal refl
   where
     more : (o : Option Fault) → (taken_of c p).refusal ≡ o → StopsFeeding c (p ++ q) b0 b1 Memory
     more None none =
-        no_memory k front (behind ++ (taken_of (fed c p) q).samples)
-        (samples_with-append c p q a none ∙ ap (λ ys. ys ++ (taken_of (fed c p) q).samples) cut
-        ∙ append_assoc front behind (taken_of (fed c p) q).samples) whole
-        (omega (arith, left, length-append behind (taken_of (fed c p) q).samples)) (still_samples c p q a none some) e
+        no_memory k front (behind ++ (taken_of (fed c p) q).samples) (rw (samples_with-append, cut, append_assoc)) whole
+        (omega (arith, length-append behind (taken_of (fed c p) q).samples)) (omega (arith, length-taken c p q a none)) e
     more (Some f) refusal =
-        no_memory k front behind (ap (λ (t : TakenSamples). c.held ++ t.samples) (taken_of-refused c p q f a refusal) ∙ cut) whole left
-        (omega (arith, some, ap (λ (t : TakenSamples). length t.samples) (taken_of-refused c p q f a refusal))) e
+        no_memory k front behind (rw (taken_of-refused c p q f) cut) whole left (grind (arith, taken_of-refused c p q f a refusal)) e

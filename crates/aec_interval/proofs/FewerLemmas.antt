@@ -1,7 +1,7 @@
 -- Bits that are read with a count are read with a smaller count too: as a front of the samples.
-use Rattle.std.proofs.Common.{◌≡◌, ℕ, zero, suc, ◌+◌, ◌-◌, ◌*◌, ◌%◌, ◌<◌, ◌≤◌, Bool, Some, ℤ, List, [], ◌∷◌, ◌++◌, length, take, drop, refl, sym, ap, ◌∙◌, subst, arith, ⊎_elim}
+use Rattle.std.proofs.Common.{◌≡◌, ℕ, zero, suc, ◌+◌, ◌-◌, ◌*◌, ◌%◌, ◌<◌, ◌≤◌, Bool, Some, ℤ, List, [], ◌∷◌, ◌++◌, length, take, drop, refl, sym, ap, ◌∙◌, arith, ⊎_elim}
 use Rattle.std.specs.Int.{div_ceil}
-use Rattle.std.proofs.Math.Nat.{mod-lt, sub-zero, suc-sub-suc, mul-le-mul_right}
+use Rattle.std.proofs.Math.Nat.{mod-lt, sub-zero, suc-mul, suc-sub-suc, mul-le-mul_right}
 use Rattle.std.proofs.lemmas.Bool.{cases_lt, le-ltb, lt-ltb, ltb-false}
 use Rattle.std.proofs.lemmas.List.{length-take, length-take-le, length-drop, take_all, take-take, take-append-le, take-append-drop}
 use Rattle.aec_params.specs.declared.settings.Settings.{Settings}
@@ -23,21 +23,22 @@ use Rattle.aec_interval.proofs.ReachedLemmas.{length-stream_blocks}
 
 -- samples of k blocks have k blocks
 number_of_blocks : (s : Settings) (k : ℕ) (xs : List ℤ) → IsAllowed s → length xs ≡ k * s.block_size → length (all_blocks_of s xs) ≡ k
-number_of_blocks s k xs a len =
-    length-all_blocks_of s a xs ∙ ap (λ n. div_ceil n s.block_size) len ∙ div_ceil-times k s.block_size (block_size-positive s a)
+number_of_blocks s k xs a len = rw (length-all_blocks_of, len, div_ceil-times k s.block_size (block_size-positive s a))
 
 -- the blocks of the samples of the first k blocks are the first k blocks
 blocks-front : (s : Settings) (k m : ℕ) (xs : List ℤ) → IsAllowed s → length xs ≡ (k + m) * s.block_size
     → all_blocks_of s (take (k * s.block_size) xs) ≡ take k (all_blocks_of s xs)
 blocks-front s k zero xs a len =
     let same : k + 0 ≡ k = omega arith in
-    let whole : length xs ≡ k * s.block_size = len ∙ ap (λ n. n * s.block_size) same in
-    ap (all_blocks_of s) (take_all (k * s.block_size) xs (omega (arith, whole)))
-    ∙ sym (take_all k (all_blocks_of s xs) (omega (arith, number_of_blocks s k xs a whole)))
+    let whole : length xs ≡ k * s.block_size = rw (len, same) in
+    rw (take_all (k * s.block_size) xs (omega arith), take_all k (all_blocks_of s xs) (omega (arith, number_of_blocks s k xs a whole)))
 blocks-front s k (suc m) xs a len =
-    ap (all_blocks_of s) fewer ∙ blocks-front s k m front a front-len
-    ∙ sym (ap (take k) pushed ∙ take-append-le k (all_blocks_of s front) (next_block_of s front back ∷ [])
-    (omega (arith, number_of_blocks s (k + m) front a front-len)))
+    rw (
+      fewer,
+      blocks-front s k m front a front-len,
+      pushed,
+      take-append-le k (all_blocks_of s front) (next_block_of s front back ∷ []) (omega (arith, number_of_blocks s (k + m) front a front-len)),
+    )
   where
     n : ℕ
     n = (k + m) * s.block_size
@@ -55,14 +56,13 @@ blocks-front s k (suc m) xs a len =
     within k m j = mul-le-mul_right j (omega arith)
 
     front-len : length front ≡ n
-    front-len = omega (arith, length-take n xs, len, one_more k m s.block_size)
+    front-len = omega (arith, length-take n xs, one_more k m s.block_size)
 
     back-len : length back ≡ s.block_size
-    back-len = omega (arith, length-drop n xs, len, one_more k m s.block_size)
+    back-len = omega (arith, length-drop n xs, one_more k m s.block_size)
 
     pushed : all_blocks_of s xs ≡ all_blocks_of s front ++ next_block_of s front back ∷ []
-    pushed = ap (all_blocks_of s) (sym (take-append-drop n xs))
-        ∙ all_blocks_of-push s front back (k + m) (block_size-positive s a) (interval-positive s a) front-len back-len
+    pushed = cc (take-append-drop n xs, all_blocks_of-push s front back (k + m) (block_size-positive s a) (interval-positive s a) front-len back-len)
 
     fewer : take (k * s.block_size) xs ≡ take (k * s.block_size) front
     fewer = sym (take-take (k * s.block_size) n xs (within k m s.block_size))
@@ -71,24 +71,23 @@ pub FillBlocks-fewer : (s : Settings) (k : ℕ) (xs : List ℤ) (blocks : List B
     → FillBlocks s (take (k * s.block_size) xs) (take k blocks)
 FillBlocks-fewer s k xs blocks a within filled = record {
   held = held-take s (k * s.block_size) xs filled.held;
-  whole = length-take-le (k * s.block_size) xs enough ∙ ap (λ n. n * s.block_size) (sym (length-take-le k blocks within));
-  mapped = blocks-front s k (length blocks - k) xs a (filled.whole ∙ ap (λ n. n * s.block_size) split) ∙ ap (take k) filled.mapped;
+  whole = rw (length-take-le (k * s.block_size) xs enough, length-take-le);
+  mapped = rw (blocks-front s k (length blocks - k) xs a (filled.whole ∙ ap (λ n. n * s.block_size) split), filled.mapped);
 }
   where
     split : length blocks ≡ k + (length blocks - k)
-    split = omega (arith, within)
+    split = omega arith
 
     enough : k * s.block_size ≤ length xs
-    enough = omega (arith, filled.whole, mul-le-mul_right s.block_size within)
+    enough = omega (arith, mul-le-mul_right s.block_size within)
 
 -- ---- the way to fewer blocks
 
 -- what comes after the first elements matters only up to place m
 take-same : {X : Type 0} (m : ℕ) (xs ys zs : List X) → take (m - length xs) ys ≡ take (m - length xs) zs → take m (xs ++ ys) ≡ take m (xs ++ zs)
-take-same m [] ys zs same = subst (λ k. take k ys ≡ take k zs) (sub-zero m) same
+take-same m [] ys zs same = rw sub-zero at same
 take-same zero (x ∷ xs) ys zs same = refl
-take-same (suc m) (x ∷ xs) ys zs same =
-    ap (λ rest. x ∷ rest) (take-same m xs ys zs (subst (λ k. take k ys ≡ take k zs) (suc-sub-suc m (length xs)) same))
+take-same (suc m) (x ∷ xs) ys zs same = rw (take-same m xs ys zs (rw suc-sub-suc at same))
 
 module _ (s : Settings) (a : IsAllowed s) (limit : ℕ) (bits : List Bool) (n k : ℕ) where
   abbrev needed : ℕ
@@ -106,7 +105,7 @@ module _ (s : Settings) (a : IsAllowed s) (limit : ℕ) (bits : List Bool) (n k 
         end_bit = b;
         leads = (refl, refl);
         done = le-ltb i needed enough;
-        kept = ap (λ m. take m (stream_blocks s i sets)) none ∙ sym (ap (λ m. take {A = Block} m []) none);
+        kept = rw none;
       }
 
   one_more_set : (i b : ℕ) (c : CodedDataSet) (sets : List CodedDataSet) (j e : ℕ) → i < needed → LeadsTo s (Some n) limit bits i b (c ∷ sets) j e
@@ -115,20 +114,19 @@ module _ (s : Settings) (a : IsAllowed s) (limit : ℕ) (bits : List Bool) (n k 
       let next = next_block s i c in
       let here : length (cds_blocks s (i % s.interval) c) ≡ block_count s (i % s.interval) c =
       length-cds_blocks s (i % s.interval) c (mod-lt i (interval-positive s a)) in
-      let behind : needed - i - length (cds_blocks s (i % s.interval) c) ≡ needed - next = omega (arith, here) in
+      let behind : needed - i - length (cds_blocks s (i % s.interval) c) ≡ needed - next = omega arith in
       record {
         sets = c ∷ h.sets;
         end_block = h.end_block;
         end_bit = h.end_bit;
         leads = (lt-ltb i needed below, leads.1, leads.2, refl, h.leads);
         done = h.done;
-        kept = take-same (needed - i) (cds_blocks s (i % s.interval) c) (stream_blocks s next sets) (stream_blocks s next h.sets)
-            (subst (λ m. take m (stream_blocks s next sets) ≡ take m (stream_blocks s next h.sets)) (sym behind) h.kept);
+        kept = take-same (needed - i) (cds_blocks s (i % s.interval) c) (stream_blocks s next sets) (stream_blocks s next h.sets) (rw behind h.kept);
       }
 
   -- the coded data sets that lead to n samples lead to fewer samples first
   pub fewer_blocks : (i b : ℕ) (sets : List CodedDataSet) (j e : ℕ) → LeadsTo s (Some n) limit bits i b sets j e → needed ≤ j → FewerRead i b sets
-  fewer_blocks i b [] j e leads enough = no_more i b [] (omega (arith, leads.0))
+  fewer_blocks i b [] j e leads enough = no_more i b [] (omega arith)
   fewer_blocks i b (c ∷ sets) j e leads enough =
       let later = fewer_blocks (next_block s i c) (next_begin s bits i b c) sets j e leads.4 enough in
       ⊎_elim (λ below. one_more_set i b c sets j e below leads later) (no_more i b (c ∷ sets)) (cases_lt i needed)
@@ -136,24 +134,24 @@ module _ (s : Settings) (a : IsAllowed s) (limit : ℕ) (bits : List Bool) (n k 
 pub div_ceil-le : (k n j : ℕ) → 0 < j → k ≤ n → div_ceil k j ≤ div_ceil n j
 div_ceil-le k n j positive within = ⊎_elim (λ above. absurd (past above)) (λ le. le) (cases_lt (div_ceil n j) (div_ceil k j))
   where
-    one_more : (m j : ℕ) → suc m * j ≡ m * j + j
-    one_more m j = omega arith
-
     past : div_ceil n j < div_ceil k j → ⊥
     past above =
-        let next : suc (div_ceil n j) * j ≤ div_ceil k j * j = mul-le-mul_right j (omega (arith, above)) in
-        omega (arith, next, one_more (div_ceil n j) j, div_ceil-bounds n j positive, div_ceil-bounds k j positive)
+        let next : suc (div_ceil n j) * j ≤ div_ceil k j * j = mul-le-mul_right j (omega arith) in
+        omega (arith, suc-mul (div_ceil n j) j, div_ceil-bounds n j positive, div_ceil-bounds k j positive)
 
 pub IsReading-fewer : (s : Settings) (limit n k : ℕ) (bits : List Bool) (samples : List ℤ) → IsAllowed s → k ≤ n
     → IsReading s (Some n) limit bits samples → IsReading s (Some k) limit bits (take k samples)
 IsReading-fewer s limit n k bits samples a within h = record {
   blocks = take needed_blocks h.blocks;
-  read = subst (IsBlockReading s (Some k) limit bits 0 0) kept
-      (fewer_blocks s a limit bits n k 0 0 h.read.sets h.read.end_block h.read.end_bit h.read.leads (omega (arith, fewer, reached)));
+  read = rw kept at (fewer_blocks s a limit bits n k 0 0 h.read.sets h.read.end_block h.read.end_bit h.read.leads (omega (arith, fewer, reached)));
   all_samples = take (needed_blocks * s.block_size) h.all_samples;
   filled = FillBlocks-fewer s needed_blocks h.all_samples h.blocks a (omega (arith, fewer, number)) h.filled;
-  counted = ap (take k) h.counted ∙ take-take k n h.all_samples within
-      ∙ sym (take-take k (needed_blocks * s.block_size) h.all_samples (div_ceil-bounds k s.block_size (block_size-positive s a)).0);
+  counted =
+      rw (
+        h.counted,
+        take-take,
+        take-take k (needed_blocks * s.block_size) h.all_samples (div_ceil-bounds k s.block_size (block_size-positive s a)).0,
+      );
 }
   where
     needed_blocks : ℕ
@@ -175,10 +173,10 @@ IsReading-fewer s limit n k bits samples a within h = record {
     stream-len = length-stream_blocks s (Some n) limit bits 0 0 h.read.sets h.read.end_block h.read.end_bit (interval-positive s a) h.read.leads
 
     are : h.blocks ≡ take all_needed stream
-    are = h.read.kept ∙ ap (λ m. take m stream) (sub-zero all_needed)
+    are = rw (h.read.kept, sub-zero)
 
     number : length h.blocks ≡ all_needed
-    number = ap length are ∙ length-take-le all_needed stream (omega (arith, reached, stream-len))
+    number = rw are (length-take-le all_needed stream (omega (arith, reached, stream-len)))
 
     kept : take (needed_blocks - 0) stream ≡ take needed_blocks h.blocks
-    kept = ap (λ m. take m stream) (sub-zero needed_blocks) ∙ sym (ap (take needed_blocks) are ∙ take-take needed_blocks all_needed stream fewer)
+    kept = rw (sub-zero, are, take-take needed_blocks all_needed stream fewer)

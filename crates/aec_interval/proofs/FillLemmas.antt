@@ -1,5 +1,5 @@
 -- One block: its samples, and the filler.
-use Rattle.std.proofs.Common.{◌≡◌, ℕ, ◌+◌, ◌^◌, ◌<◌, Bool, true, false, if◌then◌else◌, Option, Some, None, ℤ, pos, List, [], ◌∷◌, ◌++◌, length, replicate, refl, sym, ap, ap₂, ◌∙◌, subst, arith}
+use Rattle.std.proofs.Common.{◌≡◌, ℕ, ◌+◌, ◌^◌, ◌<◌, Bool, true, false, if◌then◌else◌, Option, Some, None, ℤ, pos, List, [], ◌∷◌, ◌++◌, length, replicate, refl, sym, ap, ap₂, ◌∙◌, arith}
 use Rattle.std.specs.Prelude.{unwrap_or}
 use Rattle.std.specs.List.{AllByRecursion, last_or}
 use Rattle.std.proofs.lemmas.List.{length-append, length-replicate}
@@ -35,7 +35,7 @@ pub IsFull-block_after : (s : Settings) (o : Option ℤ) (v : List ℤ) → IsAl
 IsFull-block_after s o [] a some h = absurd (omega arith)
 IsFull-block_after s o (x ∷ v) a some h =
     record {
-      len = length-values_after s o (filled_samples s (x ∷ v)) ∙ length-filled_block s (x ∷ v) some (omega (arith, h.few));
+      len = length-values_after s o (filled_samples s (x ∷ v)) ∙ length-filled_block s (x ∷ v) some (omega arith);
       values = small_values s o (filled_samples s (x ∷ v)) a h.previous_held (all-filled_samples s x v h.held);
       reference = fits_reference s o x v a h.held.0;
     }
@@ -44,21 +44,20 @@ IsFull-block_after s o (x ∷ v) a some h =
 values-filled : (s : Settings) (o : Option ℤ) (x last : ℤ) (xs : List ℤ) (n : ℕ) → length (x ∷ xs) + n ≡ s.block_size → Some last ≡ last_or (Some x) xs
     → values_after s o (x ∷ xs) ++ replicate n (mapped_value s last last) ≡ values_after s o (filled_samples s (x ∷ xs))
 values-filled s o x last xs n size f =
-    ap (λ l. values_after s o (x ∷ xs) ++ l) (sym (mapped_after-replicate s last n) ∙ ap (λ l. values_after s l (replicate n last)) f)
-    ∙ sym (values_after-append s o (x ∷ xs) (replicate n last))
-    ∙ ap₂ (λ k y. values_after s o ((x ∷ xs) ++ replicate k y)) missing (ap (λ l. unwrap_or l (pos 0)) f)
+    ap (λ l. values_after s o (x ∷ xs) ++ l) (cc (mapped_after-replicate s last n)) ∙ sym (values_after-append s o (x ∷ xs) (replicate n last))
+    ∙ ap₂ (λ k y. values_after s o ((x ∷ xs) ++ replicate k y)) missing (cc)
   where
     filled : length (x ∷ xs) + up_to_multiple s.block_size (length (x ∷ xs)) ≡ s.block_size
     filled =
         omega (
           arith,
-          length-filled_block s (x ∷ xs) (omega arith) (omega (arith, size)),
+          length-filled_block s (x ∷ xs) (omega arith) (omega arith),
           length-append (x ∷ xs) (replicate (up_to_multiple s.block_size (length (x ∷ xs))) (unwrap_or (last_or (Some x) xs) (pos 0))),
           length-replicate (up_to_multiple s.block_size (length (x ∷ xs))) (unwrap_or (last_or (Some x) xs) (pos 0)),
         )
 
     missing : n ≡ up_to_multiple s.block_size (length (x ∷ xs))
-    missing = omega (arith, size, filled)
+    missing = omega (arith, filled)
 
 -- 0 is in the reference place, if there is one
 first-placed : (b : Bool) (r v : ℕ) (values : List ℕ) → HasReferencePlace (if b then Some r else None) ((if b then 0 else v) ∷ values)
@@ -76,15 +75,14 @@ pub is_filled : (s : Settings) (o : Option ℤ) (v : List ℤ) (last : ℤ) (ref
 is_filled s o [] last reference front behind values n allowed some samples size is_last is_reference joined mapped filled = absurd (omega arith)
 is_filled s o (x ∷ xs) last reference front behind values n allowed some samples size is_last is_reference joined mapped filled =
     let same : values ≡ values_after s o (filled_samples s (x ∷ xs)) =
-    joined ∙ ap₂ ◌++◌ mapped filled ∙ values-filled s o x last xs n size (last_sample-kept (x ∷ xs) x last xs refl is_last) in
-    let value : block_with reference values ≡ block_after s o (x ∷ xs) = ap₂ block_with is_reference same in
-    let full : IsFull s (block_with reference values) =
-    subst (IsFull s) (sym value) (IsFull-block_after s o (x ∷ xs) allowed some samples) in
+    rw (joined, mapped, filled, values-filled s o x last xs n size (last_sample-kept (x ∷ xs) x last xs refl is_last)) in
+    let value : block_with reference values ≡ block_after s o (x ∷ xs) = rw (is_reference, same) in
+    let full : IsFull s (block_with reference values) = rw value (IsFull-block_after s o (x ∷ xs) allowed some samples) in
     record {
       value = value;
       full = full;
       sound = record {
-        len = omega (arith, full.len, block_size-most s allowed);
+        len = omega (arith, block_size-most s allowed);
         placed = rw (is_reference, same)
             (after-placed s o x xs (xs ++ replicate (up_to_multiple s.block_size (length (x ∷ xs))) (unwrap_or (last_or (Some x) xs) (pos 0))));
       };

@@ -1,5 +1,5 @@
 -- The groups of a segment stand for its blocks, in order.
-use Rattle.std.proofs.Common.{◌≡◌, ℕ, suc, ◌+◌, ◌-◌, ◌<◌, Bool, true, false, Option, Some, None, List, [], ◌∷◌, ◌++◌, length, replicate, refl, sym, ap, ap₂, ◌∙◌, subst, arith}
+use Rattle.std.proofs.Common.{◌≡◌, ℕ, suc, ◌+◌, ◌-◌, ◌<◌, Bool, true, false, Option, Some, None, List, [], ◌∷◌, length, replicate, refl, subst, arith}
 use Rattle.std.specs.Prelude.{⊤, ◌==◌}
 use Rattle.std.specs.List.{flat_map, list_all}
 use Rattle.std.proofs.lemmas.List.{length-replicate}
@@ -31,7 +31,7 @@ AreGroupsFrom s p [] = ⊤
 AreGroupsFrom s p (g ∷ groups) = IsGroupAt s p g × AreGroupsFrom s (p + group_len g) groups
 
 pub length-group_blocks : (s : Settings) (p : ℕ) (g : Group) → IsGroupAt s p g → length (group_blocks s g) ≡ group_len g
-length-group_blocks s p (zero_run reference z) h = let e = length-replicate (z - 1) (zero_block s None) in omega (arith, h.0)
+length-group_blocks s p (zero_run reference z) h = let e = length-replicate (z - 1) (zero_block s None) in omega arith
 length-group_blocks s p (single_block b) h = refl
 
 groups-from_next : (s : Settings) (p : ℕ) (groups : List Group) → AreGroupsFrom s (suc p) groups → AreGroupsFrom s (p + 1) groups
@@ -62,11 +62,10 @@ zeros-are (v ∷ values) h =
     cc
 
 zero_block-is : (s : Settings) (t : Bool) (b : Block) → IsBlockOf s t b → is_zero_block b ≡ true → zero_block s b.reference ≡ b
-zero_block-is s t b h z =
-    ap (λ values. record { reference = b.reference; values = values }) (sym (zeros-are b.values z ∙ ap (λ n. replicate n 0) h.count))
+zero_block-is s t b h z = rw (zeros-are b.values, h.count)
 
 no_reference : (s : Settings) (p : ℕ) (reference : Option ℕ) → HasReference s (is_reference_block s (suc p)) reference → reference ≡ None
-no_reference s p reference h = none reference (subst (λ t. HasReference s t reference) (later_reference s p) h)
+no_reference s p reference h = none reference (rw later_reference at h)
   where
     none : (reference : Option ℕ) → HasReference s false reference → reference ≡ None
     none None h = refl
@@ -76,19 +75,19 @@ blocks-with_zero_block : (s : Settings) (p : ℕ) (reference : Option ℕ) (grou
     → flat_map (group_blocks s) (with_zero_block reference groups) ≡ zero_block s reference ∷ flat_map (group_blocks s) groups
 blocks-with_zero_block s p reference [] h = refl
 blocks-with_zero_block s p reference (single_block b ∷ groups) h = refl
-blocks-with_zero_block s p reference (zero_run later z ∷ groups) h =
-    ap (λ blocks. zero_block s reference ∷ (blocks ++ flat_map (group_blocks s) groups))
-    (longer z h.0.0 ∙ ap (λ r. zero_block s r ∷ replicate (z - 1) (zero_block s None)) (sym (no_reference s p later h.0.1)))
+blocks-with_zero_block s p reference (zero_run later z ∷ groups) h = rw (longer z h.0.0, no_reference s p later h.0.1)
   where
     longer : (z : ℕ) → 0 < z → replicate (z + 1 - 1) (zero_block s None) ≡ zero_block s None ∷ replicate (z - 1) (zero_block s None)
-    longer z h = let e : z + 1 - 1 ≡ suc (z - 1) = omega arith in ap (λ n. replicate n (zero_block s None)) e
+    longer z h = let e : z + 1 - 1 ≡ suc (z - 1) = omega arith in rw e
 
 pub flat_map-groups_of : (s : Settings) (p : ℕ) (blocks : List Block) → AreDueFrom s p blocks → flat_map (group_blocks s) (groups_of blocks) ≡ blocks
 flat_map-groups_of s p [] h = refl
 flat_map-groups_of s p (b ∷ blocks) h =
     let later = flat_map-groups_of s (suc p) blocks h.1 in
     cond_both (is_zero_block b) (with_zero_block b.reference (groups_of blocks)) (single_block b ∷ groups_of blocks)
-    (λ groups. flat_map (group_blocks s) groups ≡ b ∷ blocks)
-    (λ z. blocks-with_zero_block s p b.reference (groups_of blocks) (AreGroupsFrom-groups_of s (suc p) blocks h.1)
-    ∙ ap₂ ◌∷◌ (zero_block-is s (is_reference_block s p) b h.0 z) later)
-    (λ _. ap (◌∷◌ b) later)
+    (λ groups. flat_map (group_blocks s) groups ≡ b ∷ blocks) (λ z. rw (
+      blocks-with_zero_block s p b.reference (groups_of blocks) (AreGroupsFrom-groups_of s (suc p) blocks h.1),
+      zero_block-is s (is_reference_block s p) b h.0,
+      later,
+    ))
+    (λ _. rw later)

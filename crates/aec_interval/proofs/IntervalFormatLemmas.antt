@@ -1,16 +1,13 @@
 -- Intervals of the format are a lawful way to code samples.
-use Rattle.std.proofs.Common.{length, Option, Some, None, refl, if◌then◌else◌, ◌&&◌, ◌+◌, ◌≡◌, ℕ, ◌-◌, ◌^◌, ◌<◌, ◌≤◌, Bool, true, false, IsTrue, ℤ, pos, negsuc, List, [], ◌∷◌, arith, FitsSigned, w64, rules}
+use Rattle.std.proofs.Common.{◌≡◌, ℕ, ◌-◌, ◌^◌, ◌<◌, ◌≤◌, Bool, true, false, IsTrue, ℤ, pos, negsuc, List, [], ◌∷◌, arith, FitsSigned, w64, rules}
 use Rattle.std.specs.List.{list_all, AllByRecursion}
 use Rattle.std.proofs.Math.Nat.{mul-le-mul}
 use Rattle.std.proofs.lemmas.Bool.{and_parts}
-use Rattle.std.proofs.lemmas.Bool.Decides.{nat_tests}
-use Rattle.std.proofs.lemmas.Int.{ints}
 use Rattle.aec_params.specs.declared.settings.Settings.{Settings}
 use Rattle.aec_params.specs.Params.{IsAllowed, is_held, IsHeld, interval_len}
 use Rattle.aec_params.proofs.ParamsLemmas.{held-positive, held-negative, values-most, pow-halves, bits-least}
 use Rattle.aec_params.proofs.SettingLaws.{block_size-most}
 use Rattle.aec_bits.specs.Codec.{IsInterval, IsLawful}
-use Rattle.aec_bits.specs.Refusals.{first_unheld}
 use Rattle.aec_interval.specs.IntervalFormat.{interval_format}
 use Rattle.aec_interval.specs.Laws.{AreOfInterval}
 use Rattle.aec_interval.proofs.EqualLengthLemmas.{equal_lengths}
@@ -31,39 +28,26 @@ all-held s (x ∷ v) h =
 pub AreOfInterval-format : (s : Settings) (v : List ℤ) → IsInterval (interval_format s) v → AreOfInterval s v
 AreOfInterval-format s v h = record { held = all-held s v h.held; some = h.some; fits = h.few }
 
--- samples that all pass the test, at least one and no more than an interval has, are an interval
-pub interval_of_held : (s : Settings) (v : List ℤ) → first_unheld (is_held s) 0 v ≡ None → 0 < length v → length v ≤ interval_len s
-    → IsInterval (interval_format s) v
-interval_of_held s v h some few = record { some = some; few = few; held = none-unheld 0 v h }
-  where
-    by_test : (t rest : Bool) (i : ℕ) (later : Option ℕ) → (if t then later else Some i) ≡ None → (later ≡ None → rest ≡ true) → t && rest ≡ true
-    by_test true rest i later h on = on h
-    by_test false rest i later h on = absurd (cc)
-
-    none-unheld : (i : ℕ) (v : List ℤ) → first_unheld (is_held s) i v ≡ None → list_all (is_held s) v ≡ true
-    none-unheld i [] h = refl
-    none-unheld i (x ∷ v) h = by_test (is_held s x) (list_all (is_held s) v) i (first_unheld (is_held s) (i + 1) v) h (none-unheld (i + 1) v)
-
 interval-most : (s : Settings) → IsAllowed s → s.interval ≤ 4096
-interval-most s allowed = let b = allowed.interval in grind (arith, nat_tests)
+interval-most s allowed = let b = allowed.interval in grind arith
 
 pub interval_len-most : (s : Settings) → IsAllowed s → interval_len s ≤ 262144
 interval_len-most s a = mul-le-mul (block_size-most s a) (interval-most s a)
 
 -- samples fit signed 64 bits
 small_fits : (n : ℕ) → n < 2 ^ 32 → FitsSigned w64 (pos n)
-small_fits n h = omega (arith, ints)
+small_fits n h = omega arith
 
 negative_fits : (n : ℕ) → n < 2 ^ 32 → FitsSigned w64 (negsuc n)
-negative_fits n h = omega (arith, ints)
+negative_fits n h = omega arith
 
 held_fits : (s : Settings) (x : ℤ) → IsAllowed s → IsHeld s x → FitsSigned w64 x
 held_fits s (pos m) a h =
     let below : m < 2 ^ s.bits = (held-positive s m a h).0 in
-    small_fits m (omega (arith, below, values-most s a))
+    small_fits m (omega (arith, values-most s a))
 held_fits s (negsuc m) a h =
     let below : m < 2 ^ (s.bits - 1) = (held-negative s m h).1 in
-    negative_fits m (omega (arith, below, values-most s a, pow-halves s.bits (bits-least s a)))
+    negative_fits m (omega (arith, values-most s a, pow-halves s.bits (bits-least s a)))
 
 pub interval_format-lawful : (s : Settings) → IsAllowed s → IsLawful (interval_format s)
 interval_format-lawful s a = record {

@@ -1,8 +1,8 @@
 -- How many samples are taken before one is refused, and why that one is refused.
-use Rattle.std.proofs.Common.{◌≡◌, ℕ, suc, ◌+◌, ◌-◌, ◌/◌, ◌≤◌, ◌<◌, min, Bool, true, false, Option, Some, None, unwrap_or, Result, Ok, Err, ℤ, List, [], ◌∷◌, ◌++◌, length, refl, sym, ap, ◌∙◌, arith, ⊎_elim}
+use Rattle.std.proofs.Common.{◌≡◌, ℕ, suc, ◌+◌, ◌-◌, ◌/◌, ◌≤◌, ◌<◌, min, Bool, true, false, Option, Some, None, unwrap_or, Result, Ok, Err, ℤ, List, [], ◌∷◌, ◌++◌, length, refl, arith, ⊎_elim}
 use Rattle.std.specs.Prelude.{nat_lt, if◌then◌else◌}
 use Rattle.std.specs.Result.{result_err}
-use Rattle.std.proofs.lemmas.Bool.{cases_lt, cond-true, cond-false, lt-ltb, le-ltb}
+use Rattle.std.proofs.lemmas.Bool.{cases_lt, lt-ltb, le-ltb}
 use Rattle.aec_params.specs.declared.settings.Settings.{Settings}
 use Rattle.aec_params.specs.declared.fault.Fault.{Fault}
 use Rattle.aec_params.specs.declared.fault.Fault.TheVariants.{SampleRange, TooManySamples}
@@ -10,7 +10,8 @@ use Rattle.aec_params.specs.Params.{storage_len}
 use Rattle.aec_params.specs.Stored.{number_in, sample_of_number, sample_before, samples_of_groups, samples_of_bytes, byte_groups}
 use Rattle.aec_interval.specs.Taking.{TakenSamples, in_range, judged_sample, taken_before, taken_groups}
 use Rattle.aec_interval.specs.Progress.{refusal_at}
-use Rattle.aec_interval.proofs.TakingLemmas.{bad_behind, length-groups}
+use Rattle.aec_interval.proofs.TakingLemmas.{bad_behind}
+use Rattle.aec_interval.proofs.CuttingLemmas.{length-first_chunks}
 
 -- ---- how many are taken: those before the first bad one, up to the limit
 
@@ -26,11 +27,11 @@ length_below : (o : Option ℤ) (limit i j n : ℕ) (taken : TakenSamples) (late
 length_below None limit i j n taken later below bad ih = let none : 0 ≡ min (j - j) (limit - i) = omega arith in none
 length_below (Some x) limit i j n taken (Ok xs) below bad ih =
     let before : length taken.samples ≡ min (j + 1 + n - (j + 1)) (limit - (i + 1)) = ih in
-    let all : suc (length taken.samples) ≡ min (j + suc n - j) (limit - i) = omega (arith, before, below) in
+    let all : suc (length taken.samples) ≡ min (j + suc n - j) (limit - i) = omega arith in
     all
 length_below (Some x) limit i j n taken (Err k) below bad ih =
     let before : length taken.samples ≡ min (k - (j + 1)) (limit - (i + 1)) = ih in
-    let all : suc (length taken.samples) ≡ min (k - j) (limit - i) = omega (arith, before, below, bad k refl) in
+    let all : suc (length taken.samples) ≡ min (k - j) (limit - i) = omega (arith, bad k refl) in
     all
 
 length_step : (s : Settings) (limit i j : ℕ) (g : List ℕ) (gs : List (List ℕ))
@@ -48,16 +49,13 @@ length_step s limit i j g gs ih = ⊎_elim below above (cases_lt i limit)
 
     below : i < limit → length (taken_groups s limit i (g ∷ gs)).samples ≡ min end (limit - i)
     below l =
-        ap (λ r. length (taken_before r (taken_groups s limit (i + 1) gs)).samples)
-        (cond-true (nat_lt i limit) (in_range i o) (Err (TooManySamples limit)) (lt-ltb i limit l))
-        ∙ length_below o limit i j (length gs) (taken_groups s limit (i + 1) gs) (samples_of_groups s (j + 1) gs) l
-        (λ k e. bad_behind s (j + 1) k gs e) (ih (omega arith))
+        rw lt-ltb (length_below o limit i j (length gs) (taken_groups s limit (i + 1) gs) (samples_of_groups s (j + 1) gs) l
+        (λ k e. bad_behind s (j + 1) k gs e) (ih (omega arith)))
 
     above : limit ≤ i → length (taken_groups s limit i (g ∷ gs)).samples ≡ min end (limit - i)
     above l =
         let none : 0 ≡ min end (limit - i) = omega arith in
-        ap (λ r. length (taken_before r (taken_groups s limit (i + 1) gs)).samples)
-        (cond-false (nat_lt i limit) (in_range i o) (Err (TooManySamples limit)) (le-ltb i limit l)) ∙ none
+        rw le-ltb none
 
 pub length-taken_groups : (s : Settings) (limit i j : ℕ) (gs : List (List ℕ))
     → length (taken_groups s limit i gs).samples ≡ min (good_up_to (samples_of_groups s j gs) (j + length gs) - j) (limit - i)
@@ -70,11 +68,10 @@ pub taken_count : (s : Settings) (limit count : ℕ) (bytes : List ℕ) (good n 
     → n ≡ length (taken_groups s limit count (byte_groups s bytes)).samples
 taken_count s limit count bytes good n least first =
     let groups = byte_groups s bytes in
-    let end : length bytes / storage_len s ≡ 0 + length groups =
-    omega (arith, length-groups (storage_len s) (length bytes / storage_len s) bytes) in
-    let up : good ≡ good_up_to (samples_of_groups s 0 groups) (0 + length groups) = first ∙ ap (good_up_to (samples_of_groups s 0 groups)) end in
-    let same : good ≡ good_up_to (samples_of_groups s 0 groups) (0 + length groups) - 0 = omega (arith, up) in
-    least ∙ ap (λ m. min m (limit - count)) same ∙ sym (length-taken_groups s limit count 0 groups)
+    let end : length bytes / storage_len s ≡ 0 + length groups = omega (arith, length-first_chunks) in
+    let up : good ≡ good_up_to (samples_of_groups s 0 groups) (0 + length groups) = cc in
+    let same : good ≡ good_up_to (samples_of_groups s 0 groups) (0 + length groups) - 0 = omega arith in
+    rw (least, same, length-taken_groups s limit count 0)
 
 few_step : (r : Result ℤ Fault) (n : ℕ) (later : TakenSamples) → length later.samples ≤ n → length (taken_before r later).samples ≤ suc n
 few_step (Ok x) n later few = omega arith
@@ -102,7 +99,7 @@ refusal-all_taken s limit i (g ∷ gs) all =
 
 front_step : (r : Result ℤ Fault) (n : ℕ) (all front : TakenSamples) → suc n ≤ length (taken_before r all).samples
     → (n ≤ length all.samples → length front.samples ≡ n) → length (taken_before r front).samples ≡ suc n
-front_step (Ok x) n all front most ih = ap suc (ih (omega arith))
+front_step (Ok x) n all front most ih = rw (ih (omega arith))
 front_step (Err fault) n all front most ih = absurd (omega arith)
 
 -- if all groups of a front are taken when others follow, all of them are taken alone
@@ -124,13 +121,13 @@ refused_step : (t : Bool) (o : Option ℤ) (limit i n : ℕ) (later : TakenSampl
     ≡ Some (refusal_at limit (i + length (taken_before (if t then in_range i o else Err (TooManySamples limit)) later).samples))
 refused_step true (Some x) limit i n later test few ih =
     let place : i + 1 + length later.samples ≡ i + suc (length later.samples) = omega arith in
-    ih (omega arith) ∙ ap (λ k. Some (refusal_at limit k)) place
+    rw (ih (omega arith), place)
 refused_step true None limit i n later test few ih =
     let place : i ≡ i + 0 = omega arith in
-    ap (λ t. Some (fault_at t limit i)) test ∙ ap (λ k. Some (refusal_at limit k)) place
+    cc
 refused_step false o limit i n later test few ih =
     let place : i ≡ i + 0 = omega arith in
-    ap (λ t. Some (fault_at t limit i)) test ∙ ap (λ k. Some (refusal_at limit k)) place
+    cc
 
 -- the first sample that isn't taken is refused
 pub refusal-taken_groups : (s : Settings) (limit i : ℕ) (gs : List (List ℕ)) → length (taken_groups s limit i gs).samples < length gs

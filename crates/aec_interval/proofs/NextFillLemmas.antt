@@ -1,22 +1,21 @@
 -- Samples that are unmapped from the values of a block fill that block after the blocks before it.
-use Rattle.std.proofs.Common.{◌≡◌, ℕ, zero, suc, ◌%◌, ◌<◌, ◌^◌, ◌==◌, ◌&&◌, if◌then◌else◌, Bool, true, false, Option, Some, None, ℤ, pos, List, [], ◌∷◌, ◌++◌, length, drop, unwrap_or, refl, sym, ap, ap₂, ◌∙◌, subst, append_assoc, arith, ◌-◌, neg_ℤ, int_le}
+use Rattle.std.proofs.Common.{◌≡◌, ℕ, zero, suc, ◌%◌, ◌<◌, ◌^◌, ◌==◌, ◌&&◌, Bool, true, false, Option, Some, None, ℤ, pos, List, [], ◌∷◌, ◌++◌, length, drop, refl, sym, ◌∙◌, append_assoc, arith, ◌-◌, neg_ℤ, int_le}
 use Rattle.std.proofs.lemmas.Bool.{le-leb}
 use Rattle.std.proofs.lemmas.Bool.Decides.{nat_tests}
-use Rattle.std.specs.List.{AllByRecursion, last_or}
+use Rattle.std.specs.List.{AllByRecursion}
 use Rattle.aec_params.specs.declared.settings.Settings.{Settings}
 use Rattle.aec_params.specs.Params.{IsAllowed, IsHeld, interval_len, sample_pattern}
 use Rattle.aec_params.specs.Mapping.{mapped_value, mapped_after, mapped_values}
 use Rattle.aec_params.specs.Blocks.{Block, reference_of}
 use Rattle.aec_params.specs.CodedDataSets.{HasReference}
 use Rattle.aec_params.specs.BlockShapes.{HasReferencePlace}
-use Rattle.aec_params.specs.Reading.{FillBlocks}
 use Rattle.aec_params.proofs.SettingLaws.{block_size-positive, interval-positive}
 use Rattle.aec_params.proofs.ValueLaws.{mapped_value-one_to_one}
 use Rattle.aec_block.specs.Offsets.{sample_offset, top_offset, mapped_offset}
 use Rattle.aec_block.specs.Unmapping.{Unmaps}
 use Rattle.aec_block.proofs.MappingLemmas.{mapped_value-offsets}
 use Rattle.aec_interval.specs.NextBlock.{last_sample, next_block_at, IsNextBlock, FillsNext}
-use Rattle.aec_interval.proofs.NextBlockLemmas.{length-mapped_after}
+use Rattle.aec_interval.proofs.BlockLemmas.{last_or-held, length-mapped_after}
 use Rattle.aec_interval.proofs.ReadingSteps.{FillBlocks-push}
 
 zero_within : (low high : ℕ) → (int_le (neg_ℤ (pos low)) (pos 0) && int_le (pos 0) (pos high)) ≡ true
@@ -30,13 +29,9 @@ held-zero s allowed = by_sign s.signed
     by_sign false = zero_within 0 (2 ^ s.bits - 1)
     by_sign true = zero_within (2 ^ (s.bits - 1)) (2 ^ (s.bits - 1) - 1)
 
-pub held-last_or : (s : Settings) (x : ℤ) (xs : List ℤ) → IsHeld s x → AllByRecursion (IsHeld s) xs → IsHeld s (unwrap_or (last_or (Some x) xs) (pos 0))
-held-last_or s x [] held all = held
-held-last_or s x (y ∷ xs) held all = held-last_or s y xs all.0 all.1
-
 pub held-last_sample : (s : Settings) (xs : List ℤ) → IsAllowed s → AllByRecursion (IsHeld s) xs → IsHeld s (last_sample xs)
 held-last_sample s [] allowed all = held-zero s allowed
-held-last_sample s (x ∷ xs) allowed all = held-last_or s x xs all.0 all.1
+held-last_sample s (x ∷ xs) allowed all = last_or-held (IsHeld s) x (pos 0) xs all.0 all.1
 
 pub reference-below : (s : Settings) (due : Bool) (r : ℕ) → HasReference s due (Some r) → r < 2 ^ s.bits
 reference-below s true r has = has
@@ -45,14 +40,11 @@ reference-below s false r has = absurd has
 -- without preprocessing the prediction makes no difference
 pub mapped_values-plain : (s : Settings) (p : ℤ) (xs : List ℤ) → s.preprocess ≡ false → mapped_values s xs ≡ mapped_after s p xs
 mapped_values-plain s p [] plain = refl
-mapped_values-plain s p (x ∷ xs) plain =
-    ap (λ v. v ∷ mapped_after s x xs)
-    (ap (λ b. if b then 0 else sample_pattern s x) plain
-    ∙ sym (ap (λ b. if b then mapped_value (record s { preprocess = true }) p x else sample_pattern s x) plain))
+mapped_values-plain s p (x ∷ xs) plain = simp plain
 
 pub reference_of-plain : (s : Settings) (xs : List ℤ) → s.preprocess ≡ false → reference_of s xs ≡ None
 reference_of-plain s [] plain = refl
-reference_of-plain s (x ∷ xs) plain = ap (λ b. if b then Some (sample_pattern s x) else None) plain
+reference_of-plain s (x ∷ xs) plain = rw plain
 
 abbrev block_of : Option ℕ → List ℕ → Block
 block_of reference values = record { reference = reference; values = values }
@@ -61,21 +53,19 @@ block_of reference values = record { reference = reference; values = values }
 next_single : (s : Settings) (at_start : Bool) (p : ℤ) (more : List ℤ) (values : List ℕ) → HasReference s (s.preprocess && at_start) None
     → mapped_after s p more ≡ values
     → next_block_at s at_start p more ≡ block_of None values
-next_single s false p more values none mapped = ap (block_of None) mapped
+next_single s false p more values none mapped = rw mapped
 next_single s true p more values none mapped = by_preprocess s.preprocess refl none
   where
     by_preprocess : (preprocess : Bool) → s.preprocess ≡ preprocess → HasReference s (preprocess && true) None
         → next_block_at s true p more ≡ block_of None values
     by_preprocess true is none = absurd none
-    by_preprocess false is none = ap₂ block_of (reference_of-plain s more is) (mapped_values-plain s p more is ∙ mapped)
+    by_preprocess false is none = rw (reference_of-plain, mapped_values-plain s p, mapped)
 
 pub fills_single : (s : Settings) (old new : List ℤ) (values : List ℕ) → IsAllowed s → IsNextBlock s old (record { reference = None; values = values })
     → Unmaps s (last_sample old) values old new → FillsNext s old new ((record { reference = None; values = values }) ∷ [])
 fills_single s old new values allowed next unmaps blocks filled =
-    subst (λ samples. FillBlocks s samples (blocks ++ (record { reference = None; values = values }) ∷ [])) (sym unmaps.appended)
-    (FillBlocks-push s old unmaps.more blocks (record { reference = None; values = values }) (block_size-positive s allowed)
-    (interval-positive s allowed) filled unmaps.held
-    (sym (length-mapped_after s (last_sample old) unmaps.more) ∙ (ap length unmaps.mapped ∙ next.count))
+    rw unmaps.appended (FillBlocks-push s old unmaps.more blocks (record { reference = None; values = values }) (block_size-positive s allowed)
+    (interval-positive s allowed) filled unmaps.held (rw (← (length-mapped_after s (last_sample old)), unmaps.mapped) next.count)
     (next_single s (length old % interval_len s == 0) (last_sample old) unmaps.more values next.reference unmaps.mapped))
 
 -- a block that begins with a reference sample
@@ -88,21 +78,17 @@ next_reference s at_start r x more values p has placed pattern mapped = by_tests
         → next_block_at s at_start p (x ∷ more) ≡ block_of (Some r) values
     by_tests false at_start is has = absurd has
     by_tests true false is has = absurd has
-    by_tests true true is has =
-        ap₂ block_of (ap (λ b. if b then Some (sample_pattern s x) else None) is ∙ ap Some pattern)
-        (ap₂ (λ b later. (if b then 0 else sample_pattern s x) ∷ later) is mapped ∙ sym placed)
+    by_tests true true is has = cc
 
 pub fills_reference : (s : Settings) (old new : List ℤ) (r : ℕ) (values : List ℕ) (x : ℤ) → IsAllowed s
     → IsNextBlock s old (record { reference = Some r; values = values })
     → IsHeld s x → sample_pattern s x ≡ r → Unmaps s x (drop 1 values) (old ++ x ∷ []) new
     → FillsNext s old new ((record { reference = Some r; values = values }) ∷ [])
 fills_reference s old new r values x allowed next held pattern unmaps blocks filled =
-    subst (λ samples. FillBlocks s samples (blocks ++ (record { reference = Some r; values = values }) ∷ []))
-    (sym (unmaps.appended ∙ append_assoc old (x ∷ []) unmaps.more))
-    (FillBlocks-push s old (x ∷ unmaps.more) blocks (record { reference = Some r; values = values }) (block_size-positive s allowed)
-    (interval-positive s allowed) filled (held, unmaps.held)
-    (ap suc (sym (length-mapped_after s x unmaps.more) ∙ ap length unmaps.mapped) ∙ (ap length (sym next.place) ∙ next.count))
-    (next_reference s (length old % interval_len s == 0) r x unmaps.more values (last_sample old) next.reference next.place pattern unmaps.mapped))
+    rw (unmaps.appended, append_assoc) (FillBlocks-push s old (x ∷ unmaps.more) blocks
+    (record { reference = Some r; values = values }) (block_size-positive s allowed) (interval-positive s allowed) filled (held, unmaps.held)
+    (rw (← (length-mapped_after s x), unmaps.mapped) (cc)) (next_reference s (length old % interval_len s == 0) r x unmaps.more values
+    (last_sample old) next.reference next.place pattern unmaps.mapped))
 
 -- a sample that equals its prediction maps to 0
 pub mapped_value-self : (s : Settings) (x : ℤ) → IsAllowed s → s.preprocess ≡ true → IsHeld s x → mapped_value s x x ≡ 0
@@ -127,21 +113,21 @@ unmaps-reference_place s x values old new allowed on held placed unmaps =
         let same : y ≡ x = mapped_value-one_to_one s x y x allowed held all.0 held (none ∙ sym (mapped_value-self s x allowed on held)) in
         record {
           more = ys;
-          appended = appended ∙ (ap (λ z. old ++ z ∷ ys) same ∙ sym (append_assoc old (x ∷ []) ys));
+          appended = rw (appended, same, append_assoc);
           held = all.1;
-          mapped = ap (λ z. mapped_after s z ys) (sym same) ∙ later;
+          mapped = rw (← same) later;
         }
 
 -- ---- the same, stated by the code's variables
 
 pub values-below : (s : Settings) (b : Block) (old : List ℤ) (values : List ℕ) → IsNextBlock s old b → values ≡ b.values
     → AllByRecursion (λ v. v < 2 ^ s.bits) values
-values-below s b old values next e = subst (λ values. AllByRecursion (λ v. v < 2 ^ s.bits) values) (sym e) next.below
+values-below s b old values next e = rw e next.below
 
 pub fills_block_single : (s : Settings) (old new : List ℤ) (b : Block) (p : ℤ) (values : List ℕ) → IsAllowed s → IsNextBlock s old b → b.reference ≡ None
     → p ≡ last_sample old → values ≡ b.values → Unmaps s p values old new → FillsNext s old new (b ∷ [])
 fills_block_single s old new b p values allowed next none previous is_values unmaps =
-    by_reference b.reference none next (subst (λ q. Unmaps s q b.values old new) previous (subst (λ vs. Unmaps s p vs old new) is_values unmaps))
+    by_reference b.reference none next (rw (is_values, previous) at unmaps)
   where
     by_reference : (reference : Option ℕ) → reference ≡ None → IsNextBlock s old (block_of reference b.values) → Unmaps s (last_sample old) b.values old new
         → FillsNext s old new (block_of reference b.values ∷ [])
@@ -151,7 +137,7 @@ fills_block_single s old new b p values allowed next none previous is_values unm
 pub fills_block_reference : (s : Settings) (old new : List ℤ) (b : Block) (q : ℕ) (x : ℤ) (values : List ℕ) → IsAllowed s → IsNextBlock s old b
     → b.reference ≡ Some q → IsHeld s x → sample_pattern s x ≡ q → values ≡ b.values → Unmaps s x values old new → FillsNext s old new (b ∷ [])
 fills_block_reference s old new b q x values allowed next some held pattern is_values unmaps =
-    by_reference b.reference some next (subst (λ vs. Unmaps s x vs old new) is_values unmaps)
+    by_reference b.reference some next (rw is_values at unmaps)
   where
     on : (preprocess at_start : Bool) (r : ℕ) → HasReference s (preprocess && at_start) (Some r) → preprocess ≡ true
     on true at_start r has = refl

@@ -1,13 +1,10 @@
 -- Which bytes are the next part of a piece.
-use Rattle.std.proofs.Common.{◌≡◌, ℕ, zero, suc, ◌+◌, ◌-◌, ◌*◌, ◌/◌, ◌%◌, ◌<◌, ◌≤◌, inr, Bool, Some, List, [], ◌++◌, length, take, drop, refl, sym, ap, ◌∙◌, subst, arith, mul-le-mul_right, div-mul-le_self}
-use Rattle.std.specs.Result.{result_err}
+use Rattle.std.proofs.Common.{◌≡◌, ℕ, zero, suc, ◌+◌, ◌-◌, ◌*◌, ◌/◌, ◌%◌, ◌<◌, ◌≤◌, inr, Bool, List, [], ◌++◌, length, take, drop, refl, sym, ap, ◌∙◌, arith, mul-le-mul_right}
 use Rattle.std.proofs.Math.Nat.{mul-mod_left}
 use Rattle.std.proofs.lemmas.List.{length-append, take-append-drop, take-take, length-take-le}
-use Rattle.std.proofs.lemmas.Nat.{div-add-mod', mod_below}
 use Rattle.aec_params.specs.declared.settings.Settings.{Settings}
 use Rattle.aec_params.specs.Params.{IsAllowed, interval_len, storage_len}
 use Rattle.aec_params.specs.Stored.{byte_groups}
-use Rattle.aec_params.proofs.SampleLaws.{interval_len-positive}
 use Rattle.aec_interval.specs.Taking.{taken_groups}
 use Rattle.aec_interval.specs.Feeding.{Coder, taken_of, samples_with, StopsFeeding, refused}
 use Rattle.aec_interval.specs.Progress.{IsPart, IsProgress, IsFewOrWhole, refusal_at, coder_at}
@@ -15,12 +12,13 @@ use Rattle.aec_interval.specs.declared.stream_coder.pieces.Progress.{Progress}
 use Rattle.aec_interval.specs.declared.stream_coder.pieces.Terms.{Terms}
 use Rattle.aec_interval.proofs.PieceLemmas.{byte_groups-whole}
 use Rattle.aec_interval.proofs.FeedingLemmas.{stops_before}
-use Rattle.aec_interval.proofs.TakingLemmas.{taken_groups-all, length-groups, counted_from}
+use Rattle.aec_interval.proofs.TakingLemmas.{taken_groups-all, counted_from}
+use Rattle.aec_interval.proofs.CuttingLemmas.{length-first_chunks}
 use Rattle.aec_interval.proofs.JudgingLemmas.{length-taken_groups, few_taken_groups, refusal-all_taken, length-front_taken, refusal-taken_groups}
 use Rattle.aec_interval.proofs.PartLemmas.{no_bits, part_count}
 
 length-byte_groups : (s : Settings) (part : List ℕ) (n : ℕ) → IsAllowed s → length part ≡ n * storage_len s → length (byte_groups s part) ≡ n
-length-byte_groups s part n a whole = length-groups (storage_len s) (length part / storage_len s) part ∙ part_count s part n a whole
+length-byte_groups s part n a whole = length-first_chunks (storage_len s) (length part / storage_len s) part ∙ part_count s part n a whole
 
 -- samples that are all taken are a part
 part_of_taken : (u : Terms) (p : Progress) (part : List ℕ) (n : ℕ) → IsProgress u p → length part ≡ n * storage_len u.params → 0 < n
@@ -30,7 +28,7 @@ part_of_taken u p part n h whole some fills taken =
     let s = u.params in
     let groups = byte_groups s part in
     let many = length-byte_groups s part n h.held.allowed whole in
-    let none = refusal-all_taken s u.limit p.count groups (omega (arith, many, taken)) in
+    let none = refusal-all_taken s u.limit p.count groups (omega arith) in
     let read = counted_from s p.count 0 groups (taken_groups s u.limit p.count groups).samples (taken_groups-all s u.limit p.count groups none) in
     let few = length-taken_groups s u.limit p.count 0 groups in
     record {
@@ -38,8 +36,8 @@ part_of_taken u p part n h whole some fills taken =
       whole = whole;
       some = some;
       fills = fills;
-      good = ap result_err read;
-      within = omega (arith, part_count s part n h.held.allowed whole, taken, few, h.within, some);
+      good = rw read;
+      within = omega (arith, part_count s part n h.held.allowed whole);
     }
 
 -- a front of samples, no longer than what is taken of them, is a part
@@ -53,7 +51,7 @@ front_of_taken u p judged front later n taken h cut whole some fills many within
     let len = length-byte_groups s front n a whole in
     let all = ap (λ gs. length (taken_groups s u.limit p.count gs).samples) both in
     part_of_taken u p front n h whole some fills
-    (length-front_taken s u.limit p.count (byte_groups s front) (byte_groups s later) (omega (arith, len, many, within, all)) ∙ len)
+    (length-front_taken s u.limit p.count (byte_groups s front) (byte_groups s later) (omega arith) ∙ len)
 
 -- if a sample is refused before the next interval is complete, the bytes are refused
 part_refused : (u : Terms) (p : Progress) (bytes judged later : List ℕ) (bits : List Bool) (n taken : ℕ) → IsProgress u p
@@ -65,20 +63,19 @@ part_refused u p bytes judged later bits n taken h cut whole many fewer few =
     let a = h.held.allowed in
     let c : Coder = coder_at u p [] in
     let len = length-byte_groups s judged n a whole in
-    subst (λ l. StopsFeeding c l bits bits (refusal_at u.limit (p.count + taken))) (sym cut)
-    (stops_before c judged later bits bits (refusal_at u.limit (p.count + taken)) a
-    (refused (refusal_at u.limit (p.count + taken))
-    (refusal-taken_groups s u.limit p.count (byte_groups s judged) (omega (arith, len, many, fewer))
-    ∙ ap (λ k. Some (refusal_at u.limit (p.count + k))) (sym many))
-    (no_bits s bits (samples_with c judged) a (omega (arith, length-append p.held (taken_of c judged).samples, many, few)))))
+    rw cut (stops_before c judged later bits bits (refusal_at u.limit (p.count + taken)) a (refused (refusal_at u.limit (p.count + taken)) (rw (
+      refusal-taken_groups s u.limit p.count (byte_groups s judged) (omega arith),
+      many,
+    )) (no_bits s bits (samples_with c judged) a
+    (omega (arith, length-append p.held (taken_of c judged).samples)))))
 
 -- ---- how long the part is
 
 mul_within : (n m w : ℕ) → n ≤ m / w → n * w ≤ m
-mul_within n m w few = omega (arith, mul-le-mul_right w few, div-mul-le_self m w)
+mul_within n m w few = omega (arith, mul-le-mul_right w few)
 
 length-judged : (s : Settings) (bytes : List ℕ) (n w : ℕ) → w ≡ storage_len s → n ≤ length bytes / w → length (take (n * w) bytes) ≡ n * storage_len s
-length-judged s bytes n w width few = length-take-le (n * w) bytes (mul_within n (length bytes) w few) ∙ ap (λ w. n * w) width
+length-judged s bytes n w width few = rw (length-take-le (n * w) bytes (mul_within n (length bytes) w few), width)
 
 -- how many samples are taken of the first n
 abbrev taken_of_first : Terms → Progress → List ℕ → ℕ → ℕ
@@ -90,7 +87,6 @@ few_of_first u p bytes w n taken h width few many =
     let judged = take (n * w) bytes in
     omega (
       arith,
-      many,
       few_taken_groups u.params u.limit p.count (byte_groups u.params judged),
       length-byte_groups u.params judged n h.held.allowed (length-judged u.params bytes n w width few),
     )
@@ -99,15 +95,14 @@ pub all_of_first : (u : Terms) (p : Progress) (bytes : List ℕ) (w interval hel
     → interval ≡ interval_len u.params → held ≡ length p.held → 0 < n → n ≤ length bytes / w → IsFewOrWhole interval (held + n)
     → taken ≡ taken_of_first u p bytes (n * w) → taken ≡ n → IsPart u p (take (n * w) bytes)
 all_of_first u p bytes w interval held n taken h width long are_held some few fills many all =
-    part_of_taken u p (take (n * w) bytes) n h (length-judged u.params bytes n w width few) some
-    (subst (λ i. IsFewOrWhole i (length p.held + n)) long (subst (λ m. IsFewOrWhole interval (m + n)) are_held fills)) (sym many ∙ all)
+    part_of_taken u p (take (n * w) bytes) n h (length-judged u.params bytes n w width few) some (rw (are_held, long) at fills) (sym many ∙ all)
 
 none_begun : (held n i taken : ℕ) → (0 < held → held + n ≤ i) → i ≤ taken → taken ≤ n → held ≡ 0
 none_begun zero n i taken begun most few = refl
-none_begun (suc held) n i taken begun most few = absurd (omega (arith, begun (omega arith), most, few))
+none_begun (suc held) n i taken begun most few = absurd (omega (arith, begun (omega arith)))
 
 pub front_bytes : (bytes : List ℕ) (w i n taken : ℕ) → n ≤ length bytes / w → taken ≤ n → (taken - taken % i) * w ≤ length bytes
-front_bytes bytes w i n taken few fewer = mul_within (taken - taken % i) (length bytes) w (omega (arith, few, fewer))
+front_bytes bytes w i n taken few fewer = mul_within (taken - taken % i) (length bytes) w (omega arith)
 
 -- of the first n samples, the whole intervals that are taken are a part
 pub front_of_first : (u : Terms) (p : Progress) (bytes : List ℕ) (w interval held n taken : ℕ) → IsProgress u p → w ≡ storage_len u.params
@@ -117,21 +112,20 @@ front_of_first u p bytes w interval held n taken h width long are_held few begun
     let s = u.params in
     let m = taken - taken % interval in
     let judged = take (n * w) bytes in
-    let positive : 0 < interval = omega (arith, long, interval_len-positive s h.held.allowed) in
+    let positive : 0 < interval = omega arith in
     let fewer = few_of_first u p bytes w n taken h width few many in
-    let whole_m : m ≡ taken / interval * interval = omega (arith, div-add-mod' taken interval) in
-    let some : 0 < m = omega (arith, mod_below taken interval positive, most) in
-    let within : m ≤ n = omega (arith, fewer) in
+    let whole_m : m ≡ taken / interval * interval = omega arith in
+    let some : 0 < m = omega arith in
+    let within : m ≤ n = omega arith in
     let front = take-take (m * w) (n * w) bytes (mul-le-mul_right w within) in
-    let all : length p.held + m ≡ taken / interval * interval = omega (arith, none_begun held n interval taken begun most fewer, are_held, whole_m) in
-    let fills : IsFewOrWhole interval (length p.held + m) = inr (ap (λ k. k % interval) all ∙ mul-mod_left (taken / interval) interval) in
+    let all : length p.held + m ≡ taken / interval * interval = omega (arith, none_begun held n interval taken begun most fewer) in
+    let fills : IsFewOrWhole interval (length p.held + m) = inr (rw (all, mul-mod_left)) in
     front_of_taken u p judged (take (m * w) bytes) (drop (m * w) judged) m taken h
-    (sym (take-append-drop (m * w) judged) ∙ ap (λ l. l ++ drop (m * w) judged) front) (length-judged s bytes m w width (omega (arith, within, few)))
-    some (subst (λ i. IsFewOrWhole i (length p.held + m)) long fills) many (omega arith)
+    (cc (take-append-drop (m * w) judged)) (length-judged s bytes m w width (omega arith)) some (rw (← long) fills) many (omega arith)
 
 within_interval : (held n i taken : ℕ) → (0 < held → held + n ≤ i) → taken < n → taken < i → held + taken < i
 within_interval zero n i taken begun fewer below = omega arith
-within_interval (suc held) n i taken begun fewer below = omega (arith, begun (omega arith), fewer)
+within_interval (suc held) n i taken begun fewer below = omega arith
 
 -- if one of the first n samples is refused, in the next interval, the bytes are refused
 pub first_refused : (u : Terms) (p : Progress) (bytes : List ℕ) (bits : List Bool) (w interval held n taken : ℕ) → IsProgress u p
@@ -140,5 +134,4 @@ pub first_refused : (u : Terms) (p : Progress) (bytes : List ℕ) (bits : List B
     → StopsFeeding (coder_at u p []) bytes bits bits (refusal_at u.limit (p.count + taken))
 first_refused u p bytes bits w interval held n taken h width long are_held few begun many fewer below =
     part_refused u p bytes (take (n * w) bytes) (drop (n * w) bytes) bits n taken h (sym (take-append-drop (n * w) bytes))
-    (length-judged u.params bytes n w width few) many fewer
-    (omega (arith, within_interval held n interval taken begun fewer below, are_held, long))
+    (length-judged u.params bytes n w width few) many fewer (omega (arith, within_interval held n interval taken begun fewer below))

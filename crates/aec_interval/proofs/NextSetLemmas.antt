@@ -1,5 +1,5 @@
 -- If a coded data set can come next, the block that it stands for can come next.
-use Rattle.std.proofs.Common.{◌≡◌, ℕ, zero, suc, ◌-◌, ◌%◌, ◌≤◌, true, Option, None, ℤ, List, [], ◌∷◌, take, replicate, refl, ap, ◌∙◌, subst, sub-one, arith}
+use Rattle.std.proofs.Common.{◌≡◌, ℕ, zero, suc, ◌-◌, ◌%◌, ◌≤◌, true, Option, None, ℤ, List, [], ◌∷◌, take, replicate, refl, subst, sub-one, arith}
 use Rattle.std.proofs.Math.Nat.{mod-lt}
 use Rattle.std.proofs.lemmas.Bool.{le-leb}
 use Rattle.aec_params.specs.declared.settings.Settings.{Settings}
@@ -22,7 +22,7 @@ pub single_next : (s : Settings) (i : ℕ) (samples : List ℤ) (reference : Opt
 single_next s i samples reference body b allowed filled shape small one is =
     let p : ℕ = i % s.interval in
     let some = segment_left-some s p (mod-lt i (interval-positive s allowed)) in
-    let within = le-leb (body_blocks s p body) (segment_left s p) (omega (arith, one, some)) in
+    let within = le-leb (body_blocks s p body) (segment_left s p) (omega arith) in
     let at = blocks_in-shape s i reference body allowed shape.reference shape.body small within in
     next_in_place s i samples b allowed filled (subst (AreBlocksFrom s i) is at).0
 
@@ -31,10 +31,9 @@ pub run_front : (s : Settings) (reference : Option ℕ) (z k : ℕ) → 1 ≤ k 
     → take k (zero_block s reference ∷ replicate (z - 1) (zero_block s None)) ≡ run_blocks s reference k
 run_front s reference z zero some within = absurd (omega arith)
 run_front s reference zero (suc k) some within = absurd (omega arith)
-run_front s reference (suc z) (suc k) some within =
-    ap (λ later. zero_block s reference ∷ later) (ap (λ n. take k (replicate n (zero_block s None))) (sub-one (suc z)) ∙ take-replicate z k (omega arith))
+run_front s reference (suc z) (suc k) some within = rw (sub-one, take-replicate z k (omega arith))
   where
     take-replicate : (n k : ℕ) → k ≤ n → take k (replicate n (zero_block s None)) ≡ replicate k (zero_block s None)
     take-replicate n zero within = refl
     take-replicate zero (suc k) within = absurd (omega arith)
-    take-replicate (suc n) (suc k) within = ap (λ later. zero_block s None ∷ later) (take-replicate n k (omega arith))
+    take-replicate (suc n) (suc k) within = rw (take-replicate n k (omega arith))

@@ -1,5 +1,5 @@
 -- Offsets that are noted while a reader passes over intervals.
-use Rattle.std.proofs.Common.{◌≡◌, ℕ, ◌+◌, ◌-◌, ◌*◌, ◌/◌, ◌<◌, ◌≤◌, Bool, true, false, Option, Some, None, IfSome, ℤ, List, [], ◌∷◌, ◌++◌, length, take, get_or, refl, sym, ap, ◌∙◌, subst, arith, ⊎_elim}
+use Rattle.std.proofs.Common.{◌≡◌, ℕ, ◌+◌, ◌-◌, ◌*◌, ◌<◌, ◌≤◌, Bool, true, false, Option, Some, None, IfSome, ℤ, List, [], ◌∷◌, ◌++◌, length, take, get_or, refl, sym, ◌∙◌, subst, arith, ⊎_elim}
 use Rattle.std.specs.Int.{div_ceil}
 use Rattle.std.specs.Option.{is_some}
 use Rattle.std.proofs.Math.Nat.{mul-pos, mul-div_cancel, mul_comm}
@@ -10,11 +10,10 @@ use Rattle.aec_params.specs.declared.fault.Fault.{Fault}
 use Rattle.aec_params.specs.declared.fault.Fault.TheVariants.{Memory}
 use Rattle.aec_params.specs.Params.{IsAllowed, interval_len}
 use Rattle.aec_params.specs.Blocks.{Block}
-use Rattle.aec_params.specs.CodedDataSets.{CodedDataSet}
-use Rattle.aec_params.specs.Reading.{is_wanted, LeadsTo, stream_blocks, kept_blocks, FillBlocks, IsReading}
+use Rattle.aec_params.specs.Reading.{is_wanted, stream_blocks, kept_blocks, FillBlocks, IsReading}
 use Rattle.aec_params.proofs.SettingLaws.{block_size-positive, interval-positive}
 use Rattle.aec_params.proofs.SampleLaws.{interval_len-positive}
-use Rattle.aec_interval.specs.Reached.{LeadsBehindOne, no_memory, wrong_before, count_refusal, RefusesDecoding, unread}
+use Rattle.aec_interval.specs.Reached.{no_memory, wrong_before, count_refusal, RefusesDecoding, unread}
 use Rattle.aec_interval.specs.Pieces.{Place, place_at, is_wanted_at, counted_from, ReadsInterval, HasRead}
 use Rattle.aec_interval.specs.Skipping.{HasInterval, IsFaultAt}
 use Rattle.aec_interval.specs.Offsets.{IsPassed, AreOffsets}
@@ -22,6 +21,7 @@ use Rattle.aec_interval.proofs.CuttingLemmas.{div_ceil-zero, div_ceil-one}
 use Rattle.aec_interval.proofs.StreamLemmas.{div_ceil-add}
 use Rattle.aec_interval.proofs.ReachedLemmas.{length-stream_blocks}
 use Rattle.aec_interval.proofs.PieceReadingLemmas.{before_count, has_read_nothing, has_read_more, has_read_all, has_read_whole, has_read_refused}
+use Rattle.aec_interval.proofs.UntestedLemmas.{behind-one}
 use Rattle.aec_interval.proofs.AloneLemmas.{passed-alone}
 
 -- up to a place, the offsets of all intervals were noted
@@ -39,14 +39,14 @@ module _ (s : Settings) (a : IsAllowed s) (count : Option ℕ) (limit : ℕ) (bi
 
   pub noted-start : (p : Place) (offsets : List ℕ) → p ≡ place_at s count limit bits 0 0 → offsets ≡ [] → HasNoted s count limit bits p offsets
   noted-start p offsets is none =
-      subst (λ p. HasNoted s count limit bits p offsets) (sym is) (subst (HasNoted s count limit bits (place_at s count limit bits 0 0)) (sym none) (record {
+      rw (is, none) (record {
         same = refl;
         samples = [];
         read = has_read_nothing s count limit bits;
         number = div_ceil-zero (interval_len s) (interval_len-positive s a);
         next = λ _. omega arith;
-        each = λ i below. absurd (omega (arith, below));
-      }))
+        each = λ i below. absurd (omega arith);
+      })
 
   -- ---- one interval more
 
@@ -65,14 +65,14 @@ module _ (s : Settings) (a : IsAllowed s) (count : Option ℕ) (limit : ℕ) (bi
             → FillBlocks s all (kept_blocks s count i (stream_blocks s i step.piece.sets))
             → ys ≡ counted_from s count i all → 0 < length ys
         by_count None wanted all filled is =
-            let some : 0 < length blocks * s.block_size = mul-pos (omega (arith, stream-len, step.ahead)) (block_size-positive s a) in
-            omega (arith, ap length is, filled.whole, some)
+            let some : 0 < length blocks * s.block_size = mul-pos (omega (arith, stream-len)) (block_size-positive s a) in
+            grind arith
         by_count (Some n) wanted all filled is =
             let below = ltb-true i (div_ceil n s.block_size) wanted in
             let kept = length-take (div_ceil n s.block_size - i) blocks in
             let some : 0 < length (take (div_ceil n s.block_size - i) blocks) * s.block_size =
-            mul-pos (omega (arith, stream-len, step.ahead, kept, below)) (block_size-positive s a) in
-            omega (arith, ap length is, length-take (n - i * s.block_size) all, filled.whole, some, before_count s n i a below)
+            mul-pos (omega (arith, stream-len, kept, below)) (block_size-positive s a) in
+            grind (arith, length-take, before_count)
 
     module _ (offsets : List ℕ) (noted : HasNoted s count limit bits (place_at s count limit bits i b) offsets) where
       block-is : i ≡ length offsets * s.interval
@@ -80,30 +80,31 @@ module _ (s : Settings) (a : IsAllowed s) (count : Option ℕ) (limit : ℕ) (bi
 
       whole : length noted.samples ≡ length offsets * interval_len s
       whole =
-          has_read_whole (place_at s count limit bits i b) noted.samples a noted.read step.wanted step.begins
-          ∙ ap (λ n. n * interval_len s) (ap (λ n. n / s.interval) block-is ∙ mul-div_cancel (length offsets) (interval-positive s a))
+          rw (
+            has_read_whole (place_at s count limit bits i b) noted.samples a noted.read step.wanted step.begins,
+            block-is,
+            mul-div_cancel (length offsets) (interval-positive s a),
+          )
 
       one_more : div_ceil (length (noted.samples ++ ys)) (interval_len s) ≡ length (offsets ++ b ∷ [])
       one_more =
-          let both : length (noted.samples ++ ys) ≡ interval_len s * length offsets + length ys =
-          length-append noted.samples ys ∙ ap (λ n. n + length ys) (whole ∙ mul_comm (length offsets) (interval_len s)) in
-          ap (λ n. div_ceil n (interval_len s)) both ∙ div_ceil-add (length offsets) (length ys) (interval_len s) (interval_len-positive s a)
-          ∙ omega (arith, div_ceil-one (length ys) (interval_len s) step-some step.few, length-append offsets (b ∷ []))
+          let both : length (noted.samples ++ ys) ≡ interval_len s * length offsets + length ys = rw (length-append, whole, mul_comm) in
+          rw both (div_ceil-add (length offsets) (length ys) (interval_len s) (interval_len-positive s a)
+          ∙ omega (arith, div_ceil-one (length ys) (interval_len s) step-some step.few, length-append offsets (b ∷ [])))
 
       each_more : (k : ℕ) → k < length (offsets ++ b ∷ []) → IsPassed s count limit bits (k * s.interval) (get_or (offsets ++ b ∷ []) k 0)
       each_more k below = ⊎_elim earlier last (cases_lt k (length offsets))
         where
           earlier : k < length offsets → IsPassed s count limit bits (k * s.interval) (get_or (offsets ++ b ∷ []) k 0)
-          earlier h = subst (IsPassed s count limit bits (k * s.interval)) (sym (get_or_append_left offsets (b ∷ []) 0 k h)) (noted.each k h)
+          earlier h = rw get_or_append_left (noted.each k h)
 
           here : IsPassed s count limit bits i b
           here = record { sets = noted.read.sets; leads = noted.read.leads; wanted = step.wanted; begins = step.begins }
 
           last : length offsets ≤ k → IsPassed s count limit bits (k * s.interval) (get_or (offsets ++ b ∷ []) k 0)
           last h =
-              let is : length offsets ≡ k = omega (arith, h, below, length-append offsets (b ∷ [])) in
-              subst (IsPassed s count limit bits (k * s.interval)) (sym (get_or_push offsets b 0 k is))
-              (subst (λ n. IsPassed s count limit bits n b) (block-is ∙ ap (λ n. n * s.interval) is) here)
+              let is : length offsets ≡ k = omega (arith, length-append offsets (b ∷ [])) in
+              rw (get_or_push offsets) (rw (block-is, is) at here)
 
       noted-step : HasNoted s count limit bits (place_at s count limit bits j e) (offsets ++ b ∷ [])
       noted-step = record {
@@ -111,8 +112,7 @@ module _ (s : Settings) (a : IsAllowed s) (count : Option ℕ) (limit : ℕ) (bi
         samples = noted.samples ++ ys;
         read = has_read_more (place_at s count limit bits i b) (place_at s count limit bits j e) noted.samples ys a noted.read step;
         number = one_more;
-        next = λ wanted. step.to_end wanted ∙ (ap (λ n. n + s.interval) block-is ∙ (one_longer (length offsets) s.interval
-            ∙ ap (λ n. n * s.interval) (sym (length-append offsets (b ∷ [])))));
+        next = λ wanted. rw (step.to_end wanted, block-is, one_longer, length-append);
         each = each_more;
       }
         where
@@ -123,22 +123,17 @@ module _ (s : Settings) (a : IsAllowed s) (count : Option ℕ) (limit : ℕ) (bi
       → pushed ≡ offsets ++ b ∷ [] → HasNoted s count limit bits q pushed
   noted-more p q len b offsets pushed noted has is push =
       let from = noted.same in
-      let to : q ≡ place_at s count limit bits q.block q.bit =
-      has.read.piece.same ∙ ap (λ (p : Place). place_at p.settings p.count p.limit p.bits q.block q.bit) from in
-      let step = subst (λ q. ReadsInterval (place_at s count limit bits p.block p.bit) has.samples q) to
-      (subst (λ p. ReadsInterval p has.samples q) from has.read) in
-      let before = subst (λ p. HasNoted s count limit bits p offsets) from noted in
-      subst (HasNoted s count limit bits q) (sym (push ∙ ap (λ b. offsets ++ b ∷ []) is))
-      (subst (λ q. HasNoted s count limit bits q (offsets ++ p.bit ∷ [])) (sym to)
-      (noted-step p.block p.bit has.samples q.block q.bit step offsets before))
+      let to : q ≡ place_at s count limit bits q.block q.bit = rw (has.read.piece.same, from) in
+      let step = rw (from, to) at has.read in
+      let before = rw from at noted in
+      rw (push, is, to) (noted-step p.block p.bit has.samples q.block q.bit step offsets before)
 
   -- ---- the end
 
   pub noted-all : (p : Place) (offsets : List ℕ) → HasNoted s count limit bits p offsets → is_wanted_at p ≡ false → AreOffsets s count limit bits offsets
   noted-all p offsets noted done =
       let reading : IsReading s count limit bits noted.samples =
-      has_read_all (place_at s count limit bits p.block p.bit) noted.samples a (subst (λ p. HasRead p noted.samples) noted.same noted.read)
-      (subst (λ p. is_wanted_at p ≡ false) noted.same done) in
+      has_read_all (place_at s count limit bits p.block p.bit) noted.samples a (rw noted.same at noted.read) (rw noted.same at done) in
       record {
         samples = noted.samples;
         reading = reading;
@@ -152,27 +147,17 @@ module _ (s : Settings) (a : IsAllowed s) (count : Option ℕ) (limit : ℕ) (bi
   pub noted-refused : (p : Place) (offsets : List ℕ) (fault : Fault) → HasNoted s count limit bits p offsets → None ≡ count_refusal limit count
       → IsFaultAt p fault → RefusesDecoding s count limit bits fault
   noted-refused p offsets fault noted none wrong =
-      let there = subst (λ p. IsFaultAt p fault) noted.same wrong in
+      let there = rw noted.same at wrong in
       unread fault (sym none) (has_read_refused (place_at s count limit bits p.block p.bit) noted.samples fault a
-      (subst (λ p. HasRead p noted.samples) noted.same noted.read) (wrong_before fault there.wrong there.before))
+      (rw noted.same at noted.read) (wrong_before fault there.wrong there.before))
 
   -- after a first interval at least one coded data set was read
-  snoc : (c : CodedDataSet) (sets : List CodedDataSet) → (front : List CodedDataSet) × (last : CodedDataSet) × (c ∷ sets ≡ front ++ (last ∷ []))
-  snoc c [] = ([], c, refl)
-  snoc c (d ∷ sets) = let r = snoc d sets in (c ∷ r.0, r.1, ap (λ l. c ∷ l) r.2)
-
-  behind_one : (sets : List CodedDataSet) (j e : ℕ) → LeadsTo s count limit bits 0 0 sets j e → 0 < j → LeadsBehindOne s count limit bits 0 0
-  behind_one [] j e leads ahead = absurd (omega (arith, ahead, leads.0))
-  behind_one (c ∷ sets) j e leads ahead =
-      let r = snoc c sets in
-      record { sets = r.0; last = r.1; block = j; bit = e; leads = subst (λ l. LeadsTo s count limit bits 0 0 l j e) r.2 leads }
-
   pub noted-memory : (p q : Place) (len : ℕ) (offsets : List ℕ) → HasNoted s count limit bits p offsets → HasInterval p len q → None ≡ count_refusal limit count
       → RefusesDecoding s count limit bits Memory
   noted-memory p q len offsets noted has none =
       let more = noted-more p q len p.bit offsets (offsets ++ p.bit ∷ []) noted has refl refl in
       let read = subst (λ q. HasRead q more.samples) more.same more.read in
-      unread Memory (sym none) (no_memory (behind_one read.sets q.block q.bit read.leads (omega (arith, has.read.ahead))))
+      unread Memory (sym none) (no_memory (behind-one s count limit bits 0 0 read.sets q.block q.bit read.leads (omega arith)).0)
 
 pub found_interval : (p q : Place) (found : Option ℕ) → IfSome found (λ len. HasInterval p len q) → is_some found ≡ true → (len : ℕ) × HasInterval p len q
 found_interval p q None has some = absurd (cc)

@@ -1,6 +1,6 @@
 -- Bits always have a reading or a fault: the walk goes on until no coded data set is wanted or
 -- something is wrong.
-use Rattle.std.proofs.Common.{◌≡◌, ℕ, zero, suc, ◌+◌, ◌-◌, ◌^◌, ◌%◌, ◌<◌, ◌≤◌, min, Bool, true, false, Option, List, [], ◌∷◌, ◌++◌, length, drop, refl, sym, ap, ◌∙◌, arith, inl, inr, ◌⊎◌, ⊎_elim}
+use Rattle.std.proofs.Common.{◌≡◌, ℕ, zero, suc, ◌+◌, ◌%◌, ◌<◌, ◌≤◌, min, Bool, true, false, Option, List, [], ◌∷◌, ◌++◌, length, drop, refl, arith, inl, inr, ◌⊎◌, ⊎_elim}
 use Rattle.std.specs.Prelude.{◌==◌, ◌&&◌}
 use Rattle.std.specs.Int.{next_multiple_of}
 use Rattle.std.proofs.lemmas.List.{length-append, length-drop, drop_at, drop-drop}
@@ -8,7 +8,7 @@ use Rattle.std.proofs.lemmas.Bool.{cases_Bool, cond_both}
 use Rattle.aec_params.specs.declared.settings.Settings.{Settings}
 use Rattle.aec_params.specs.declared.fault.Fault.{Fault}
 use Rattle.aec_params.specs.declared.fault.Fault.TheVariants.{Truncated, ValueTooLarge, RunTooLong, TooManySamples}
-use Rattle.aec_params.specs.Params.{IsAllowed, id_len}
+use Rattle.aec_params.specs.Params.{IsAllowed}
 use Rattle.aec_params.specs.Blocks.{Block}
 use Rattle.aec_params.specs.CodedDataSets.{Body, uncompressed_values, value_pairs, split_values, zero_blocks, CodedDataSet, cds_bits, identifier, reference_bits, body_bits, has_small_values}
 use Rattle.aec_params.specs.Places.{stays_in_segment, is_reference_block, IsLawfulAt}
@@ -22,24 +22,20 @@ use Rattle.aec_block.proofs.SetLemmas.{id_len-positive, what_is_read_is_spelled,
 -- ---- a coded data set has at least one bit, so the walk moves forward
 
 identifier-positive : (s : Settings) (body : Body) → 0 < length (identifier s body)
-identifier-positive s (uncompressed_values values) = omega (arith, length-binary (id_len s) (2 ^ id_len s - 1), id_len-positive s)
-identifier-positive s (value_pairs values) = omega (arith, length-binary (id_len s + 1) 1)
-identifier-positive s (split_values k values) = omega (arith, length-binary (id_len s) (k + 1), id_len-positive s)
-identifier-positive s (zero_blocks m) = omega (arith, length-binary (id_len s + 1) 0)
+identifier-positive s (uncompressed_values values) = omega (arith, length-binary, id_len-positive)
+identifier-positive s (value_pairs values) = omega (arith, length-binary)
+identifier-positive s (split_values k values) = omega (arith, length-binary, id_len-positive)
+identifier-positive s (zero_blocks m) = omega (arith, length-binary)
 
 pub length-cds_bits-positive : (s : Settings) (c : CodedDataSet) → 0 < length (cds_bits s c)
-length-cds_bits-positive s c = omega (
-  arith,
-  length-append (identifier s c.body) (reference_bits s c.reference ++ body_bits s c.body),
-  identifier-positive s c.body,
-)
+length-cds_bits-positive s c =
+    omega (arith, length-append (identifier s c.body) (reference_bits s c.reference ++ body_bits s c.body), identifier-positive s c.body)
 
 -- a coded data set that is at a position ends within the bits
 pub stands-within : (s : Settings) (bits : List Bool) (b : ℕ) (c : CodedDataSet) → StandsAt s bits b c → b + length (cds_bits s c) ≤ length bits
 stands-within s bits b c h =
-    omega (
+    grind (
       arith,
-      ap length h,
       length-append (cds_bits s c) (drop (b + length (cds_bits s c)) bits),
       length-drop b bits,
       length-drop (b + length (cds_bits s c)) bits,
@@ -74,9 +70,8 @@ set_or_none s t bits b a = ⊎_elim none (λ r. some r.0 r.1.0 r.1.1) (cases_tak
     some : (c : CodedDataSet) (rest : List Bool) → cds_at s t (drop b bits) ≡ taken c rest → Answer
     some c rest e =
         let h = what_is_read_is_spelled s a t (drop b bits) c rest e in
-        let behind : drop (b + length (cds_bits s c)) bits ≡ rest =
-        sym (drop-drop (length (cds_bits s c)) b bits) ∙ ap (drop (length (cds_bits s c))) h.1 ∙ drop_at (cds_bits s c) rest (length (cds_bits s c)) refl in
-        inl (c, record { shape = h.0; stands = h.1 ∙ ap (◌++◌ (cds_bits s c)) (sym behind) })
+        let behind : drop (b + length (cds_bits s c)) bits ≡ rest = rw (← drop-drop, h.1, drop_at) in
+        inl (c, record { shape = h.0; stands = rw (h.1, behind) })
 
 -- ---- the walk
 
@@ -129,7 +124,7 @@ module _ (s : Settings) (a : IsAllowed s) (count : Option ℕ) (limit : ℕ) (bi
   outcome_within : (fuel i b : ℕ) → length bits < b + fuel → Outcome i b
   outcome_within zero i b h = step i b (λ c at. absurd (omega (arith, next_begin-ahead s bits i b c at.stands)))
   outcome_within (suc fuel) i b h =
-      step i b (λ c at. outcome_within fuel (next_block s i c) (next_begin s bits i b c) (omega (arith, next_begin-ahead s bits i b c at.stands)))
+      step i b (λ c at. outcome_within fuel (next_block s i c) (next_begin s bits i b c) (omega (arith, next_begin-ahead)))
 
   -- each place has a reading or a fault
   pub outcome : (i b : ℕ) → Outcome i b

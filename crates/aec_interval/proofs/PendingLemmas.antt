@@ -1,11 +1,11 @@
 -- A run that is still to be written: a block follows it that isn't all zeros, or its segment ends.
-use Rattle.std.proofs.Common.{◌≡◌, ℕ, zero, suc, Bool, true, false, Option, None, List, [], ◌∷◌, ◌++◌, if◌then◌else◌, length, take, sym, ap, ◌∙◌, refl, append-nil, append_assoc}
+use Rattle.std.proofs.Common.{◌≡◌, ℕ, zero, suc, Bool, true, false, Option, None, List, [], ◌∷◌, ◌++◌, refl, append-nil, append_assoc}
 use Rattle.std.specs.List.{flat_map}
 use Rattle.std.proofs.lemmas.List.{take_at}
 use Rattle.aec_params.specs.declared.settings.Settings.{Settings}
 use Rattle.aec_params.specs.Blocks.{Block, is_zero_block}
 use Rattle.aec_params.specs.CodedDataSets.{cds_bits}
-use Rattle.aec_params.specs.Runs.{Group, single_block, with_zero_block, groups_of}
+use Rattle.aec_params.specs.Runs.{Group, single_block, groups_of}
 use Rattle.aec_params.specs.Intervals.{group_sets}
 use Rattle.aec_block.specs.Written.{shortest_bits}
 use Rattle.aec_interval.specs.declared.interval.pending_run.Run.{Run}
@@ -31,14 +31,9 @@ pub pending-filled : (s : Settings) (run : Run) (b : Block) (rest : List Block) 
 pending-filled s run b rest old mid new filled is_mid is_new =
     let before = bits_of_run s run.reference run.blocks false in
     let more = flat_map (cds_bits s) (group_sets s (groups_of rest)) in
-    ap (λ l. l ++ more) (is_new ∙ ap (λ l. l ++ shortest_bits s b) is_mid)
-    ∙ (append_assoc (old ++ before) (shortest_bits s b) more
-    ∙ (append_assoc old before (shortest_bits s b ++ more)
-    ∙ ap (λ l. old ++ l) (sym (bits-run_before s run.reference run.blocks b (groups_of rest))
-    ∙ ap (λ g. flat_map (cds_bits s) (group_sets s (with_run run.reference run.blocks g))) (sym
-    (ap (λ t. if t then with_zero_block b.reference (groups_of rest) else single_block b ∷ groups_of rest) filled)))))
+    rw (is_new, is_mid, append_assoc, append_assoc, filled, bits-run_before)
 
 -- ---- bits that are kept
 
 pub kept-append : (bits more new : List Bool) → new ≡ bits ++ more → IsKept bits new
-kept-append bits more new e = ap (take (length bits)) e ∙ take_at bits more (length bits) refl
+kept-append bits more new e = rw (e, take_at)

@@ -1,10 +1,9 @@
 -- Steps of a reading, one after the other, are the whole reading; the refusal of a step is a
 -- refusal of the whole.
-use Rattle.std.proofs.Common.{◌≡◌, ℕ, ◌+◌, ◌-◌, ◌*◌, ◌/◌, ◌%◌, ◌<◌, ◌≤◌, Bool, true, false, Option, Some, None, ℤ, List, [], ◌∷◌, ◌++◌, length, take, drop, refl, sym, ap, ap₂, ◌∙◌, subst, arith, append-nil, append_assoc, ⊎_elim}
+use Rattle.std.proofs.Common.{◌≡◌, ℕ, ◌+◌, ◌-◌, ◌*◌, ◌/◌, ◌%◌, ◌<◌, ◌≤◌, Bool, true, false, Option, Some, None, ℤ, List, [], ◌∷◌, ◌++◌, length, take, drop, refl, sym, ap, ◌∙◌, arith, append-nil, append_assoc, ⊎_elim}
 use Rattle.std.specs.Int.{div_ceil}
-use Rattle.std.specs.List.{AllByRecursion, flat_map}
+use Rattle.std.specs.List.{AllByRecursion}
 use Rattle.std.proofs.Math.Nat.{mul-le-mul_right}
-use Rattle.std.proofs.lemmas.Nat.{div-add-mod'}
 use Rattle.std.proofs.lemmas.Bool.{ltb-true, cases_Bool}
 use Rattle.std.proofs.lemmas.List.{length-take, length-append, take_all, take_at, take-append-drop}
 use Rattle.std.proofs.lemmas.List.Concat.{flat_map-append}
@@ -12,8 +11,8 @@ use Rattle.aec_params.specs.declared.settings.Settings.{Settings}
 use Rattle.aec_params.specs.declared.fault.Fault.{Fault}
 use Rattle.aec_params.specs.declared.fault.Fault.TheVariants.{Memory}
 use Rattle.aec_params.specs.Params.{IsAllowed, IsHeld, interval_len}
-use Rattle.aec_params.specs.Cutting.{pieces_of}
-use Rattle.aec_params.specs.Blocks.{Block, blocks_of, all_blocks_of}
+use Rattle.aec_params.specs.CodedDataSets.{CodedDataSet}
+use Rattle.aec_params.specs.Blocks.{Block, all_blocks_of}
 use Rattle.aec_params.specs.Reading.{is_wanted, LeadsTo, stream_blocks, kept_blocks, IsBlockReading, FillBlocks, counted_samples, IsReading}
 use Rattle.aec_params.specs.Faults.{IsFault}
 use Rattle.aec_params.proofs.ReadingLaws.{FillBlocks-one_to_one}
@@ -24,54 +23,47 @@ use Rattle.aec_interval.specs.Reached.{RefusesReading, no_memory, faulty}
 use Rattle.aec_interval.specs.Pieces.{Place, place_at, is_wanted_at, counted_from, ReadsPiece, ReadsInterval, ReadsIntervals, HasRead, RefusesAt}
 use Rattle.aec_interval.specs.PieceLaws.{AllStepsAreTheReading}
 use Rattle.aec_interval.proofs.CuttingLemmas.{div_ceil-bounds, div_ceil-times}
-use Rattle.aec_interval.proofs.BlockLemmas.{all_left}
-use Rattle.aec_interval.proofs.PlaceLemmas.{LeadsTo-append, stream_blocks-append}
+use Rattle.aec_interval.proofs.BlockLemmas.{all-append, all_left}
+use Rattle.aec_interval.proofs.PlaceLemmas.{LeadsTo-append}
 use Rattle.aec_interval.proofs.RoundTripLemmas.{length-all_blocks_of}
 use Rattle.aec_interval.proofs.WalkLemmas.{same_blocks, no_reading_and_fault}
 use Rattle.aec_interval.proofs.OutcomeLemmas.{outcome}
 use Rattle.aec_interval.proofs.ReadingLemmas.{bits_are_read_in_one_way}
-use Rattle.aec_interval.proofs.ReachedLemmas.{length-stream_blocks, take-append-past, kept_blocks-append, kept_blocks-wanted}
+use Rattle.aec_interval.proofs.ReachedLemmas.{length-stream_blocks, take-append-past, kept_blocks-wanted, kept_blocks-joined}
 use Rattle.aec_interval.proofs.ReadNextLemmas.{reached-start}
 use Rattle.aec_interval.proofs.UpToLemmas.{up_to-reading}
 
 -- ---- whole intervals of samples
 
-all_both : {X : Type 0} (P : X → Type 0) (xs ys : List X) → AllByRecursion P xs → AllByRecursion P ys → AllByRecursion P (xs ++ ys)
-all_both P [] ys h k = k
-all_both P (x ∷ xs) ys h k = (h.0, all_both P xs ys h.1 k)
-
 -- the samples of i blocks fill whole intervals, if i is a multiple of r
 pub whole_intervals : (s : Settings) (i len : ℕ) → i % s.interval ≡ 0 → len ≡ i * s.block_size → len ≡ i / s.interval * interval_len s
-whole_intervals s i len begins is =
-    is ∙ ap (λ n. n * s.block_size) (omega (arith, div-add-mod' i s.interval, begins)) ∙ regrouped (i / s.interval) s.interval s.block_size
+whole_intervals s i len begins is = is ∙ ap (λ n. n * s.block_size) (omega arith) ∙ regrouped (i / s.interval) s.interval s.block_size
   where
     regrouped : (k r j : ℕ) → k * r * j ≡ k * (j * r)
     regrouped k r j = omega arith
 
 pub all_blocks_of-append : (s : Settings) (k : ℕ) (front back : List ℤ) → IsAllowed s → length front ≡ k * interval_len s
     → all_blocks_of s (front ++ back) ≡ all_blocks_of s front ++ all_blocks_of s back
-all_blocks_of-append s k front back a whole =
-    ap (flat_map (blocks_of s)) (pieces_of-append (interval_len s) k front back (interval_len-positive s a) whole)
-    ∙ flat_map-append (blocks_of s) (pieces_of (interval_len s) front) (pieces_of (interval_len s) back)
+all_blocks_of-append s k front back a whole = rw (pieces_of-append (interval_len s) k front back (interval_len-positive s a), flat_map-append)
 
 pub FillBlocks-append : (s : Settings) (k : ℕ) (front back : List ℤ) (bs cs : List Block) → IsAllowed s → length front ≡ k * interval_len s
     → FillBlocks s front bs → FillBlocks s back cs → FillBlocks s (front ++ back) (bs ++ cs)
 FillBlocks-append s k front back bs cs a whole first second = record {
-  held = all_both (IsHeld s) front back first.held second.held;
+  held = all-append (IsHeld s) front back first.held second.held;
   whole = both (length bs) (length cs) s.block_size (length front) (length back) first.whole second.whole (length-append front back) (length-append bs cs);
-  mapped = all_blocks_of-append s k front back a whole ∙ ap₂ ◌++◌ first.mapped second.mapped;
+  mapped = rw (all_blocks_of-append s k, first.mapped, second.mapped);
 }
   where
     both : (m n j x y : ℕ) {t u : ℕ} → x ≡ m * j → y ≡ n * j → t ≡ x + y → u ≡ m + n → t ≡ u * j
-    both m n j x y {t} {u} h k e f = omega (arith, h, k, e, ap (λ u. u * j) f)
+    both m n j x y {t} {u} h k e f = grind arith
 
 -- samples that fill blocks, cut where an interval begins
 pub FillBlocks-front : (s : Settings) (i : ℕ) (samples : List ℤ) (bs cs : List Block) → IsAllowed s → i % s.interval ≡ 0 → length bs ≡ i
     → FillBlocks s samples (bs ++ cs) → FillBlocks s (take (i * s.block_size) samples) bs
 FillBlocks-front s i samples bs cs a begins count filled = record {
-  held = all_left (IsHeld s) front back (subst (AllByRecursion (IsHeld s)) (sym cut) filled.held);
-  whole = len ∙ ap (λ n. n * s.block_size) (sym count);
-  mapped = sym (take_at (all_blocks_of s front) (all_blocks_of s back) i blocks) ∙ (ap (take i) together ∙ take_at bs cs i count);
+  held = all_left (IsHeld s) front back (rw cut filled.held);
+  whole = rw (len, count);
+  mapped = rw (← (take_at (all_blocks_of s front) (all_blocks_of s back) i blocks), together, take_at);
 }
   where
     front : List ℤ
@@ -84,30 +76,29 @@ FillBlocks-front s i samples bs cs a begins count filled = record {
     cut = take-append-drop (i * s.block_size) samples
 
     enough : (i n m j : ℕ) → m ≡ i + n → i * j ≤ m * j
-    enough i n m j e = mul-le-mul_right j (omega (arith, e))
+    enough i n m j e = mul-le-mul_right j (omega arith)
 
     len : length front ≡ i * s.block_size
-    len = omega (
-      arith,
-      length-take (i * s.block_size) samples,
-      filled.whole,
-      enough i (length cs) (length (bs ++ cs)) s.block_size (length-append bs cs ∙ ap (λ n. n + length cs) count),
-    )
+    len =
+        omega (
+          arith,
+          length-take (i * s.block_size) samples,
+          enough i (length cs) (length (bs ++ cs)) s.block_size (length-append bs cs ∙ ap (λ n. n + length cs) count),
+        )
 
     blocks : length (all_blocks_of s front) ≡ i
-    blocks = length-all_blocks_of s a front ∙ ap (λ n. div_ceil n s.block_size) len ∙ div_ceil-times i s.block_size (block_size-positive s a)
+    blocks = rw (length-all_blocks_of, len, div_ceil-times i s.block_size (block_size-positive s a))
 
     together : all_blocks_of s front ++ all_blocks_of s back ≡ bs ++ cs
-    together = sym (all_blocks_of-append s (i / s.interval) front back a (whole_intervals s i (length front) begins len))
-        ∙ (ap (all_blocks_of s) cut ∙ filled.mapped)
+    together = rw (← (all_blocks_of-append s (i / s.interval) front back a (whole_intervals s i (length front) begins len)), cut) filled.mapped
 
 -- ---- samples that are asked for
 
 -- a block that is needed begins before the count
 pub before_count : (s : Settings) (count i : ℕ) → IsAllowed s → i < div_ceil count s.block_size → i * s.block_size < count
 before_count s count i a below =
-    let next : (i + 1) * s.block_size ≤ div_ceil count s.block_size * s.block_size = mul-le-mul_right s.block_size (omega (arith, below)) in
-    omega (arith, next, one_more i s.block_size, div_ceil-bounds count s.block_size (block_size-positive s a))
+    let next : (i + 1) * s.block_size ≤ div_ceil count s.block_size * s.block_size = mul-le-mul_right s.block_size (omega arith) in
+    omega (arith, one_more i s.block_size, div_ceil-bounds count s.block_size (block_size-positive s a))
   where
     one_more : (i j : ℕ) → (i + 1) * j ≡ i * j + j
     one_more i j = omega arith
@@ -116,13 +107,60 @@ counted-start : (s : Settings) (count : Option ℕ) (samples : List ℤ) → cou
 counted-start s None samples = refl
 counted-start s (Some count) samples = ap (λ n. take n samples) (omega arith)
 
+-- ---- behind coded data sets from the first bit on
+
+module _ (s : Settings) (a : IsAllowed s) (count : Option ℕ) (limit : ℕ) (bits : List Bool) (i b : ℕ) (sets : List CodedDataSet)
+    (leads : LeadsTo s count limit bits 0 0 sets i b) where
+  pub blocks-before : length (stream_blocks s 0 sets) ≡ i
+  blocks-before = omega (arith, length-stream_blocks s count limit bits 0 0 sets i b (interval-positive s a) leads)
+
+  pub fault-behind : (fault : Fault) → IsFault s count limit bits i b fault → IsFault s count limit bits 0 0 fault
+  fault-behind fault h = record {
+    sets = sets ++ h.sets;
+    block = h.block;
+    bit = h.bit;
+    leads = LeadsTo-append s count limit bits 0 0 sets i b h.sets h.block h.bit leads h.leads;
+    wanted = h.wanted;
+    wrong = h.wrong;
+  }
+
+  -- if more is wanted there, and all bits have a reading, it goes on from there
+  module _ (wanted : is_wanted s count bits i b ≡ true) (samples : List ℤ) (whole : IsReading s count limit bits samples) where
+    pub record IsRest : Type 0 where
+      pub later : List Block
+      pub read : IsBlockReading s count limit bits i b later
+      pub filled : FillBlocks s whole.all_samples (stream_blocks s 0 sets ++ later)
+
+    rest-of : (later : List Block) → IsBlockReading s count limit bits i b later → IsRest
+    rest-of later h = record {
+      later = later;
+      read = h;
+      filled = rw (same_blocks s a count limit bits 0 0 whole.blocks (stream_blocks s 0 sets ++ later) whole.read both) at whole.filled;
+    }
+      where
+        both : IsBlockReading s count limit bits 0 0 (stream_blocks s 0 sets ++ later)
+        both = record {
+          sets = sets ++ h.sets;
+          end_block = h.end_block;
+          end_bit = h.end_bit;
+          leads = LeadsTo-append s count limit bits 0 0 sets i b h.sets h.end_block h.end_bit leads h.leads;
+          done = h.done;
+          kept = rw (kept_blocks-joined s count limit bits 0 0 sets i b, h.kept);
+        }
+
+    pub the_rest : IsRest
+    the_rest = ⊎_elim (λ r. rest-of r.0 r.1)
+        (λ f. absurd (no_reading_and_fault s a count limit bits 0 0 whole.blocks f.0 whole.read (fault-behind f.0 f.1))) (outcome s a count limit bits i b)
+
+-- ---- behind samples that were read
+
 module _ (s : Settings) (a : IsAllowed s) (count : Option ℕ) (limit : ℕ) (bits : List Bool) (i b : ℕ) (xs : List ℤ)
     (read : HasRead (place_at s count limit bits i b) xs) where
   abbrev before : List Block
   before = stream_blocks s 0 read.sets
 
   before-count : length before ≡ i
-  before-count = omega (arith, length-stream_blocks s count limit bits 0 0 read.sets i b (interval-positive s a) read.leads)
+  before-count = blocks-before s a count limit bits i b read.sets read.leads
 
   -- ---- if no more is wanted
 
@@ -137,15 +175,8 @@ module _ (s : Settings) (a : IsAllowed s) (count : Option ℕ) (limit : ℕ) (bi
 
   -- ---- a refusal
 
-  fault-of_all : (fault : Fault) → IsFault s count limit bits i b fault → IsFault s count limit bits 0 0 fault
-  fault-of_all fault h = record {
-    sets = read.sets ++ h.sets;
-    block = h.block;
-    bit = h.bit;
-    leads = LeadsTo-append s count limit bits 0 0 read.sets i b h.sets h.block h.bit read.leads h.leads;
-    wanted = h.wanted;
-    wrong = h.wrong;
-  }
+  pub fault-of_all : (fault : Fault) → IsFault s count limit bits i b fault → IsFault s count limit bits 0 0 fault
+  fault-of_all = fault-behind s a count limit bits i b read.sets read.leads
 
   pub refusal-of_all : (fault : Fault) → RefusesReading s count limit bits i b fault → RefusesReading s count limit bits 0 0 fault
   refusal-of_all fault (faulty f wrong) = faulty f (fault-of_all f wrong)
@@ -154,8 +185,7 @@ module _ (s : Settings) (a : IsAllowed s) (count : Option ℕ) (limit : ℕ) (bi
     last = h.last;
     block = h.block;
     bit = h.bit;
-    leads = subst (λ sets. LeadsTo s count limit bits 0 0 sets h.block h.bit) (sym (append_assoc read.sets h.sets (h.last ∷ [])))
-        (LeadsTo-append s count limit bits 0 0 read.sets i b (h.sets ++ (h.last ∷ [])) h.block h.bit read.leads h.leads);
+    leads = rw append_assoc (LeadsTo-append s count limit bits 0 0 read.sets i b (h.sets ++ (h.last ∷ [])) h.block h.bit read.leads h.leads);
   })
 
   -- if all bits have a reading, only memory can be missing
@@ -170,73 +200,59 @@ module _ (s : Settings) (a : IsAllowed s) (count : Option ℕ) (limit : ℕ) (bi
     kept-before = kept_blocks-wanted s count bits 0 i b before (omega (arith, before-count)) wanted
 
     all_filled : FillBlocks s read.all_samples before
-    all_filled = subst (FillBlocks s read.all_samples) kept-before read.filled
+    all_filled = rw kept-before at read.filled
 
     all-len : length read.all_samples ≡ i * s.block_size
-    all-len = all_filled.whole ∙ ap (λ n. n * s.block_size) before-count
+    all-len = rw (all_filled.whole, before-count)
 
     all-asked : (count : Option ℕ) → is_wanted s count bits i b ≡ true → counted_from s count 0 read.all_samples ≡ read.all_samples
     all-asked None wanted = refl
     all-asked (Some n) wanted =
         let below = before_count s n i a (ltb-true i (div_ceil n s.block_size) wanted) in
-        take_all (n - 0 * s.block_size) read.all_samples (omega (arith, all-len, below))
+        take_all (n - 0 * s.block_size) read.all_samples (omega (arith, all-len))
 
     xs-all : xs ≡ read.all_samples
     xs-all = read.counted ∙ all-asked count wanted
 
     xs-filled : FillBlocks s xs before
-    xs-filled = subst (λ l. FillBlocks s l before) (sym xs-all) all_filled
+    xs-filled = rw xs-all all_filled
 
     xs-len : length xs ≡ i * s.block_size
-    xs-len = ap length xs-all ∙ all-len
+    xs-len = rw xs-all all-len
 
     counted-behind : (count : Option ℕ) (more : List ℤ) → is_wanted s count bits i b ≡ true
         → xs ++ counted_from s count i more ≡ counted_samples count (xs ++ more)
     counted-behind None more wanted = refl
     counted-behind (Some n) more wanted =
         let below = before_count s n i a (ltb-true i (div_ceil n s.block_size) wanted) in
-        ap (λ k. xs ++ take (n - k) more) (sym xs-len) ∙ sym (take-append-past n xs more (omega (arith, xs-len, below)))
+        rw (take-append-past n xs more (omega (arith, xs-len)), xs-len)
 
     module _ (begins : i % s.interval ≡ 0) where
       pub intervals : length xs ≡ i / s.interval * interval_len s
       intervals = whole_intervals s i (length xs) begins xs-len
 
       pub read-more : (ys : List ℤ) (q : Place) → ReadsPiece (place_at s count limit bits i b) ys q → HasRead q (xs ++ ys)
-      read-more ys q piece = subst (λ q. HasRead q (xs ++ ys)) (sym piece.same) (record {
+      read-more ys q piece = rw piece.same (record {
         sets = read.sets ++ piece.sets;
         leads = LeadsTo-append s count limit bits 0 0 read.sets i b piece.sets q.block q.bit read.leads piece.leads;
         all_samples = xs ++ piece.all_samples;
-        filled = subst (FillBlocks s (xs ++ piece.all_samples))
-            (sym (ap (kept_blocks s count 0) (stream_blocks-append s count limit bits 0 0 read.sets i b piece.sets read.leads)
-            ∙ kept_blocks-append s count bits 0 i b before (stream_blocks s i piece.sets) (omega (arith, before-count)) wanted))
+        filled = rw (kept_blocks-joined s count limit bits 0 0 read.sets i b piece.sets a read.leads)
             (FillBlocks-append s (i / s.interval) xs piece.all_samples before
             (kept_blocks s count i (stream_blocks s i piece.sets)) a intervals xs-filled piece.filled);
-        counted = ap (λ ys. xs ++ ys) piece.counted ∙ counted-behind count piece.all_samples wanted ∙ sym (counted-start s count (xs ++ piece.all_samples));
+        counted = rw (piece.counted, counted-behind, counted-start);
         same = refl;
       })
 
       -- the samples so far are a front of all samples
-      rest-of_blocks : (samples : List ℤ) (whole : IsReading s count limit bits samples) (later : List Block) → IsBlockReading s count limit bits i b later
-          → (ys : List ℤ) × (samples ≡ xs ++ ys)
-      rest-of_blocks samples whole later h = (counted_from s count i back, samples-are)
+      pub rest-of_all : (samples : List ℤ) → IsReading s count limit bits samples → (ys : List ℤ) × (samples ≡ xs ++ ys)
+      rest-of_all samples whole = (counted_from s count i back, samples-are)
         where
-          both : IsBlockReading s count limit bits 0 0 (before ++ later)
-          both = record {
-            sets = read.sets ++ h.sets;
-            end_block = h.end_block;
-            end_bit = h.end_bit;
-            leads = LeadsTo-append s count limit bits 0 0 read.sets i b h.sets h.end_block h.end_bit read.leads h.leads;
-            done = h.done;
-            kept = ap (λ bs. before ++ bs) h.kept
-                ∙ sym (ap (kept_blocks s count 0) (stream_blocks-append s count limit bits 0 0 read.sets i b h.sets read.leads)
-                ∙ kept_blocks-append s count bits 0 i b before (stream_blocks s i h.sets) (omega (arith, before-count)) wanted);
-          }
-
-          filled : FillBlocks s whole.all_samples (before ++ later)
-          filled = subst (FillBlocks s whole.all_samples) (same_blocks s a count limit bits 0 0 whole.blocks (before ++ later) whole.read both) whole.filled
+          rest : IsRest s a count limit bits i b read.sets read.leads wanted samples whole
+          rest = the_rest s a count limit bits i b read.sets read.leads wanted samples whole
 
           front : take (i * s.block_size) whole.all_samples ≡ xs
-          front = FillBlocks-one_to_one s _ xs before a (FillBlocks-front s i whole.all_samples before later a begins before-count filled) xs-filled
+          front = FillBlocks-one_to_one s _ xs before a
+              (FillBlocks-front s i whole.all_samples before rest.later a begins before-count rest.filled) xs-filled
 
           back : List ℤ
           back = drop (i * s.block_size) whole.all_samples
@@ -244,10 +260,6 @@ module _ (s : Settings) (a : IsAllowed s) (count : Option ℕ) (limit : ℕ) (bi
           samples-are : samples ≡ xs ++ counted_from s count i back
           samples-are = whole.counted ∙ ap (counted_samples count) (sym (take-append-drop (i * s.block_size) whole.all_samples) ∙ ap (λ l. l ++ back) front)
               ∙ sym (counted-behind count back wanted)
-
-      pub rest-of_all : (samples : List ℤ) → IsReading s count limit bits samples → (ys : List ℤ) × (samples ≡ xs ++ ys)
-      rest-of_all samples whole = ⊎_elim (λ r. rest-of_blocks samples whole r.0 r.1)
-          (λ f. absurd (no_reading_and_fault s a count limit bits 0 0 whole.blocks f.0 whole.read (fault-of_all f.0 f.1))) (outcome s a count limit bits i b)
 
 -- ---- by places
 
@@ -313,7 +325,7 @@ has_read_front p xs samples a read begins whole =
 
 -- the samples so far are at most those of the blocks before the place
 pub has_read_few : (p : Place) (xs : List ℤ) → IsAllowed p.settings → HasRead p xs → length xs ≤ p.block * p.settings.block_size
-has_read_few p xs a read = omega (arith, asked p.count read.counted, read.filled.whole, most)
+has_read_few p xs a read = omega (arith, asked p.count read.counted, most)
   where
     before : List Block
     before = stream_blocks p.settings 0 read.sets
@@ -323,24 +335,25 @@ has_read_few p xs a read = omega (arith, asked p.count read.counted, read.filled
     kept (Some n) = omega (arith, length-take (div_ceil n p.settings.block_size - 0) before)
 
     most : length (kept_blocks p.settings p.count 0 before) * p.settings.block_size ≤ p.block * p.settings.block_size
-    most = mul-le-mul_right p.settings.block_size (omega (
-      arith,
-      kept p.count,
-      length-stream_blocks p.settings p.count p.limit p.bits 0 0 read.sets p.block p.bit (interval-positive p.settings a) read.leads,
-    ))
+    most =
+        mul-le-mul_right p.settings.block_size (omega (
+          arith,
+          kept p.count,
+          length-stream_blocks p.settings p.count p.limit p.bits 0 0 read.sets p.block p.bit (interval-positive p.settings a) read.leads,
+        ))
 
     asked : (count : Option ℕ) → xs ≡ counted_from p.settings count 0 read.all_samples → length xs ≤ length read.all_samples
-    asked None is = omega (arith, ap length is)
-    asked (Some n) is = omega (arith, ap length is, length-take (n - 0 * p.settings.block_size) read.all_samples)
+    asked None is = grind arith
+    asked (Some n) is = grind (arith, length-take)
 
 -- the samples of a step are samples of the settings
 pub piece_is_held : (p q : Place) (xs : List ℤ) → ReadsPiece p xs q → AllByRecursion (IsHeld p.settings) xs
-piece_is_held p q xs piece = subst (AllByRecursion (IsHeld p.settings)) (sym piece.counted) (asked p.count)
+piece_is_held p q xs piece = rw piece.counted (asked p.count)
   where
     asked : (count : Option ℕ) → AllByRecursion (IsHeld p.settings) (counted_from p.settings count p.block piece.all_samples)
     asked None = piece.filled.held
     asked (Some n) = all_left (IsHeld p.settings) _ (drop (n - p.block * p.settings.block_size) piece.all_samples)
-        (subst (AllByRecursion (IsHeld p.settings)) (sym (take-append-drop (n - p.block * p.settings.block_size) piece.all_samples)) piece.filled.held)
+        (rw take-append-drop piece.filled.held)
 
 pub steps_are_the_reading : AllStepsAreTheReading
 steps_are_the_reading = record {

@@ -1,5 +1,5 @@
 -- Places that a reader reaches: coded data sets lead there from the first bit on.
-use Rattle.std.proofs.Common.{◌≡◌, ℕ, ◌+◌, ◌%◌, ◌<◌, ◌≤◌, min, Bool, true, false, ◌&&◌, ◌==◌, if◌then◌else◌, Option, List, [], ◌∷◌, ◌++◌, length, drop, sym, ap, subst, arith}
+use Rattle.std.proofs.Common.{◌≡◌, ℕ, ◌+◌, ◌%◌, ◌<◌, ◌≤◌, min, Bool, true, false, ◌&&◌, ◌==◌, if◌then◌else◌, Option, List, [], ◌∷◌, ◌++◌, length, drop, arith}
 use Rattle.std.proofs.lemmas.List.{length-append, length-drop}
 use Rattle.std.specs.Int.{next_multiple_of}
 use Rattle.aec_params.specs.declared.settings.Settings.{Settings}
@@ -12,14 +12,8 @@ use Rattle.aec_interval.proofs.PlaceLemmas.{LeadsTo-append}
 -- ---- within the bits
 
 StandsAt-within : (s : Settings) (bits : List Bool) (b : ℕ) (c : CodedDataSet) → b ≤ length bits → StandsAt s bits b c → b + length (cds_bits s c) ≤ length bits
-StandsAt-within s bits b c within stands = omega (
-  arith,
-  within,
-  ap length stands,
-  length-drop b bits,
-  length-append (cds_bits s c) (drop (b + length (cds_bits s c)) bits),
-  length-drop (b + length (cds_bits s c)) bits,
-)
+StandsAt-within s bits b c within stands =
+    grind (arith, length-drop b bits, length-append (cds_bits s c) (drop (b + length (cds_bits s c)) bits), length-drop (b + length (cds_bits s c)) bits)
 
 begin_of-within : (s : Settings) (bits : List Bool) (i b : ℕ) → b ≤ length bits → begin_of s bits i b ≤ length bits
 begin_of-within s bits i b within = by_test (s.pad && (i % s.interval == 0))
@@ -30,7 +24,7 @@ begin_of-within s bits i b within = by_test (s.pad && (i % s.interval == 0))
 
 pub LeadsTo-within : (s : Settings) (count : Option ℕ) (limit : ℕ) (bits : List Bool) (i b : ℕ) (sets : List CodedDataSet) (j e : ℕ) → b ≤ length bits
     → LeadsTo s count limit bits i b sets j e → e ≤ length bits
-LeadsTo-within s count limit bits i b [] j e within leads = omega (arith, within, leads.1)
+LeadsTo-within s count limit bits i b [] j e within leads = omega arith
 LeadsTo-within s count limit bits i b (c ∷ sets) j e within leads =
     LeadsTo-within s count limit bits (next_block s i c) (next_begin s bits i b c) sets j e
     (begin_of-within s bits (next_block s i c) (b + length (cds_bits s c)) (StandsAt-within s bits b c within leads.1)) leads.4
@@ -49,7 +43,5 @@ place-further s count limit list bits first bit start i b sets is begins same le
   counted = is.counted;
   begins = ends;
   sets = is.sets ++ sets;
-  leads = LeadsTo-append s count limit bits 0 0 is.sets first start sets i b
-      (subst (λ bits. LeadsTo s count limit bits 0 0 is.sets first start) (sym same)
-      (subst (LeadsTo s count limit list 0 0 is.sets first) (sym begins) is.leads)) leads;
+  leads = LeadsTo-append s count limit bits 0 0 is.sets first start sets i b (rw (same, begins) is.leads) leads;
 }

@@ -1,7 +1,7 @@
 -- One interval read from its start: how far the reading comes, and how much room its samples take.
-use Rattle.std.proofs.Common.{max, ◌≡◌, ℕ, Bool, true, false, Option, ◌&&◌, nat_lt, List, refl, ◌+◌, ◌-◌, ◌*◌, ◌/◌, ◌%◌, ◌<◌, ◌≤◌, sym, ap, ◌∙◌, subst, arith, Result, IfErr}
+use Rattle.std.proofs.Common.{max, ◌≡◌, ℕ, Bool, true, false, Option, ◌&&◌, nat_lt, List, refl, ◌+◌, ◌-◌, ◌*◌, ◌/◌, ◌%◌, ◌<◌, ◌≤◌, ap, ◌∙◌, arith, Result, IfErr}
 use Rattle.std.proofs.Math.Nat.{mul-le-mul_right, add-mul-mod_self_right}
-use Rattle.std.proofs.lemmas.Nat.{div-add-mod', mod-mul-add}
+use Rattle.std.proofs.lemmas.Nat.{mod-mul-add}
 use Rattle.std.proofs.lemmas.Bool.{ltb-false}
 use Rattle.std.specs.Result.{IsErrAnd}
 use Rattle.aec_params.specs.declared.settings.Settings.{Settings}
@@ -18,8 +18,7 @@ use Rattle.aec_interval.proofs.RefusalLemmas.{of_refusal}
 -- block i is at place i - first of the interval that begins at block `first`
 pub place-behind : (s : Settings) (first i : ℕ) → first % s.interval ≡ 0 → first ≤ i → i < first + s.interval → i % s.interval ≡ i - first
 place-behind s first i aligned after below =
-    ap (λ n. n % s.interval) (omega (arith, div-add-mod' first s.interval, aligned, after))
-    ∙ mod-mul-add (first / s.interval) s.interval (i - first) (omega (arith, after, below))
+    ap (λ n. n % s.interval) (omega arith) ∙ mod-mul-add (first / s.interval) s.interval (i - first) (omega arith)
 
 -- a capacity too small for the blocks up to the end of an interval is too small for a whole
 -- interval
@@ -28,14 +27,14 @@ no_room : (s : Settings) (first i len capacity : ℕ) → first % s.interval ≡
 no_room s first i len capacity aligned after below few full =
     let place = place-behind s first i aligned after below in
     let both : (i - first) * s.block_size + (s.interval - i % s.interval) * s.block_size ≡ s.block_size * s.interval =
-    both_parts (i - first) (s.interval - i % s.interval) s.interval s.block_size (omega (arith, place, after, below)) in
-    omega (arith, both, few, full)
+    both_parts (i - first) (s.interval - i % s.interval) s.interval s.block_size (omega arith) in
+    omega arith
   where
     both_parts : (d e r j : ℕ) → d + e ≡ r → d * j + e * j ≡ j * r
-    both_parts d e r j is = omega (arith, ap (λ n. j * n) is)
+    both_parts d e r j is = grind arith
 
 both_parts : (d e n j : ℕ) → d + e ≡ n → d * j + e * j ≡ n * j
-both_parts d e n j is = omega (arith, ap (λ n. n * j) is)
+both_parts d e n j is = grind arith
 
 -- the interval of the blocks from `first` up to `end` was read or skipped up to block i at position
 -- b, where more is wanted
@@ -48,11 +47,11 @@ pub record IsInside (s : Settings) (count : Option ℕ) (limit : ℕ) (bits : Li
 pub inside-begun : (s : Settings) (count : Option ℕ) (limit : ℕ) (bits : List Bool) (first b end : ℕ) → IsAllowed s → end ≡ first + s.interval
     → IsWantedNext s count limit bits first first b → IsInside s count limit bits first first b end
 inside-begun s count limit bits first b end allowed end_is wanted =
-    record { wanted = wanted; after = omega arith; below = omega (arith, end_is, interval-positive s allowed); end_is = end_is }
+    record { wanted = wanted; after = omega arith; below = omega (arith, interval-positive s allowed); end_is = end_is }
 
 module _ (s : Settings) (count : Option ℕ) (limit : ℕ) (bits : List Bool) (first i b end : ℕ) (inside : IsInside s count limit bits first i b end) where
   before_end : i < first + s.interval
-  before_end = omega (arith, inside.below, inside.end_is)
+  before_end = omega arith
 
   pub place : i % s.interval ≡ i - first
   place = place-behind s first i inside.wanted.aligned inside.after before_end
@@ -60,28 +59,27 @@ module _ (s : Settings) (count : Option ℕ) (limit : ℕ) (bits : List Bool) (f
   pub no_room-refuses : (len capacity before : ℕ) (fault : Fault) → len ≤ (i - first) * s.block_size → before ≤ capacity
       → (fault ≡ Memory → capacity < len + blocks_before_end s i * s.block_size) → fault ≡ Memory → before < interval_len s
   no_room-refuses len capacity before fault few grown full memory =
-      omega (arith, no_room s first i len capacity inside.wanted.aligned inside.after before_end few (full memory), grown)
+      omega (arith, no_room s first i len capacity inside.wanted.aligned inside.after before_end few (full memory))
 
   -- what holds of a refusal up to the end of the interval of block i holds of it up to the end of
   -- the interval that begins at block `first`
   pub by_its_end : {X : Type 0} (P : List Bool → ℕ → Fault → Type 0) (r : Result X Fault) (fault : Fault) (list : List Bool) → list ≡ bits
       → IsErrAnd r (λ e. e ≡ fault) → P list (i + blocks_before_end s i) fault → IfErr r (λ fault. P bits (first + s.interval) fault)
   by_its_end P r fault list same exit refuses =
-      let ends : i + blocks_before_end s i ≡ first + s.interval = omega (arith, place, inside.after, before_end) in
-      of_refusal r (P bits (first + s.interval)) fault exit (subst (λ e. P bits e fault) ends (subst (λ l. P l (i + blocks_before_end s i) fault) same refuses))
+      let ends : i + blocks_before_end s i ≡ first + s.interval = omega (arith, place, before_end) in
+      of_refusal r (P bits (first + s.interval)) fault exit (rw (same, ends) at refuses)
 
   -- what holds of a refusal up to block `end` holds of it up to the end of the interval
   pub by_block_end : {X : Type 0} (P : List Bool → ℕ → Fault → Type 0) (r : Result X Fault) (fault : Fault) (list : List Bool) → list ≡ bits
       → IsErrAnd r (λ e. e ≡ fault) → P list end fault → IfErr r (λ fault. P bits (first + s.interval) fault)
-  by_block_end P r fault list same exit refuses =
-      of_refusal r (P bits (first + s.interval)) fault exit (subst (λ e. P bits e fault) inside.end_is (subst (λ l. P l end fault) same refuses))
+  by_block_end P r fault list same exit refuses = of_refusal r (P bits (first + s.interval)) fault exit (rw (same, inside.end_is) at refuses)
 
   -- blocks that are read after a coded data set don't go past the end of the interval
   module _ (behind next : ℕ) (to : ComesNext s i behind) (after : behind ≤ next) (most : next ≤ max behind end) where
     pub comes-further : next < most_blocks → ComesNext s i next
     comes-further few = record {
-      forward = omega (arith, to.forward, after);
-      within = omega (arith, place, inside.after, before_end, inside.end_is, to.within, most);
+      forward = omega arith;
+      within = omega (arith, place, before_end, inside.end_is, to.within, most);
       few = few;
     }
 
@@ -89,8 +87,8 @@ module _ (s : Settings) (count : Option ℕ) (limit : ℕ) (bits : List Bool) (f
         → new ≤ old + (next - i) * s.block_size
     len-further old len new few more =
         let both : (behind - i) * s.block_size + (next - behind) * s.block_size ≡ (next - i) * s.block_size =
-        both_parts (behind - i) (next - behind) (next - i) s.block_size (omega (arith, to.forward, after)) in
-        omega (arith, both, few, more)
+        both_parts (behind - i) (next - behind) (next - i) s.block_size (omega arith) in
+        omega arith
 
   -- a capacity too small for the blocks up to the end of an interval is too small for a whole
   -- interval
@@ -98,22 +96,21 @@ module _ (s : Settings) (count : Option ℕ) (limit : ℕ) (bits : List Bool) (f
       → len ≤ here + (behind - i) * s.block_size → before ≤ capacity → capacity < len + (end - behind) * s.block_size → before < interval_len s
   no_room-untested behind here len capacity before to few more grown full =
       let there : (i - first) * s.block_size + (behind - i) * s.block_size ≡ (behind - first) * s.block_size =
-      both_parts (i - first) (behind - i) (behind - first) s.block_size (omega (arith, to.forward, inside.after)) in
+      both_parts (i - first) (behind - i) (behind - first) s.block_size (omega arith) in
       let all : (behind - first) * s.block_size + (end - behind) * s.block_size ≡ s.interval * s.block_size =
-      both_parts (behind - first) (end - behind) s.interval s.block_size
-      (omega (arith, place, inside.after, before_end, inside.end_is, to.forward, to.within)) in
-      omega (arith, there, all, few, more, grown, full)
+      both_parts (behind - first) (end - behind) s.interval s.block_size (omega (arith, place, before_end, inside.end_is, to.forward, to.within)) in
+      omega arith
 
   -- a coded data set that begins in an interval ends in it
   module _ (next : ℕ) (further : ComesNext s i next) where
     next-within : next ≤ first + s.interval
-    next-within = omega (arith, place, inside.after, before_end, further.within)
+    next-within = omega (arith, place, before_end, further.within)
 
     -- if the loop ends though more is wanted, the interval has ended
     next-to_end : (wanted : Bool) → (nat_lt next end && wanted) ≡ false → wanted ≡ true → next ≡ first + s.interval
     next-to_end wanted done more =
-        let past : end ≤ next = ltb-false next end (sym (ap (λ w. nat_lt next end && w) more ∙ and_true (nat_lt next end)) ∙ done) in
-        omega (arith, next-within, past, inside.end_is)
+        let past : end ≤ next = ltb-false next end (rw (← (and_true (nat_lt next end)), ← more) done) in
+        omega (arith, next-within, inside.end_is)
       where
         and_true : (b : Bool) → (b && true) ≡ b
         and_true true = refl
@@ -121,20 +118,20 @@ module _ (s : Settings) (count : Option ℕ) (limit : ℕ) (bits : List Bool) (f
 
     pub gone-over : (list : List Bool) (at : ℕ) → (nat_lt next end && is_wanted s count list next at) ≡ false → IsGoneOver s count list first next at
     gone-over list at done = record {
-      forward = omega (arith, inside.after, further.forward);
+      forward = omega arith;
       within = next-within;
       few = further.few;
       to_end = next-to_end (is_wanted s count list next at) done;
       ends = λ more.
           let last : next ≡ first + 1 * s.interval = omega (arith, next-to_end (is_wanted s count list next at) done more) in
-          ap (λ n. n % s.interval) last ∙ (add-mul-mod_self_right first 1 s.interval ∙ inside.wanted.aligned);
+          rw (last, add-mul-mod_self_right) inside.wanted.aligned;
     }
 
     pub len-within : (old new : ℕ) → old ≤ (i - first) * s.block_size → new ≤ old + (next - i) * s.block_size
         → (new ≤ (next - first) * s.block_size) × (new ≤ interval_len s)
     len-within old new few more =
         let both : (i - first) * s.block_size + (next - i) * s.block_size ≡ (next - first) * s.block_size =
-        both_parts (i - first) (next - i) (next - first) s.block_size (omega (arith, inside.after, further.forward)) in
+        both_parts (i - first) (next - i) (next - first) s.block_size (omega arith) in
         let most : (next - first) * s.block_size ≤ s.interval * s.block_size =
         mul-le-mul_right s.block_size (omega (arith, next-within)) in
-        (omega (arith, both, few, more), omega (arith, both, few, more, most))
+        (omega arith, omega arith)

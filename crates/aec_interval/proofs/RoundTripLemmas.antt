@@ -1,5 +1,5 @@
 -- Reading the code of samples with their count returns the samples.
-use Rattle.std.proofs.Common.{◌≡◌, ℕ, ◌+◌, ◌-◌, ◌*◌, ◌%◌, ◌<◌, ◌≤◌, Bool, false, Some, None, List, [], ◌∷◌, ◌++◌, length, map, replicate, refl, sym, ap, ap₂, ◌∙◌, subst, arith}
+use Rattle.std.proofs.Common.{◌≡◌, ℕ, ◌-◌, ◌%◌, ◌<◌, ◌≤◌, Bool, false, Some, None, List, [], ◌∷◌, ◌++◌, length, map, replicate, refl, sym, ap, ◌∙◌, arith}
 use Rattle.std.specs.Prelude.{ℤ, pos, unwrap_or}
 use Rattle.std.specs.List.{AllByRecursion, flat_map, last_or}
 use Rattle.std.specs.Int.{div_ceil}
@@ -8,9 +8,8 @@ use Rattle.std.proofs.lemmas.List.{length-append, append_assoc, append-nil, take
 use Rattle.std.proofs.lemmas.Bool.{le-ltb}
 use Rattle.aec_params.specs.declared.settings.Settings.{Settings}
 use Rattle.aec_params.specs.Params.{IsAllowed, IsHeld, interval_len}
-use Rattle.aec_params.specs.Cutting.{pieces_of, up_to_multiple}
-use Rattle.aec_params.specs.Mapping.{mapped_values}
-use Rattle.aec_params.specs.Blocks.{intervals_of, filled_samples, reference_of, with_reference, blocks_of, all_blocks_of}
+use Rattle.aec_params.specs.Cutting.{up_to_multiple}
+use Rattle.aec_params.specs.Blocks.{intervals_of, filled_samples, blocks_of, all_blocks_of}
 use Rattle.aec_params.specs.Intervals.{unpadded_bits}
 use Rattle.aec_params.specs.Streams.{stream_of}
 use Rattle.aec_params.specs.Reading.{IsBlockReading, FillBlocks, IsReading}
@@ -26,31 +25,31 @@ use Rattle.aec_interval.proofs.StreamLemmas.{padded_code, no_padding, walk_of, s
 
 pub length-all_blocks_of : (s : Settings) → IsAllowed s → (xs : List ℤ) → length (all_blocks_of s xs) ≡ div_ceil (length xs) s.block_size
 length-all_blocks_of s a = by_pieces Counted (interval_len s) (interval_len-positive s a)
-    (ap length (all_blocks_of-nil s a) ∙ sym (div_ceil-zero s.block_size (block_size-positive s a))) step
+    (rw (all_blocks_of-nil, div_ceil-zero s.block_size (block_size-positive s a))) step
   where
     Counted : List ℤ → Type 0
     Counted xs = length (all_blocks_of s xs) ≡ div_ceil (length xs) s.block_size
 
     step : (front rest : List ℤ) → IsPieceBefore (interval_len s) front rest → Counted rest → Counted (front ++ rest)
-    step front [] piece ih = subst Counted (sym (append-nil front))
-        (ap length (all_blocks_of-one s front piece.some piece.fits) ∙ length-blocks_of s front a)
+    step front [] piece ih = rw append-nil (rw (all_blocks_of-one s front piece.some piece.fits, length-blocks_of))
     step front (x ∷ rest) piece ih =
-        ap length (all_blocks_of-cons s front (x ∷ rest) piece) ∙ length-append (blocks_of s front) (all_blocks_of s (x ∷ rest))
-        ∙ ap₂ ◌+◌ (length-full_blocks s front a (piece.full (omega arith))) ih ∙ sym (div_ceil-interval s front (x ∷ rest) a (piece.full (omega arith)))
+        rw (
+          all_blocks_of-cons,
+          length-append,
+          length-full_blocks s front a (piece.full (omega arith)),
+          ih,
+          div_ceil-interval s front (x ∷ rest) a (piece.full (omega arith)),
+        )
 
 -- ---- the filler
 
 -- a full interval before other samples gets no filler
 filled_samples-append : (s : Settings) (front : List ℤ) (x : ℤ) (rest : List ℤ) → length front ≡ interval_len s
     → filled_samples s (front ++ (x ∷ rest)) ≡ front ++ filled_samples s (x ∷ rest)
-filled_samples-append s front x rest full =
-    append_assoc front (x ∷ rest) (replicate (up_to_multiple s.block_size (length (front ++ (x ∷ rest))))
-    (unwrap_or (last_or None (front ++ (x ∷ rest))) (pos 0)))
-    ∙ ap₂ (λ m o. front ++ ((x ∷ rest) ++ replicate m (unwrap_or o (pos 0)))) missing (last_or-append None front (x ∷ rest))
+filled_samples-append s front x rest full = rw (append_assoc, missing, last_or-append)
   where
     missing : up_to_multiple s.block_size (length (front ++ (x ∷ rest))) ≡ up_to_multiple s.block_size (length (x ∷ rest))
-    missing = ap (λ m. (s.block_size - m) % s.block_size)
-        (ap (λ m. m % s.block_size) (length-append front (x ∷ rest) ∙ omega (arith, full))
+    missing = ap (λ m. (s.block_size - m) % s.block_size) (ap (λ m. m % s.block_size) (length-append front (x ∷ rest) ∙ omega arith)
         ∙ add-mul-mod_self_left (length (x ∷ rest)) s.block_size s.interval)
 
 filled_samples-nil : (s : Settings) → IsAllowed s → filled_samples s [] ≡ []
@@ -58,8 +57,7 @@ filled_samples-nil s a = filled_samples-whole s [] (block_size-positive s a) 0 (
 
 blocks_of-filled : (s : Settings) (x : ℤ) (v : List ℤ) → IsAllowed s → blocks_of s (filled_samples s (x ∷ v)) ≡ blocks_of s (x ∷ v)
 blocks_of-filled s x v a =
-    ap (λ w. with_reference (reference_of s (x ∷ v)) (pieces_of s.block_size (mapped_values s w)))
-    (filled_samples-whole s (filled_samples s (x ∷ v)) (block_size-positive s a) (div_ceil (length (x ∷ v)) s.block_size)
+    cc (filled_samples-whole s (filled_samples s (x ∷ v)) (block_size-positive s a) (div_ceil (length (x ∷ v)) s.block_size)
     (length-filled_samples s (x ∷ v) (block_size-positive s a)))
 
 -- samples of one interval still fit it with their filler
@@ -67,11 +65,11 @@ filled-fits : (s : Settings) (v : List ℤ) → IsAllowed s → length v ≤ int
 filled-fits s v a few =
     let n = length-blocks_of s v a in
     let most = mul-le-mul_right s.block_size (blocks-few s v a few) in
-    omega (arith, length-filled_samples s v (block_size-positive s a), ap (λ m. m * s.block_size) n, most)
+    grind (arith, length-filled_samples)
 
 -- samples have the same blocks with their filler
 pub all_blocks_of-filled : (s : Settings) → IsAllowed s → (xs : List ℤ) → all_blocks_of s (filled_samples s xs) ≡ all_blocks_of s xs
-all_blocks_of-filled s a = by_pieces Same (interval_len s) (interval_len-positive s a) (ap (all_blocks_of s) (filled_samples-nil s a)) step
+all_blocks_of-filled s a = by_pieces Same (interval_len s) (interval_len-positive s a) (rw filled_samples-nil) step
   where
     Same : List ℤ → Type 0
     Same xs = all_blocks_of s (filled_samples s xs) ≡ all_blocks_of s xs
@@ -83,14 +81,18 @@ all_blocks_of-filled s a = by_pieces Same (interval_len s) (interval_len-positiv
         ∙ sym (all_blocks_of-one s (x ∷ v) some few)
 
     step : (front rest : List ℤ) → IsPieceBefore (interval_len s) front rest → Same rest → Same (front ++ rest)
-    step front [] piece ih = subst Same (sym (append-nil front)) (last front piece.some piece.fits)
+    step front [] piece ih = rw append-nil (last front piece.some piece.fits)
     step front (x ∷ rest) piece ih =
-        ap (all_blocks_of s) (filled_samples-append s front x rest (piece.full (omega arith)))
-        ∙ all_blocks_of-cons s front (filled_samples s (x ∷ rest)) (record { some = piece.some; fits = piece.fits; full = λ _. piece.full (omega arith) })
-        ∙ ap (◌++◌ (blocks_of s front)) ih ∙ sym (all_blocks_of-cons s front (x ∷ rest) piece)
+        rw (
+          filled_samples-append s front x rest (piece.full (omega arith)),
+          all_blocks_of-cons s front (filled_samples s (x ∷ rest))
+              (record { some = piece.some; fits = piece.fits; full = λ _. piece.full (omega arith) }),
+          ih,
+          all_blocks_of-cons,
+        )
 
 all_filled : (s : Settings) (xs : List ℤ) → IsAllowed s → AllByRecursion (IsHeld s) xs → AllByRecursion (IsHeld s) (filled_samples s xs)
-all_filled s [] a held = subst (AllByRecursion (IsHeld s)) (sym (filled_samples-nil s a)) tt
+all_filled s [] a held = rw filled_samples-nil tt
 all_filled s (x ∷ xs) a held = all-filled_samples s x xs held
 
 -- ---- the round trip
@@ -99,7 +101,7 @@ pub FillBlocks-all_blocks_of : (s : Settings) (xs : List ℤ) → IsAllowed s �
     → FillBlocks s (filled_samples s xs) (all_blocks_of s xs)
 FillBlocks-all_blocks_of s xs a held = record {
   held = all_filled s xs a held;
-  whole = length-filled_samples s xs (block_size-positive s a) ∙ ap (λ m. m * s.block_size) (sym (length-all_blocks_of s a xs));
+  whole = rw (length-filled_samples s xs (block_size-positive s a), length-all_blocks_of);
   mapped = all_blocks_of-filled s a xs;
 }
 
@@ -133,16 +135,14 @@ IsReading-codes s limit xs codes rest a held each = record {
 pub IsReading-stream_of : (s : Settings) (limit : ℕ) (xs : List ℤ) (rest : List Bool) → IsAllowed s → AllByRecursion (IsHeld s) xs
     → IsReading s (Some (length xs)) limit (stream_of s xs ++ rest) xs
 IsReading-stream_of s limit xs rest a held =
-    subst (λ code. IsReading s (Some (length xs)) limit (code ++ rest) xs) (sym (stream_of-codes s (intervals_of s xs)))
-    (IsReading-codes s limit xs (map (unpadded_bits s) (intervals_of s xs)) rest a held (ReadsEach-unpadded_bits s a xs held))
+    rw stream_of-codes (IsReading-codes s limit xs (map (unpadded_bits s) (intervals_of s xs)) rest a held (ReadsEach-unpadded_bits s a xs held))
 
 -- without padding, any codes for the blocks of each interval are read as the samples
 pub each_code_is_read : (s : Settings) (limit : ℕ) (xs : List ℤ) (codes : List (List Bool)) (rest : List Bool) → IsAllowed s → s.pad ≡ false
     → AllByRecursion (IsHeld s) xs → ReadsEach s codes (intervals_of s xs)
     → IsReading s (Some (length xs)) limit (flat_map (λ code. code) codes ++ rest) xs
-each_code_is_read s limit xs codes rest a t held each =
-    subst (λ bits. IsReading s (Some (length xs)) limit (bits ++ rest) xs) (as_they_stand codes) (IsReading-codes s limit xs codes rest a held each)
+each_code_is_read s limit xs codes rest a t held each = rw as_they_stand at (IsReading-codes s limit xs codes rest a held each)
   where
     as_they_stand : (codes : List (List Bool)) → flat_map (padded_code s) codes ≡ flat_map (λ code. code) codes
     as_they_stand [] = refl
-    as_they_stand (code ∷ codes) = ap₂ ◌++◌ (no_padding s code t) (as_they_stand codes)
+    as_they_stand (code ∷ codes) = rw (no_padding, as_they_stand codes)

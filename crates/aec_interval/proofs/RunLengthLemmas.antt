@@ -3,7 +3,6 @@ use Rattle.std.proofs.Common.{◌≡◌, ℕ, ◌+◌, ◌-◌, ◌/◌, ◌%◌
 use Rattle.std.specs.List.{flat_map}
 use Rattle.std.proofs.lemmas.List.{length-append}
 use Rattle.std.proofs.lemmas.Bool.{cond_both}
-use Rattle.std.proofs.lemmas.Bool.Decides.{nat_tests}
 use Rattle.aec_params.specs.declared.settings.Settings.{Settings}
 use Rattle.aec_params.specs.Params.{IsAllowed, id_len}
 use Rattle.aec_params.specs.Codewords.{fs, binary}
@@ -15,10 +14,10 @@ use Rattle.aec_params.proofs.CodewordLaws.{length-binary, length-fs}
 -- ---- runs
 
 pub run_code-joined : (k a : ℕ) (t : Bool) → 0 < k → 0 < a → run_code (k + a) t ≤ run_code k false + run_code a t + 2
-run_code-joined k a t h l = grind (arith, nat_tests)
+run_code-joined k a t h l = grind arith
 
 pub run_code-last : (z : ℕ) → run_code z true ≤ run_code z false
-run_code-last z = grind (arith, nat_tests)
+run_code-last z = grind arith
 
 -- ---- the least number of bits of a single block
 
@@ -36,11 +35,11 @@ length-run s reference m =
 
 length-flat_map-least : {X : Type 0} (code : X → List Bool) (xs : List X) → ((x : X) → 0 < length (code x)) → length xs ≤ length (flat_map code xs)
 length-flat_map-least code [] h = omega arith
-length-flat_map-least code (x ∷ xs) h = omega (arith, length-append (code x) (flat_map code xs), length-flat_map-least code xs h, h x)
+length-flat_map-least code (x ∷ xs) h = omega (arith, length-append (code x) (flat_map code xs), length-flat_map-least code xs h)
 
 written_count-least : (s : Settings) (t : Bool) → IsAllowed s → 7 ≤ written_count s t
 written_count-least s t a =
-    cond_both t (s.block_size - 1) s.block_size (λ n. 7 ≤ n) (λ _. omega (arith, block_size-least s a)) (λ _. omega (arith, block_size-least s a))
+    cond_both t (s.block_size - 1) s.block_size (λ n. 7 ≤ n) (λ _. omega (arith, block_size-least)) (λ _. omega (arith, block_size-least))
 
 -- a single block is never shorter than a run of one
 pub plain-longer : (s : Settings) (t : Bool) (reference : Option ℕ) (values : List ℕ) → IsAllowed s → length values ≡ written_count s t
@@ -55,7 +54,7 @@ plain-longer s t reference values a h =
       length-append r body,
       length-binary (id_len s) (2 ^ id_len s - 1),
       written_count-least s t a,
-      length-flat_map-least (binary s.bits) values (λ v. omega (arith, length-binary s.bits v, at_least_one_bit s a)),
+      length-flat_map-least (binary s.bits) values (λ v. omega (arith, length-binary, at_least_one_bit)),
     )
 
 pub split-longer : (s : Settings) (t : Bool) (reference : Option ℕ) (k : ℕ) (values : List ℕ) → IsAllowed s → length values ≡ written_count s t
@@ -72,7 +71,7 @@ split-longer s t reference k values a h =
       length-append high low,
       length-binary (id_len s) (k + 1),
       written_count-least s t a,
-      length-flat_map-least (λ v. fs (v / 2 ^ k)) values (λ v. omega (arith, length-fs (v / 2 ^ k))),
+      length-flat_map-least (λ v. fs (v / 2 ^ k)) values (λ v. omega (arith, length-fs)),
     )
 
 pub pairs-longer : (s : Settings) (reference : Option ℕ) (members : List ℕ) → 2 ≤ length members

@@ -1,5 +1,5 @@
 -- Pieces of samples that a loop takes, the last sample of each, and bits that stay the same.
-use Rattle.std.proofs.Common.{◌≡◌, ℕ, ◌-◌, ◌<◌, ◌≤◌, min, Bool, Option, Some, ℤ, List, [], ◌∷◌, ◌++◌, length, take, drop, refl, sym, ap, ◌∙◌, arith}
+use Rattle.std.proofs.Common.{◌≡◌, ℕ, ◌-◌, ◌<◌, ◌≤◌, min, Bool, Option, Some, ℤ, List, [], ◌∷◌, ◌++◌, length, refl, sym, ap, ◌∙◌, arith}
 use Rattle.std.specs.Prelude.{slice_get}
 use Rattle.std.specs.List.{AllByRecursion, last_or}
 use Rattle.std.proofs.lemmas.List.{length-append, length-take, take-append-le, take-append-drop, nil_from_length}
@@ -35,6 +35,5 @@ holds_last s o (x ∷ xs) h k = holds_last s (Some x) xs k.0 k.1
 
 pub kept-trans : (a b c : List Bool) → IsKept a b → IsKept b c → IsKept a c
 kept-trans a b c h k =
-    let shorter : length a ≤ length b = omega (arith, ap length (sym h), length-take (length a) b) in
-    ap (take (length a)) (sym (take-append-drop (length b) c) ∙ ap (λ l. l ++ drop (length b) c) k)
-    ∙ take-append-le (length a) b (drop (length b) c) shorter ∙ h
+    let shorter : length a ≤ length b = grind (arith, length-take) in
+    rw (← (take-append-drop (length b) c), k, take-append-le) h

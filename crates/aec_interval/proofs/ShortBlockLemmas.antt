@@ -1,5 +1,5 @@
 -- The values of a short block, pushed one by one.
-use Rattle.std.proofs.Common.{◌≡◌, ℕ, suc, ◌+◌, ◌<◌, Bool, true, false, if◌then◌else◌, Option, Some, None, ℤ, pos, List, [], ◌∷◌, ◌++◌, length, drop, get_or, drop-cons, append_assoc, refl, sym, ap, ap₂, ◌∙◌, subst, arith}
+use Rattle.std.proofs.Common.{◌≡◌, ℕ, suc, ◌+◌, ◌<◌, Bool, true, false, if◌then◌else◌, Option, Some, None, ℤ, pos, List, [], ◌∷◌, ◌++◌, length, drop, get_or, drop-cons, append_assoc, refl, sym, ap, ◌∙◌, arith}
 use Rattle.std.specs.Prelude.{unwrap_or}
 use Rattle.std.specs.List.{AllByRecursion}
 use Rattle.aec_params.specs.declared.settings.Settings.{Settings}
@@ -23,9 +23,10 @@ mapped-more s p q x xs i values whole new v within is_q is_x so_far is_v is_new 
     record {
       previous_held = cut_held.0;
       held = cut_held.1;
-      joined = ap (λ l. l ++ mapped_after s x (drop (i + 1) xs)) is_new ∙ append_assoc values (v ∷ []) (mapped_after s x (drop (i + 1) xs))
-          ∙ ap (λ w. values ++ (w ∷ mapped_after s x (drop (i + 1) xs))) (is_v ∙ ap (λ (y : ℤ). mapped_value s y x) is_q)
-          ∙ ap (λ l. values ++ mapped_after s p l) (sym cut) ∙ so_far.joined;
+      joined =
+          rw is_new (append_assoc values (v ∷ []) (mapped_after s x (drop (i + 1) xs))
+          ∙ ap (λ w. values ++ (w ∷ mapped_after s x (drop (i + 1) xs))) (rw (is_v, is_q)) ∙ ap (λ l. values ++ mapped_after s p l) (sym cut)
+          ∙ so_far.joined);
     }
   where
     next : i + 1 ≡ suc i
@@ -35,13 +36,13 @@ mapped-more s p q x xs i values whole new v within is_q is_x so_far is_v is_new 
     cut = rw next (drop-cons xs i (pos 0) within) ∙ ap (λ y. y ∷ drop (i + 1) xs) (sym is_x)
 
     cut_held : AllByRecursion (IsHeld s) (x ∷ drop (i + 1) xs)
-    cut_held = subst (AllByRecursion (IsHeld s)) cut so_far.held
+    cut_held = rw cut at so_far.held
 
 -- the start of an interval: the reference place, if there is one, and the values after it
 mapped-start : (s : Settings) (x : ℤ) (xs : List ℤ) (on : Bool) → s.preprocess ≡ on → IsAllowed s → AllByRecursion (IsHeld s) (x ∷ xs)
     → placed_values (if on then Some (sample_pattern s x) else None) []
     ++ mapped_after s x (drop (length (placed_values (if on then Some (sample_pattern s x) else None) [])) (x ∷ xs)) ≡ mapped_values s (x ∷ xs)
-mapped-start s x xs true on allowed held = ap (λ b. (if b then 0 else sample_pattern s x) ∷ mapped_after s x xs) (sym on)
+mapped-start s x xs true on allowed held = rw on
 mapped-start s x xs false off allowed held = mapped_after-first s x (x ∷ xs) allowed (omega arith) refl held
 
 -- the reference place, if there is one, and the values of the samples after it
@@ -58,5 +59,4 @@ pub mapped-whole : (s : Settings) (o : Option ℤ) (v : List ℤ) (p : ℤ) (ref
     → p ≡ unwrap_or o (get_or v 0 (pos 0)) → AllByRecursion (IsHeld s) v → reference ≡ reference_after s o v
     → values ≡ placed_values reference [] → n ≡ length values → new ≡ values ++ mapped_after s p (drop n v) → new ≡ values_after s o v
 mapped-whole s o v p reference values new n allowed some is_p held is placed count is_new =
-    is_new ∙ ap₂ (λ vs k. vs ++ mapped_after s p (drop k v)) placed (count ∙ ap length placed)
-    ∙ mapped-behind s o v p reference allowed some is_p held is
+    cc (mapped-behind s o v p reference allowed some is_p held is)

@@ -1,6 +1,6 @@
 -- Whole intervals of blocks, of which none needs a test of its place.
-use Rattle.std.proofs.Common.{◌≡◌, ℕ, ◌+◌, ◌-◌, ◌*◌, ◌/◌, ◌%◌, ◌<◌, ◌≤◌, ◌==◌, ◌&&◌, Bool, true, false, if◌then◌else◌, Option, Some, None, Ok, ℤ, pos, List, [], ◌∷◌, ◌++◌, length, take, drop, ⊎_elim, refl, sym, ap, ◌∙◌, subst, arith}
-use Rattle.std.proofs.Math.Nat.{one-mul, mul_comm, mul-le-mul_right, add-mul-mod_self_right, add-mul, div-mul-le_self, le-mul_of_pos_right}
+use Rattle.std.proofs.Common.{◌≡◌, ℕ, ◌+◌, ◌-◌, ◌*◌, ◌/◌, ◌%◌, ◌<◌, ◌≤◌, ◌&&◌, Bool, true, false, Option, Some, None, Ok, ℤ, pos, List, [], ◌∷◌, ◌++◌, length, take, drop, ⊎_elim, refl, ◌∙◌, subst, arith}
+use Rattle.std.proofs.Math.Nat.{one-mul, mul-le-mul_right, add-mul-mod_self_right, add-mul, le-mul_of_pos_right}
 use Rattle.std.proofs.lemmas.Bool.{cases_lt}
 use Rattle.std.proofs.Math.Seq.{take-append-add}
 use Rattle.std.proofs.lemmas.List.{take_at, length-take, length-drop, length-take-le, take-append-le}
@@ -32,10 +32,10 @@ use Rattle.aec_interval.specs.UntestedBlocks.{IsUntestedAt, ReadsBlocks}
 use Rattle.aec_interval.specs.ShortIntervals.{AreWithin, begun_at, ReadsFirst, ReadsWhole, FillsIntervals}
 use Rattle.aec_interval.proofs.NextFillLemmas.{fills_block_single, fills_block_reference}
 use Rattle.aec_interval.proofs.ReadNextLemmas.{reached-start, next-cds, reached-next}
-use Rattle.aec_interval.proofs.PlaceLemmas.{LeadsTo-append, stream_blocks-append}
-use Rattle.aec_interval.proofs.ReachedLemmas.{length-stream_blocks, kept_blocks-append, kept_blocks-wanted, AreFilled-reached}
+use Rattle.aec_interval.proofs.PlaceLemmas.{LeadsTo-append}
+use Rattle.aec_interval.proofs.ReachedLemmas.{kept_blocks-joined, blocks-reached, FillBlocks-reached, AreFilled-reached}
 use Rattle.aec_interval.proofs.PieceReadingLemmas.{FillBlocks-append}
-use Rattle.aec_interval.proofs.UntestedLemmas.{untested-within, few_samples, wanted_here, untested-placed, untested-begins, untested-kept, none_read, blocks_fit}
+use Rattle.aec_interval.proofs.UntestedLemmas.{AreUntested, untested-within, few_samples, wanted_here, untested-placed, untested-begins, untested-kept, none_read, blocks_fit}
 
 -- ---- the first blocks of an interval
 
@@ -46,40 +46,44 @@ module _ (s : Settings) (old new : Cursor) (due : Bool) (cds : Cds) (len : RunLe
     (one : has_one (bits_at old) ≡ true) (count_is : run_count s 0 len ≡ z) (some : 1 ≤ z) (fits : z ≤ segment_left s 0)
     (fills : (k : ℕ) → AreFilled s k [] → IsNextCds s k [] z cds → FillsNext s [] more (cds_front s z cds)) where
   module _ (count : Option ℕ) (limit i : ℕ) (aligned : i % s.interval ≡ 0) (ends : IsUntestedEnd s count limit i (i + s.interval)) where
-    within : i + z ≤ i + s.interval
-    within = omega (arith, fits)
+    are : AreUntested s count limit i (i + s.interval) i z old
+    are = record {
+      allowed = allowed;
+      aligned = aligned;
+      after = omega arith;
+      ends = ends;
+      some = some;
+      within = omega arith;
+      one = one;
+    }
 
     wanted : is_wanted s count old.list i old.pos ≡ true
-    wanted = wanted_here s count limit i (i + s.interval) i z old allowed aligned (omega arith) ends some within one
+    wanted = wanted_here are
 
     due-there : due ≡ is_reference_block s (i % s.interval)
-    due-there = all ∙ sym (ap (λ b. b && (i % s.interval == 0)) is_due ∙ ap (λ n. due && (n == 0)) aligned)
+    due-there = rw (all, is_due, aligned)
 
     placed : Ok (i + z) ≡ block_behind s count limit i (run_count s (i % s.interval) len) 0
-    placed =
-        untested-placed s count limit i (i + s.interval) i z old allowed aligned (omega arith) ends some within one
-        (subst (λ p. z ≤ segment_left s p) (sym aligned) fits)
-        ∙ ap (λ k. block_behind s count limit i k 0) (sym (ap (λ p. run_count s p len) aligned ∙ count_is))
+    placed = let count_there : run_count s (i % s.interval) len ≡ z = rw aligned count_is in rw count_there (untested-placed are (rw aligned fits))
 
     begun : IsReached s count limit old.list i old.pos i old.pos []
     begun = reached-start s count limit old.list i old.pos old.pos [] refl refl
 
     kept : z ≡ kept_count s count i (i + z - i)
-    kept = untested-kept s count limit i (i + s.interval) i z old allowed aligned (omega arith) ends some within one
+    kept = untested-kept are
 
     next : IsNextCds s (i - i) [] z cds
-    next = next-cds s count limit i old.pos old new i [] allowed begun wanted due cds len due-there len_is read 0 (i + z) placed z (i - i) aligned refl kept
+    next = next-cds old new allowed begun wanted due-there len_is read 0 (i + z) placed z (i - i) aligned refl kept
 
     filled : AreFilled s (i - i) []
-    filled = AreFilled-reached s count limit old.list i old.pos i old.pos [] allowed begun wanted
+    filled = AreFilled-reached allowed begun wanted
 
     first-leads : IsUntestedAt s (begun_at count limit i old.pos) (i + s.interval) (i + z) new more
     first-leads = record {
-      reached = reached-next s count limit i old.pos old new i [] allowed begun wanted due cds len due-there len_is read 0 (i + z) placed z more
-          new.list new.pos kept (fills (i - i) filled next) refl
-          (untested-begins s count limit i (i + s.interval) i z old allowed aligned (omega arith) ends some within one new.list new.pos);
+      reached = reached-next old new allowed begun wanted due-there len_is read 0 (i + z) placed z more
+          new.list new.pos kept (fills (i - i) filled next) refl (untested-begins are new.list new.pos);
       aligned = aligned;
-      behind = omega (arith, some);
+      behind = omega arith;
       untested = ends;
     }
 
@@ -88,13 +92,13 @@ module _ (s : Settings) (old new : Cursor) (due : Bool) (cds : Cds) (len : RunLe
 
 -- the first segment of an interval has room for one block, that of a short interval for all
 pub first_fits : (s : Settings) (z : ℕ) → IsAllowed s → s.interval ≤ 64 → z ≤ s.interval → z ≤ segment_left s 0
-first_fits s z allowed short within = omega (arith, short, within)
+first_fits s z allowed short within = omega arith
 
 one_first : (s : Settings) → IsAllowed s → 1 ≤ segment_left s 0
-one_first s allowed = omega (arith, interval-positive s allowed)
+one_first s allowed = omega (arith, interval-positive)
 
 held-unmapped : (s : Settings) (x : ℤ) (values : List ℕ) (more : List ℤ) → Unmaps s x values [] more → AllByRecursion (IsHeld s) more
-held-unmapped s x values more unmaps = subst (AllByRecursion (IsHeld s)) (sym unmaps.appended) unmaps.held
+held-unmapped s x values more unmaps = rw unmaps.appended unmaps.held
 
 pub reads_first : (s : Settings) (old new : Cursor) (pattern : ℕ) (values : List ℕ) (x : ℤ) (more : List ℤ) → IsAllowed s → s.preprocess ≡ true
     → IsReadSingle s old new (Some pattern) values → has_one (bits_at old) ≡ true → IsHeld s x → sample_pattern s x ≡ pattern → Unmaps s x values [] more
@@ -119,15 +123,14 @@ reads_unpredicted s old new values x more allowed off read one zero unmaps same 
 -- the places that were filled are those of the first block
 pub filled_front : {X : Type 0} (filled rest samples : List X) (n size : ℕ) → length filled ≡ length (take n samples) → n ≡ size → size ≤ length samples
     → take (1 * size) (filled ++ rest) ≡ filled
-filled_front filled rest samples n size is all room =
-    take_at filled rest (1 * size) (omega (arith, is, all, room, length-take n samples, one-mul size))
+filled_front filled rest samples n size is all room = take_at filled rest (1 * size) (omega (arith, length-take n samples, one-mul size))
 
 -- ---- one interval
 
 pub whole_end : (s : Settings) (count : Option ℕ) (limit i n : ℕ) → IsAllowed s → n ≡ i + s.interval → AreWithin s count limit n
     → IsUntestedEnd s count limit i n
 whole_end s count limit i n allowed is within =
-    untested-within s count limit i n 0 n allowed within.low within.counted is (sym (ap (λ b. if b then 1 else 0) within.unpadded)) (omega arith) within.samples
+    untested-within s count limit i n 0 n allowed within.low within.counted is (rw within.unpadded) (omega arith) within.samples
 
 -- the first blocks of an interval, and the others
 pub reads_interval : (s : Settings) (first rest : ℕ) (old mid new : Cursor) (front samples : List ℤ) → IsAllowed s → first + rest ≡ s.interval
@@ -136,82 +139,67 @@ reads_interval s first rest old mid new front samples allowed all begun rest_rea
   list = rest_read.list ∙ begun.list;
   leads = λ count limit i aligned within.
       let one : i + 1 * s.interval ≡ i + s.interval = omega arith in
-      let ends : IsUntestedEnd s count limit i (i + s.interval) = subst (IsUntestedEnd s count limit i) one (whole_end s count limit i _ allowed one within) in
-      let there = rest_read.leads (begun_at count limit i old.pos) (i + s.interval) (i + first) refl (omega (arith, all))
+      let ends : IsUntestedEnd s count limit i (i + s.interval) = rw one at (whole_end s count limit i _ allowed one within) in
+      let there = rest_read.leads (begun_at count limit i old.pos) (i + s.interval) (i + first) refl (omega arith)
       (begun.leads count limit i aligned ends) in
-      let end : i + first + rest ≡ i + 1 * s.interval = omega (arith, all) in
-      subst (λ j. IsReached s count limit old.list i old.pos j new.pos samples) end
-      (subst (λ list. IsReached s count limit list i old.pos (i + first + rest) new.pos samples) (rest_read.list ∙ begun.list) there.reached);
+      let end : i + first + rest ≡ i + 1 * s.interval = omega arith in
+      rw (rest_read.list, begun.list, end) at there.reached;
 }
 
 -- the first blocks of an interval, if these are all
 pub reads_whole : (s : Settings) (n : ℕ) (old new : Cursor) (samples : List ℤ) → IsAllowed s → n ≡ s.interval → ReadsFirst s n old new samples
     → ReadsWhole s 1 old new samples
 reads_whole s n old new samples allowed all first =
-    reads_interval s n 0 old new new samples samples allowed (omega (arith, all)) first (none_read s n new samples first.held)
+    reads_interval s n 0 old new new samples samples allowed (omega arith) first (none_read s n new samples first.held)
 
 -- ---- intervals one after the other
 
 pub reads_none : (s : Settings) (old new : Cursor) (samples : List ℤ) → new ≡ old → samples ≡ [] → ReadsWhole s 0 old new samples
 reads_none s old new samples same none = record {
-  list = ap (λ (cursor : Cursor). cursor.list) same;
+  list = rw same;
   leads = λ count limit i aligned within.
       let nothing : i ≡ i + 0 * s.interval = omega arith in
-      subst (λ j. IsReached s count limit old.list i old.pos j new.pos samples) nothing
-      (reached-start s count limit old.list i old.pos new.pos samples (ap (λ (cursor : Cursor). cursor.pos) same) none);
+      rw (← nothing) (reached-start s count limit old.list i old.pos new.pos samples (rw same) none);
 }
 
 -- the reader hasn't moved, and the front of the samples is the same
 pub reads_stay : (s : Settings) (n at len : ℕ) (old here there : Cursor) (before after : List ℤ) → there ≡ here → at ≡ len
     → take at after ≡ take at before → ReadsWhole s n old here (take at before) → ReadsWhole s n old there (take len after)
-reads_stay s n at len old here there before after stays place kept reads =
-    subst (λ (cursor : Cursor). ReadsWhole s n old cursor (take len after)) (sym stays)
-    (subst (λ k. ReadsWhole s n old here (take k after)) place (subst (ReadsWhole s n old here) (sym kept) reads))
+reads_stay s n at len old here there before after stays place kept reads = rw stays (rw (← kept, place) at reads)
 
 wanted_first : (s : Settings) (count : Option ℕ) (limit : ℕ) (bits : List Bool) (i b : ℕ) (sets : List CodedDataSet) (j e : ℕ) → i < j
     → LeadsTo s count limit bits i b sets j e → is_wanted s count bits i b ≡ true
-wanted_first s count limit bits i b [] j e further leads = absurd (omega (arith, further, leads.0))
+wanted_first s count limit bits i b [] j e further leads = absurd (omega arith)
 wanted_first s count limit bits i b (c ∷ sets) j e further leads = leads.0
 
 -- a reading goes on where an interval begins
-module _ (s : Settings) (count : Option ℕ) (limit : ℕ) (bits : List Bool) (first start n i b j e : ℕ) (xs ys : List ℤ) (allowed : IsAllowed s)
-    (i_is : i ≡ first + n * s.interval) (further : i < j) (front : IsReached s count limit bits first start i b xs)
-    (back : IsReached s count limit bits i b j e ys) where
-  abbrev front-blocks : List Block
-  front-blocks = stream_blocks s first front.sets
+reached-join : (s : Settings) (count : Option ℕ) (limit : ℕ) (bits : List Bool) (first start n i b j e : ℕ) (xs ys : List ℤ) → IsAllowed s
+    → i ≡ first + n * s.interval → i < j → IsReached s count limit bits first start i b xs → IsReached s count limit bits i b j e ys
+    → IsReached s count limit bits first start j e (xs ++ ys)
+reached-join s count limit bits first start n i b j e xs ys allowed i_is further front back = record {
+  sets = front.sets ++ back.sets;
+  leads = LeadsTo-append s count limit bits first start front.sets i b back.sets j e front.leads back.leads;
+  filled = rw (kept_blocks-joined s count limit bits first start front.sets i b back.sets allowed front.leads wanted)
+      (FillBlocks-append s n xs ys (stream_blocks s first front.sets) (kept_blocks s count i (stream_blocks s i back.sets)) allowed whole filled back.filled);
+}
+  where
+    wanted : is_wanted s count bits i b ≡ true
+    wanted = wanted_first s count limit bits i b back.sets j e further back.leads
 
-  wanted-back : is_wanted s count bits i b ≡ true
-  wanted-back = wanted_first s count limit bits i b back.sets j e further back.leads
+    filled : FillBlocks s xs (stream_blocks s first front.sets)
+    filled = FillBlocks-reached allowed front wanted
 
-  before-len : first + length front-blocks ≡ i
-  before-len = length-stream_blocks s count limit bits first start front.sets i b (interval-positive s allowed) front.leads
-
-  front-filled : FillBlocks s xs front-blocks
-  front-filled = subst (FillBlocks s xs) (kept_blocks-wanted s count bits first i b front-blocks before-len wanted-back) front.filled
-
-  front-whole : length xs ≡ n * interval_len s
-  front-whole =
-      front-filled.whole ∙ (ap (λ k. k * s.block_size) (omega (arith, before-len, i_is)) ∙ regrouped n s.interval s.block_size)
-    where
-      regrouped : (k r j : ℕ) → k * r * j ≡ k * (j * r)
-      regrouped k r j = omega arith
-
-  reached-join : IsReached s count limit bits first start j e (xs ++ ys)
-  reached-join = record {
-    sets = front.sets ++ back.sets;
-    leads = LeadsTo-append s count limit bits first start front.sets i b back.sets j e front.leads back.leads;
-    filled = subst (FillBlocks s (xs ++ ys))
-        (sym (ap (kept_blocks s count first) (stream_blocks-append s count limit bits first start front.sets i b back.sets front.leads)
-        ∙ kept_blocks-append s count bits first i b front-blocks (stream_blocks s i back.sets) before-len wanted-back))
-        (FillBlocks-append s n xs ys front-blocks (kept_blocks s count i (stream_blocks s i back.sets)) allowed front-whole front-filled back.filled);
-  }
+    whole : length xs ≡ n * interval_len s
+    whole =
+        let blocks : length (stream_blocks s first front.sets) ≡ n * s.interval = omega (arith, blocks-reached allowed front wanted) in
+        omega (arith, rw blocks at filled.whole)
 
 within_less : (s : Settings) (count : Option ℕ) (limit i j : ℕ) → i ≤ j → AreWithin s count limit j → AreWithin s count limit i
 within_less s count limit i j less within = record {
   unpadded = within.unpadded;
   low = within.low;
   counted = within.counted;
-  samples = omega (arith, mul-le-mul_right s.block_size less, within.samples);
+  samples = omega (arith, mul-le-mul_right s.block_size less);
 }
 
 -- m intervals more
@@ -221,16 +209,14 @@ reads_more s n m old mid new xs ys all allowed some front back is = record {
   list = back.list ∙ front.list;
   leads = λ count limit i aligned within.
       let middle : ℕ = i + n * s.interval in
-      let end : middle + m * s.interval ≡ i + (n + m) * s.interval = omega (arith, add-mul n m s.interval) in
+      let end : middle + m * s.interval ≡ i + (n + m) * s.interval = omega arith in
       let there : middle % s.interval ≡ 0 = add-mul-mod_self_right i n s.interval ∙ aligned in
-      let first = front.leads count limit i aligned (within_less s count limit _ _ (omega (arith, end)) within) in
-      let last = back.leads count limit middle there (subst (AreWithin s count limit) (sym end) within) in
+      let first = front.leads count limit i aligned (within_less s count limit _ _ (omega arith) within) in
+      let last = back.leads count limit middle there (rw end within) in
       let joined =
       reached-join s count limit old.list i old.pos n middle mid.pos (middle + m * s.interval) new.pos xs ys allowed refl
-      (omega (arith, some, le-mul_of_pos_right m (interval-positive s allowed))) first
-      (subst (λ list. IsReached s count limit list middle mid.pos (middle + m * s.interval) new.pos ys) front.list last) in
-      subst (IsReached s count limit old.list i old.pos (i + (n + m) * s.interval) new.pos) (sym is)
-      (subst (λ j. IsReached s count limit old.list i old.pos j new.pos (xs ++ ys)) end joined);
+      (omega (arith, le-mul_of_pos_right m (interval-positive s allowed))) first (rw front.list at last) in
+      rw is (rw end at joined);
 }
 
 -- one interval more
@@ -248,7 +234,7 @@ front_and_part xs part at k q within few =
     let front : List ℤ = take at xs in
     let tail : List ℤ = drop k (drop at xs) in
     let long : at + q ≡ length front + q = omega (arith, length-take-le at xs within) in
-    ap (λ n. take n (front ++ (part ++ tail))) long ∙ take-append-add front (part ++ tail) q ∙ ap (λ l. front ++ l) (take-append-le q part tail few)
+    rw (long, take-append-add, take-append-le)
 
 -- after n intervals of at most `most`, the rest of the samples has room for the others
 module _ (s : Settings) (n most at len : ℕ) (samples : List ℤ) (place : at ≡ n * len) (size : len ≡ interval_len s) (order : n ≤ most)
@@ -257,7 +243,7 @@ module _ (s : Settings) (n most at len : ℕ) (samples : List ℤ) (place : at �
   rest_old = take (length samples - at) (drop at samples)
 
   fit : at + (most - n) * interval_len s ≤ length samples
-  fit = blocks_fit 0 at n most (interval_len s) (length samples) (omega (arith, place, ap (λ l. n * l) size)) order (omega (arith, all))
+  fit = blocks_fit 0 at n most (interval_len s) (length samples) (grind arith) order (omega arith)
 
   pub rest_within : at ≤ length samples
   rest_within = omega (arith, fit)
@@ -272,10 +258,10 @@ module _ (s : Settings) (n most at len : ℕ) (samples : List ℤ) (place : at �
     rest_new = put_mid at (length samples - at) samples rest
 
     few : m * interval_len s ≤ length rest
-    few = omega (arith, mul-le-mul_right (interval_len s) fills.within, rest_room, fills.len)
+    few = omega (arith, mul-le-mul_right (interval_len s) fills.within, rest_room)
 
     cut : take k rest_new ≡ take at samples ++ take (m * interval_len s) rest
-    cut = ap (λ n. take n rest_new) end ∙ front_and_part samples rest at (length samples - at) (m * interval_len s) rest_within few
+    cut = rw end (front_and_part samples rest at (length samples - at) (m * interval_len s) rest_within few)
 
     some : 0 < m → ReadsWhole s (n + m) old new (take k rest_new)
     some there =
@@ -283,13 +269,10 @@ module _ (s : Settings) (n most at len : ℕ) (samples : List ℤ) (place : at �
 
     none : m ≤ 0 → ReadsWhole s (n + m) old new (take k rest_new)
     none least =
-        let nothing : m ≡ 0 = omega (arith, least) in
-        let place : k ≡ at = omega (arith, end, ap (λ m. m * interval_len s) nothing) in
-        let same : take k rest_new ≡ take at samples =
-        ap (λ n. take n rest_new) place ∙ front_kept samples rest at (length samples - at) rest_within in
-        subst (λ l. ReadsWhole s (n + m) old new l) (sym same)
-        (subst (λ (cursor : Cursor). ReadsWhole s (n + m) old cursor (take at samples)) (sym (fills.stays nothing))
-        (subst (λ j. ReadsWhole s j old mid (take at samples)) (omega (arith, nothing)) front))
+        let nothing : m ≡ 0 = omega arith in
+        let place : k ≡ at = grind arith in
+        let same : take k rest_new ≡ take at samples = rw place (front_kept samples rest at (length samples - at) rest_within) in
+        rw (same, fills.stays nothing) (subst (λ j. ReadsWhole s j old mid (take at samples)) (omega arith) front)
 
     pub reads_rest : ReadsWhole s (n + m) old new (take k rest_new)
     reads_rest = ⊎_elim some none (cases_lt 0 m)
@@ -299,20 +282,20 @@ module _ (s : Settings) (n most at len : ℕ) (samples : List ℤ) (place : at �
 -- the samples of the first blocks, and of the others
 pub rest_len : (first n j r len : ℕ) → first ≤ r → n ≡ j → len ≡ j * r → len ≡ first * n + (r - first) * j
 rest_len first n j r len within same is =
-    let all : first + (r - first) ≡ r = omega (arith, within) in
-    omega (arith, is, mul_comm j r, ap (λ k. k * j) all, add-mul first (r - first) j, ap (λ n. first * n) same)
+    let all : first + (r - first) ≡ r = omega arith in
+    grind (arith, add-mul)
 
 pub part_fits : (at count most len interval total : ℕ) → at ≡ count * len → count < most → len ≡ interval → most * interval ≤ total → at + len ≤ total
 part_fits at count most len interval total place below same room =
-    let more : (count + 1) * len ≤ most * len = mul-le-mul_right len (omega (arith, below)) in
-    omega (arith, more, add-mul count 1 len, ap (λ n. most * n) same, place, room)
+    let more : (count + 1) * len ≤ most * len = mul-le-mul_right len (omega arith) in
+    grind arith
 
 pub whole_within : (first n r j samples left len : ℕ) → 0 < n → 0 < len → len ≡ j * r → left ≡ samples - first * j → n ≤ left / len
     → (first + n * r) * j ≤ samples
 whole_within first n r j samples left len some positive len_is left_is within =
     let most : n * len ≤ left / len * len = mul-le-mul_right len within in
-    let least : 1 * len ≤ n * len = mul-le-mul_right len (omega (arith, some)) in
-    omega (arith, most, least, div-mul-le_self left len, expanded first n r j, ap (λ l. n * l) len_is, left_is, positive)
+    let least : 1 * len ≤ n * len = mul-le-mul_right len (omega arith) in
+    grind arith
   where
     expanded : (first n r j : ℕ) → (first + n * r) * j ≡ first * j + n * (j * r)
     expanded first n r j = omega arith
@@ -320,7 +303,7 @@ whole_within first n r j samples left len some positive len_is left_is within =
 pub parts_within : (k q total len interval most : ℕ) → k ≤ q → q ≡ total / len → len ≡ interval → total ≤ most → k * interval ≤ most
 parts_within k q total len interval most fewer is same within =
     let all : k * len ≤ q * len = mul-le-mul_right len fewer in
-    omega (arith, all, ap (λ q. q * len) is, div-mul-le_self total len, ap (λ n. k * n) same, within)
+    grind arith
 
 pub within_few : (s : Settings) (count : Option ℕ) (limit first n : ℕ) → IsAllowed s → first < most_blocks
     → (0 < n → AreWithin s count limit (first + n * s.interval)) → first + n * s.interval < most_blocks
@@ -330,10 +313,10 @@ within_few s count limit first n allowed few within = ⊎_elim some none (cases_
     some there =
         let last : ℕ = first + n * s.interval in
         let is = within there in
-        omega (arith, is.samples, few_samples count limit is.low is.counted, le-mul_of_pos_right last (block_size-positive s allowed))
+        omega (arith, few_samples count limit is.low is.counted, le-mul_of_pos_right last (block_size-positive s allowed))
 
     none : n ≤ 0 → first + n * s.interval < most_blocks
-    none least = let nothing : n ≡ 0 = omega (arith, least) in omega (arith, ap (λ n. n * s.interval) nothing, few)
+    none least = let nothing : n ≡ 0 = omega arith in grind arith
 
 -- ---- by places
 
@@ -342,10 +325,8 @@ pub place-several : (p : Place) (s : Settings) (count : Option ℕ) (limit : ℕ
     → IsReached s count limit bits first start i b samples → first < i → asked ≡ counted_from s count first samples
     → ReadsIntervals p asked (place_at s count limit bits i b)
 place-several p s count limit list bits first bit start i b samples asked is begins same aligned wanted reached further asked_is =
-    let from : place_at s count limit bits first start ≡ p =
-    ap (λ l. place_at s count limit l first start) same ∙ (ap (place_at s count limit list first) begins ∙ is) in
-    subst (λ p. ReadsIntervals p asked (place_at s count limit bits i b)) from (record {
-      wanted = ap (λ l. is_wanted s count l first start) same ∙ (ap (is_wanted s count list first) begins ∙ wanted);
+    rw (← is, ← begins, ← same) (record {
+      wanted = rw (same, begins) wanted;
       begins = aligned;
       piece = record { sets = reached.sets; leads = reached.leads; all_samples = samples; filled = reached.filled; counted = asked_is; same = refl };
       ahead = further;

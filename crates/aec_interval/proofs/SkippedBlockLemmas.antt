@@ -1,8 +1,7 @@
 -- Blocks that are skipped one after the other, of which none needs a test of its place, in one
 -- interval or in several.
-use Rattle.std.proofs.Common.{◌≡◌, ℕ, ◌+◌, ◌-◌, ◌*◌, ◌/◌, ◌%◌, ◌<◌, ◌≤◌, Bool, true, false, if◌then◌else◌, Option, IfSome, unwrap_or, refl, sym, ap, ◌∙◌, subst, arith, ⊎_elim}
+use Rattle.std.proofs.Common.{◌≡◌, ℕ, ◌+◌, ◌-◌, ◌*◌, ◌/◌, ◌%◌, ◌<◌, ◌≤◌, Bool, true, false, Option, IfSome, unwrap_or, refl, sym, ◌∙◌, arith, ⊎_elim}
 use Rattle.std.proofs.Math.Nat.{mod-lt, mod-eq_of_lt, mul-mod_left, mod-add-mod, mul-le-mul_right, le-mul_of_pos_right}
-use Rattle.std.proofs.lemmas.Nat.{div-add-mod'}
 use Rattle.std.proofs.lemmas.Bool.{cases_lt}
 use Rattle.aec_params.specs.declared.settings.Settings.{Settings}
 use Rattle.aec_params.specs.Params.{IsAllowed}
@@ -16,22 +15,22 @@ use Rattle.aec_block.specs.Gathering.{bits_at}
 use Rattle.aec_block.specs.SkipCds.{IsSkippedAs}
 use Rattle.aec_interval.specs.Skipping.{IsLedTo}
 use Rattle.aec_interval.specs.Steps.{IsUntestedEnd, SkipsBlocks}
-use Rattle.aec_interval.proofs.UntestedLemmas.{few_samples, untested-within, wanted_here, untested-placed, untested-begins, one_fits}
+use Rattle.aec_interval.proofs.UntestedLemmas.{AreUntested, few_samples, untested-within, wanted_here, untested-placed, untested-begins, one_fits}
 use Rattle.aec_interval.proofs.WantedSetLemmas.{led-next}
 
 -- ---- places in intervals
 
 -- the place after n more blocks depends on the place alone
 place-more : (r i p n : ℕ) → i % r ≡ p → (i + n) % r ≡ (p + n) % r
-place-more r i p n is = sym (mod-add-mod i r n) ∙ ap (λ m. (m + n) % r) is
+place-more r i p n is = rw (← mod-add-mod, is)
 
 pub place-begun : (r p : ℕ) → p < r → p ≡ (p + 0) % r
-place-begun r p within = let same : p ≡ p + 0 = omega arith in sym (ap (λ m. m % r) (sym same) ∙ mod-eq_of_lt within)
+place-begun r p within = let same : p ≡ p + 0 = omega arith in cc (mod-eq_of_lt within)
 
 pub place-next : (r p n at next : ℕ) → at ≡ (p + n) % r → next ≡ (at + 1) % r → next ≡ (p + (n + 1)) % r
 place-next r p n at next is next_is =
     let same : p + n + 1 ≡ p + (n + 1) = omega arith in
-    next_is ∙ (ap (λ m. (m + 1) % r) is ∙ (mod-add-mod (p + n) r 1 ∙ ap (λ m. m % r) same))
+    rw (next_is, is, mod-add-mod, same)
 
 -- ---- blocks
 
@@ -41,7 +40,7 @@ skips_none s place most cursor = record {
   within = omega arith;
   stays = λ _. refl;
   leads = λ count limit first start i there low counted within led.
-      let same : i ≡ i + 0 = omega arith in subst (λ j. IsLedTo s count limit cursor.list first start j cursor.pos) same led;
+      let same : i ≡ i + 0 = omega arith in rw same at led;
 }
 
 -- one more block is skipped
@@ -63,46 +62,45 @@ module _ (s : Settings) (place most n at : ℕ) (old mid new : Cursor) (allowed 
     begin = j - j % s.interval
 
     whole : begin ≡ j / s.interval * s.interval
-    whole = omega (arith, div-add-mod' j s.interval)
+    whole = omega arith
 
     aligned : begin % s.interval ≡ 0
-    aligned = ap (λ m. m % s.interval) whole ∙ mul-mod_left (j / s.interval) s.interval
+    aligned = rw (whole, mul-mod_left)
 
     inside : j + 1 ≤ begin + s.interval
     inside = omega (arith, mod-lt j (interval-positive s allowed))
 
     fewer : j * s.block_size ≤ unwrap_or count limit
-    fewer = let less : j * s.block_size ≤ (i + (n + 1)) * s.block_size = mul-le-mul_right s.block_size (omega arith) in omega (arith, less, within)
+    fewer = let less : j * s.block_size ≤ (i + (n + 1)) * s.block_size = mul-le-mul_right s.block_size (omega arith) in omega arith
 
     ends : IsUntestedEnd s count limit begin (j + 1)
-    ends = untested-within s count limit begin (begin + s.interval) 0 (j + 1) allowed low counted refl (sym (ap (λ b. if b then 1 else 0) unpadded))
-        (omega (arith, inside)) (subst (λ m. m * s.block_size ≤ unwrap_or count limit) next within)
+    ends = untested-within s count limit begin (begin + s.interval) 0 (j + 1) allowed low counted refl (rw unpadded)
+        (omega (arith, inside)) (rw next at within)
       where
         next : i + (n + 1) ≡ j + 1
         next = omega arith
 
     mid_led : IsLedTo s count limit mid.list first start j mid.pos
-    mid_led = subst (λ l. IsLedTo s count limit l first start j mid.pos) (sym before.list)
-        (before.leads count limit first start i there low counted (λ _. fewer) led)
+    mid_led = rw before.list (before.leads count limit first start i there low counted (λ _. fewer) led)
 
     past : begin ≤ j
     past = omega arith
 
     pub led_further : IsLedTo s count limit old.list first start (i + (n + 1)) new.pos
     led_further =
-        let wanted = wanted_here s count limit begin (j + 1) j 1 mid allowed aligned past ends (omega arith) (omega arith) one in
-        let placed = untested-placed s count limit begin (j + 1) j 1 mid allowed aligned past ends (omega arith) (omega arith) one (one_fits s j allowed) in
+        let are : AreUntested s count limit begin (j + 1) j 1 mid =
+        record { allowed = allowed; aligned = aligned; after = past; ends = ends; some = omega arith; within = omega arith; one = one } in
+        let wanted = wanted_here are in
+        let placed = untested-placed are (one_fits s j allowed) in
         let next : j + 1 ≡ i + (n + 1) = omega arith in
-        subst (λ m. IsLedTo s count limit old.list first start m new.pos) next
-        (led-next s count limit first start mid new j allowed mid_led wanted due (Blocks 1) (due_is ∙ ap (is_reference_block s) place_is) found 0 (j + 1) placed
-        old.list new.pos (sym (same ∙ before.list))
-        (untested-begins s count limit begin (j + 1) j 1 mid allowed aligned past ends (omega arith) (omega arith) one new.list new.pos))
+        rw next at (led-next mid new allowed mid_led wanted (rw (due_is, place_is)) found 0 (j + 1) placed old.list new.pos (sym (same ∙ before.list))
+        (untested-begins are new.list new.pos))
 
   pub skips_more : n + 1 ≤ most → SkipsBlocks s place most old (n + 1) new
   skips_more few = record {
     list = same ∙ before.list;
     within = few;
-    stays = λ none. absurd (omega (arith, none));
+    stays = λ none. absurd (omega arith);
     leads = λ count limit first start i there low counted within led. led_further count limit first start i there low counted (within (omega arith)) led;
   }
 
@@ -112,20 +110,21 @@ module _ (s : Settings) (place most n at : ℕ) (old mid new : Cursor) (allowed 
 pub fewer_samples : (s : Settings) (count : Option ℕ) (limit i n u : ℕ) → n ≤ u → (0 < u → (i + u) * s.block_size ≤ unwrap_or count limit)
     → 0 < n → (i + n) * s.block_size ≤ unwrap_or count limit
 fewer_samples s count limit i n u few within some =
-    let less : (i + n) * s.block_size ≤ (i + u) * s.block_size = mul-le-mul_right s.block_size (omega (arith, few)) in
-    omega (arith, less, within (omega (arith, some, few)))
+    let less : (i + n) * s.block_size ≤ (i + u) * s.block_size = mul-le-mul_right s.block_size (omega arith) in
+    omega (arith, within (omega arith))
 
 pub fewer_blocks : (s : Settings) (count : Option ℕ) (limit i n u : ℕ) → IsAllowed s → i < most_blocks → limit ≤ most_samples
     → IfSome count (λ m. m ≤ most_samples) → n ≤ u → (0 < u → (i + u) * s.block_size ≤ unwrap_or count limit) → i + n < most_blocks
 fewer_blocks s count limit i n u allowed low_block low counted few within = ⊎_elim more none (cases_lt 0 n)
   where
     more : 0 < n → i + n < most_blocks
-    more some = omega (
-      arith,
-      fewer_samples s count limit i n u few within some,
-      few_samples count limit low counted,
-      le-mul_of_pos_right (i + n) (block_size-positive s allowed),
-    )
+    more some =
+        omega (
+          arith,
+          fewer_samples s count limit i n u few within some,
+          few_samples count limit low counted,
+          le-mul_of_pos_right (i + n) (block_size-positive s allowed),
+        )
 
     none : n ≤ 0 → i + n < most_blocks
-    none zero = omega (arith, zero, low_block)
+    none zero = omega arith

@@ -1,8 +1,7 @@
 -- Coded data sets that are skipped: that there are samples they stand for, and how many of these
 -- are asked for.
-use Rattle.std.proofs.Common.{◌≡◌, ℕ, zero, suc, ◌+◌, ◌-◌, ◌*◌, ◌/◌, ◌%◌, ◌<◌, ◌≤◌, Bool, true, Option, Some, None, ℤ, List, [], length, take, drop, refl, sym, ap, ◌∙◌, subst, arith, min, ⊎_elim}
-use Rattle.std.proofs.Math.Nat.{zero-mul, suc-mul, mul-le-mul_right, mul-sub, mul_comm}
-use Rattle.std.proofs.lemmas.Nat.{div-add-mod'}
+use Rattle.std.proofs.Common.{◌≡◌, ℕ, zero, suc, ◌+◌, ◌-◌, ◌*◌, ◌/◌, ◌%◌, ◌<◌, ◌≤◌, Bool, true, Option, Some, None, ℤ, List, [], length, take, drop, refl, subst, arith, min, ⊎_elim}
+use Rattle.std.proofs.Math.Nat.{mul-le-mul_right, mul-sub, mul_comm}
 use Rattle.std.proofs.lemmas.List.{take-append-drop, length-take}
 use Rattle.std.proofs.lemmas.Bool.{cases_lt}
 use Rattle.std.specs.Int.{div_ceil}
@@ -25,27 +24,27 @@ use Rattle.aec_interval.proofs.ReachedLemmas.{length-stream_blocks}
 
 -- blocks can be at a place if they can be k intervals later
 AreBlocksFrom-intervals : (s : Settings) (k i : ℕ) (blocks : List Block) → AreBlocksFrom s (i + k * s.interval) blocks → AreBlocksFrom s i blocks
-AreBlocksFrom-intervals s zero i blocks h = subst (λ n. AreBlocksFrom s n blocks) (omega (arith, zero-mul s.interval)) h
+AreBlocksFrom-intervals s zero i blocks h = subst (λ n. AreBlocksFrom s n blocks) (omega arith) h
 AreBlocksFrom-intervals s (suc k) i blocks h =
     AreBlocksFrom-intervals s k i blocks (AreBlocksFrom-interval s (i + k * s.interval) blocks
-    (subst (λ n. AreBlocksFrom s n blocks) (omega (arith, suc-mul k s.interval)) h))
+    (subst (λ n. AreBlocksFrom s n blocks) (omega arith) h))
 
 kept-shape : (s : Settings) (count : Option ℕ) (i j : ℕ) (blocks : List Block) → AreBlocksFrom s i blocks → AreBlocksFrom s i (kept_blocks s count j blocks)
 kept-shape s None i j blocks h = h
 kept-shape s (Some count) i j blocks h =
     let n = div_ceil count s.block_size - j in
-    AreBlocksFrom-front s i (take n blocks) (drop n blocks) (subst (AreBlocksFrom s i) (sym (take-append-drop n blocks)) h)
+    AreBlocksFrom-front s i (take n blocks) (drop n blocks) (rw take-append-drop h)
 
 pub samples-of_sets : (s : Settings) (count : Option ℕ) (limit : ℕ) (bits : List Bool) (first start : ℕ) (sets : List CodedDataSet) (i b : ℕ) → IsAllowed s
     → first % s.interval ≡ 0 → LeadsTo s count limit bits first start sets i b
     → (samples : List ℤ) × FillBlocks s samples (kept_blocks s count first (stream_blocks s first sets))
 samples-of_sets s count limit bits first start sets i b allowed aligned leads =
-    let whole : first ≡ 0 + first / s.interval * s.interval = omega (arith, div-add-mod' first s.interval, aligned) in
+    let whole : first ≡ 0 + first / s.interval * s.interval = omega arith in
     let blocks : List Block = stream_blocks s first sets in
     let kept : List Block = kept_blocks s count first blocks in
     let shape : AreBlocksFrom s first blocks = stream_blocks-shape s count limit bits first start sets i b allowed leads in
     samples-of_blocks s kept allowed
-    (AreBlocksFrom-intervals s (first / s.interval) 0 kept (subst (λ n. AreBlocksFrom s n kept) whole (kept-shape s count first first blocks shape)))
+    (AreBlocksFrom-intervals s (first / s.interval) 0 kept (rw (← whole) (kept-shape s count first first blocks shape)))
 
 pub led-start : (s : Settings) (count : Option ℕ) (limit : ℕ) (bits : List Bool) (first start b : ℕ) → b ≡ start
     → IsLedTo s count limit bits first start first b
@@ -59,13 +58,13 @@ asked_of f c k j n most = ⊎_elim fewer all (cases_lt (c - f) k)
   where
     fewer : c - f < k → min (n - f * j) (min (c - f) k * j) ≡ min (k * j) (n - f * j)
     fewer h =
-        let least : min (c - f) k ≡ c - f = omega (arith, h) in
-        let enough : (c - f) * j ≤ k * j = mul-le-mul_right j (omega (arith, h)) in
-        let cut : (c - f) * j ≡ c * j - f * j = omega (arith, mul-sub j c f, mul_comm j (c - f), mul_comm j c, mul_comm j f) in
-        omega (arith, ap (λ m. m * j) least, enough, cut, most)
+        let least : min (c - f) k ≡ c - f = omega arith in
+        let enough : (c - f) * j ≤ k * j = mul-le-mul_right j (omega arith) in
+        let cut : (c - f) * j ≡ c * j - f * j = omega (arith, mul-sub, mul_comm) in
+        grind arith
 
     all : k ≤ c - f → min (n - f * j) (min (c - f) k * j) ≡ min (k * j) (n - f * j)
-    all h = let least : min (c - f) k ≡ k = omega (arith, h) in omega (arith, ap (λ m. m * j) least)
+    all h = let least : min (c - f) k ≡ k = omega arith in grind arith
 
 length-counted_from : (s : Settings) (count : Option ℕ) (limit : ℕ) (bits : List Bool) (first start : ℕ) (sets : List CodedDataSet) (i b : ℕ) (all : List ℤ)
     → IsAllowed s → LeadsTo s count limit bits first start sets i b → FillBlocks s all (kept_blocks s count first (stream_blocks s first sets))
@@ -73,15 +72,14 @@ length-counted_from : (s : Settings) (count : Option ℕ) (limit : ℕ) (bits : 
 length-counted_from s None limit bits first start sets i b all allowed leads filled =
     let many : length (stream_blocks s first sets) ≡ i - first =
     omega (arith, length-stream_blocks s None limit bits first start sets i b (interval-positive s allowed) leads) in
-    filled.whole ∙ ap (λ k. k * s.block_size) many
+    rw (filled.whole, many)
 length-counted_from s (Some n) limit bits first start sets i b all allowed leads filled =
     let many : length (stream_blocks s first sets) ≡ i - first =
     omega (arith, length-stream_blocks s (Some n) limit bits first start sets i b (interval-positive s allowed) leads) in
     let needed = div_ceil n s.block_size in
-    let kept : length all ≡ min (needed - first) (i - first) * s.block_size =
-    filled.whole ∙ ap (λ k. k * s.block_size) (length-take (needed - first) (stream_blocks s first sets) ∙ ap (min (needed - first)) many) in
-    length-take (n - first * s.block_size) all ∙ (ap (min (n - first * s.block_size)) kept
-    ∙ asked_of first needed (i - first) s.block_size n (omega (arith, div_ceil-bounds n s.block_size (block_size-positive s allowed))))
+    let kept : length all ≡ min (needed - first) (i - first) * s.block_size = rw (filled.whole, length-take, many) in
+    rw (length-take, kept) (asked_of first needed (i - first) s.block_size n
+    (omega (arith, div_ceil-bounds n s.block_size (block_size-positive s allowed))))
 
 pub sets_stand_for_samples : AllSetsStandForSamples
 sets_stand_for_samples s count limit bits i b sets j e allowed aligned leads =
@@ -94,11 +92,11 @@ asked-few : (s : Settings) (count : Option ℕ) (first i : ℕ) → i ≤ first 
 asked-few s count first i within = by_count count
   where
     most : (i - first) * s.block_size ≤ s.interval * s.block_size
-    most = mul-le-mul_right s.block_size (omega (arith, within))
+    most = mul-le-mul_right s.block_size (omega arith)
 
     by_count : (count : Option ℕ) → asked_len s count first i ≤ interval_len s
-    by_count None = omega (arith, most, mul_comm s.interval s.block_size)
-    by_count (Some n) = omega (arith, most, mul_comm s.interval s.block_size)
+    by_count None = omega (arith, most)
+    by_count (Some n) = omega (arith, most)
 
 pub interval-skipped : (s : Settings) (count : Option ℕ) (limit : ℕ) (bits : List Bool) (first start i b : ℕ) → IsAllowed s → first % s.interval ≡ 0
     → is_wanted s count bits first start ≡ true → IsLedTo s count limit bits first start i b → first < i → i ≤ first + s.interval
@@ -113,7 +111,7 @@ interval-skipped s count limit bits first start i b allowed aligned wanted led a
         wanted = wanted;
         begins = aligned;
         piece = record { sets = led.sets; leads = led.leads; all_samples = all.0; filled = all.1; counted = refl; same = refl };
-        few = omega (arith, counted, asked-few s count first i within);
+        few = omega (arith, asked-few s count first i within);
         ahead = ahead;
         within = within;
         to_end = to_end;
@@ -128,13 +126,8 @@ pub place-skipped : (p : Place) (s : Settings) (count : Option ℕ) (limit : ℕ
     → (is_wanted s count bits i b ≡ true → i ≡ first + s.interval) → len ≡ asked_len s count first i
     → HasInterval p len (place_at s count limit bits i b)
 place-skipped p s count limit list bits first bit start i b len is allowed begins same aligned wanted led ahead within to_end asked =
-    let wanted_there : is_wanted s count bits first start ≡ true =
-    ap (λ l. is_wanted s count l first start) same ∙ (ap (is_wanted s count list first) begins ∙ wanted) in
-    let from : place_at s count limit bits first start ≡ p =
-    ap (λ l. place_at s count limit l first start) same ∙ (ap (place_at s count limit list first) begins ∙ is) in
-    subst (λ p. HasInterval p len (place_at s count limit bits i b)) from
-    (subst (λ n. HasInterval (place_at s count limit bits first start) n (place_at s count limit bits i b)) (sym asked)
-    (interval-skipped s count limit bits first start i b allowed aligned wanted_there led ahead within to_end))
+    rw (← is, ← begins, ← same, asked)
+    (interval-skipped s count limit bits first start i b allowed aligned (rw (same, begins) wanted) led ahead within to_end)
 
 -- ---- several intervals
 
@@ -144,19 +137,14 @@ pub places-skipped : (p : Place) (s : Settings) (count : Option ℕ) (limit : �
     → is_wanted s count list first bit ≡ true → IsLedTo s count limit bits first start i b → first < i → len ≡ asked_len s count first i
     → HasIntervals p len (place_at s count limit bits i b)
 places-skipped p s count limit list bits first bit start i b len is allowed begins same aligned wanted led ahead asked =
-    let wanted_there : is_wanted s count bits first start ≡ true =
-    ap (λ l. is_wanted s count l first start) same ∙ (ap (is_wanted s count list first) begins ∙ wanted) in
-    let from : place_at s count limit bits first start ≡ p =
-    ap (λ l. place_at s count limit l first start) same ∙ (ap (place_at s count limit list first) begins ∙ is) in
     let all = samples-of_sets s count limit bits first start led.sets i b allowed aligned led.leads in
-    let counted = length-counted_from s count limit bits first start led.sets i b all.0 allowed led.leads all.1 in
-    subst (λ p. HasIntervals p len (place_at s count limit bits i b)) from (record {
+    rw (← is, ← begins, ← same, asked) (record {
       samples = counted_from s count first all.0;
       read = record {
-        wanted = wanted_there;
+        wanted = rw (same, begins) wanted;
         begins = aligned;
         piece = record { sets = led.sets; leads = led.leads; all_samples = all.0; filled = all.1; counted = refl; same = refl };
         ahead = ahead;
       };
-      counted = counted ∙ sym asked;
+      counted = length-counted_from s count limit bits first start led.sets i b all.0 allowed led.leads all.1;
     })

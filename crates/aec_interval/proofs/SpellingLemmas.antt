@@ -1,6 +1,6 @@
 -- The shortest spelling of a block is one of its spellings: a lawful coded data set that stands for
 -- the block.
-use Rattle.std.proofs.Common.{◌≡◌, ℕ, zero, suc, ◌+◌, ◌-◌, ◌^◌, ◌<◌, ◌≤◌, Bool, true, false, cond, Option, Some, None, List, [], ◌∷◌, length, map, drop, refl, sym, ap, ◌∙◌, arith}
+use Rattle.std.proofs.Common.{◌≡◌, ℕ, zero, suc, ◌+◌, ◌^◌, ◌<◌, ◌≤◌, Bool, true, false, cond, Option, Some, None, List, [], ◌∷◌, length, map, drop, refl, sym, arith}
 use Rattle.std.specs.Prelude.{nat_lt}
 use Rattle.std.specs.List.{AllByRecursion, range_with_len, best_of, list_all}
 use Rattle.std.proofs.lemmas.List.{length-drop}
@@ -30,7 +30,7 @@ best_of-either P beats a (x ∷ xs) h k =
 -- one value less if there is a reference
 pub length-written_values : (s : Settings) (t : Bool) (reference : Option ℕ) (values : List ℕ) → HasReference s t reference → length values ≡ s.block_size
     → length (after_reference reference values) ≡ written_count s t
-length-written_values s true (Some r) values h e = length-drop 1 values ∙ ap (λ k. k - 1) e
+length-written_values s true (Some r) values h e = rw (length-drop, e)
 length-written_values s true None values h e = absurd h
 length-written_values s false (Some r) values h e = absurd h
 length-written_values s false None values h e = e
@@ -57,7 +57,7 @@ judged_members s (Some r) values h = list_all-from_all (2 ^ s.bits) (drop 1 valu
 -- ---- each spelling
 
 block-again : (b : Block) (values : List ℕ) → values ≡ b.values → record { reference = b.reference; values = values } ≡ b
-block-again b values e = ap (λ values. record { reference = b.reference; values = values }) e
+block-again b values e = rw e
 
 pub Spells-uncompressed : (s : Settings) (t : Bool) (b : Block) → IsBlockOf s t b → Spells s t b (uncompressed b)
 Spells-uncompressed s t b h = record {
@@ -67,7 +67,7 @@ Spells-uncompressed s t b h = record {
   };
   small = list_all-from_all (2 ^ s.bits) (written_values b) (all-written_values (λ v. v < 2 ^ s.bits) b.reference b.values h.below);
   single = λ p. refl;
-  blocks = λ p. ap (λ b. b ∷ []) (block-again b (placed_values b.reference (written_values b)) (sym h.place));
+  blocks = λ p. rw (block-again b (placed_values b.reference (written_values b)) (sym h.place));
 }
 
 pub Spells-paired : (s : Settings) (t : Bool) (b : Block) → IsBlockOf s t b → Spells s t b (paired b)
@@ -75,7 +75,7 @@ Spells-paired s t b h = record {
   shape = record { reference = h.reference; body = h.count };
   small = judged_members s b.reference b.values h.below;
   single = λ p. refl;
-  blocks = λ p. ap (λ b. b ∷ []) (block-again b (placed_members b.reference b.values) (sym h.place));
+  blocks = λ p. rw (block-again b (placed_members b.reference b.values) (sym h.place));
 }
 
 pub Spells-split : (s : Settings) (t : Bool) (b : Block) (k : ℕ) → IsBlockOf s t b → k < split_count s → Spells s t b (split b k)
@@ -83,7 +83,7 @@ Spells-split s t b k h few = record {
   shape = record { reference = h.reference; body = (few, length-written_values s t b.reference b.values h.reference h.count) };
   small = list_all-from_all (2 ^ s.bits) (written_values b) (all-written_values (λ v. v < 2 ^ s.bits) b.reference b.values h.below);
   single = λ p. refl;
-  blocks = λ p. ap (λ b. b ∷ []) (block-again b (placed_values b.reference (written_values b)) (sym h.place));
+  blocks = λ p. rw (block-again b (placed_values b.reference (written_values b)) (sym h.place));
 }
 
 all-splits : (s : Settings) (t : Bool) (b : Block) → IsBlockOf s t b → (first count : ℕ) → first + count ≤ split_count s

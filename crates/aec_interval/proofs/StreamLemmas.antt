@@ -1,12 +1,12 @@
 -- The codes of intervals, one after the other, are read as the intervals.
-use Rattle.std.proofs.Common.{◌≡◌, ℕ, ◌+◌, ◌-◌, ◌*◌, ◌/◌, ◌%◌, ◌<◌, ◌≤◌, min, Bool, true, false, Some, List, [], ◌∷◌, ◌++◌, length, map, take, replicate, refl, sym, ap, ap₂, ◌∙◌, subst, arith, ⊎_elim}
-use Rattle.std.specs.Prelude.{ℤ, ◌==◌, ◌&&◌, if◌then◌else◌}
+use Rattle.std.proofs.Common.{◌≡◌, ℕ, ◌+◌, ◌-◌, ◌*◌, ◌/◌, ◌%◌, ◌<◌, ◌≤◌, Bool, true, false, Some, List, [], ◌∷◌, ◌++◌, length, map, take, replicate, refl, sym, ap, ap₂, ◌∙◌, subst, arith, ⊎_elim}
+use Rattle.std.specs.Prelude.{ℤ, ◌==◌, if◌then◌else◌}
 use Rattle.std.specs.List.{AllByRecursion, flat_map}
-use Rattle.std.specs.Int.{div_ceil, next_multiple_of}
+use Rattle.std.specs.Int.{div_ceil}
 use Rattle.std.proofs.Math.Nat.{add-mul-div_right, add-mul-mod_self_right, mul-mod_left}
 use Rattle.std.proofs.lemmas.List.{length-append, length-replicate, append_assoc, append-nil, take_all}
 use Rattle.std.proofs.Math.Seq.{take-append-add}
-use Rattle.std.proofs.lemmas.Bool.{cases_Bool, cond-true, cond-false, and_from, and_left, eq-eqb}
+use Rattle.std.proofs.lemmas.Bool.{cases_Bool, and_from, and_left, eq-eqb}
 use Rattle.aec_params.specs.declared.settings.Settings.{Settings}
 use Rattle.aec_params.specs.Params.{IsAllowed, IsHeld, interval_len}
 use Rattle.aec_params.specs.Cutting.{up_to_multiple}
@@ -16,12 +16,13 @@ use Rattle.aec_params.specs.Intervals.{unpadded_bits, interval_bits}
 use Rattle.aec_params.specs.Streams.{stream_of}
 use Rattle.aec_params.specs.Reading.{covered_blocks, ReadsBlocks, begin_of, LeadsTo, stream_blocks}
 use Rattle.aec_interval.specs.Laws.{ReadsEach}
-use Rattle.aec_interval.proofs.CuttingLemmas.{IsPieceBefore, by_pieces, pieces_of-nil, pieces_of-cons, pieces_of-one, div_ceil-zero, div_ceil-positive, div_ceil-times}
+use Rattle.aec_interval.proofs.CuttingLemmas.{IsPieceBefore, by_pieces, pieces_of-nil, pieces_of-cons, pieces_of-one, div_ceil-positive}
 use Rattle.aec_params.proofs.SettingLaws.{block_size-positive}
 use Rattle.aec_interval.proofs.BlockLemmas.{all_left, all_right, length-blocks_of, blocks-few}
 use Rattle.aec_interval.proofs.IntervalLemmas.{ReadsBlocks-unpadded_bits}
 use Rattle.aec_interval.proofs.PlaceLemmas.{end_of, end_of-reaches, end_of-within, length-covered_blocks, stream_blocks-covered, LeadsTo-append, stream_blocks-append, LeadsTo-interval}
 pub use Rattle.aec_params.proofs.SettingLaws.{interval-positive}
+pub use Rattle.aec_params.proofs.SampleShapeLaws.{length-blocks_of_whole as length-full_blocks}
 pub use Rattle.aec_params.proofs.SampleLaws.{interval_len-positive, all_blocks_of-nil}
 
 -- ---- whole intervals before others
@@ -32,33 +33,27 @@ div_ceil-add k m n h =
     let e : n * k + m ≡ m + k * n = omega arith in
     let q = ap (λ x. x / n) e ∙ add-mul-div_right m k h in
     let r = ap (λ x. x % n) e ∙ add-mul-mod_self_right m k n in
-    omega (arith, ap (λ x. min 1 x) r)
+    grind arith
 
 pub stream_of-nil : (s : Settings) → IsAllowed s → stream_of s [] ≡ []
-stream_of-nil s a = ap (flat_map (interval_bits s)) (pieces_of-nil (interval_len s) (interval_len-positive s a))
+stream_of-nil s a = rw (pieces_of-nil (interval_len s) (interval_len-positive s a))
 
 pub stream_of-cons : (s : Settings) (front rest : List ℤ) → IsPieceBefore (interval_len s) front rest
     → stream_of s (front ++ rest) ≡ interval_bits s front ++ stream_of s rest
-stream_of-cons s front rest h = ap (flat_map (interval_bits s)) (pieces_of-cons (interval_len s) front rest h)
+stream_of-cons s front rest h = rw pieces_of-cons
 
 pub all_blocks_of-cons : (s : Settings) (front rest : List ℤ) → IsPieceBefore (interval_len s) front rest
     → all_blocks_of s (front ++ rest) ≡ blocks_of s front ++ all_blocks_of s rest
-all_blocks_of-cons s front rest h = ap (flat_map (blocks_of s)) (pieces_of-cons (interval_len s) front rest h)
+all_blocks_of-cons s front rest h = rw pieces_of-cons
 
 -- the blocks of one interval
 pub all_blocks_of-one : (s : Settings) (v : List ℤ) → 0 < length v → length v ≤ interval_len s → all_blocks_of s v ≡ blocks_of s v
-all_blocks_of-one s v some few = ap (flat_map (blocks_of s)) (pieces_of-one (interval_len s) v some few) ∙ append-nil (blocks_of s v)
+all_blocks_of-one s v some few = rw (pieces_of-one, append-nil)
 
--- the blocks of a full interval, and of what comes after it
-pub length-full_blocks : (s : Settings) (front : List ℤ) → IsAllowed s → length front ≡ interval_len s → length (blocks_of s front) ≡ s.interval
-length-full_blocks s front a full =
-    length-blocks_of s front a ∙ ap (λ m. div_ceil m s.block_size) (full ∙ omega arith) ∙ div_ceil-times s.interval s.block_size (block_size-positive s a)
-
+-- a full interval, and what comes after it
 pub div_ceil-interval : (s : Settings) (front rest : List ℤ) → IsAllowed s → length front ≡ interval_len s
     → div_ceil (length (front ++ rest)) s.block_size ≡ s.interval + div_ceil (length rest) s.block_size
-div_ceil-interval s front rest a full =
-    ap (λ m. div_ceil m s.block_size) (length-append front rest ∙ ap (λ m. m + length rest) full)
-    ∙ div_ceil-add s.interval (length rest) s.block_size (block_size-positive s a)
+div_ceil-interval s front rest a full = rw (length-append, full, div_ceil-add s.interval (length rest) s.block_size (block_size-positive s a))
 
 -- ---- what padding adds
 
@@ -77,11 +72,10 @@ interval_bits-padded s v = padded s.pad (unpadded_bits s v) (replicate (up_to_mu
     padded false x z = sym (append-nil x)
 
 length-padding_of : (s : Settings) (code : List Bool) → s.pad ≡ true → length (padding_of s code) ≡ up_to_multiple 8 (length code)
-length-padding_of s code t =
-    ap length (cond-true s.pad (replicate (up_to_multiple 8 (length code)) false) [] t) ∙ length-replicate (up_to_multiple 8 (length code)) false
+length-padding_of s code t = rw (t, length-replicate)
 
 pub no_padding : (s : Settings) (code : List Bool) → s.pad ≡ false → padded_code s code ≡ code
-no_padding s code t = ap (◌++◌ code) (cond-false s.pad (replicate (up_to_multiple 8 (length code)) false) [] t) ∙ append-nil code
+no_padding s code t = rw (t, append-nil)
 
 -- bits before the start of an interval: with padding they are whole bytes
 abbrev pub IsAligned : Settings → List Bool → Type 0
@@ -108,14 +102,12 @@ begin_of-code s code pre rest k aligned = ⊎_elim padded plain (cases_Bool s.pa
     enough = omega (arith, length-append pre (padded_code s code), length-append pre (padded_code s code ++ rest), length-append (padded_code s code) rest)
 
     plain : s.pad ≡ false → begin_of s bits i b ≡ length (pre ++ padded_code s code)
-    plain t = cond-false (s.pad && (i % s.interval == 0)) (min (next_multiple_of b 8) (length bits)) b (and_left s.pad (i % s.interval == 0) t)
-        ∙ omega (arith, length-append pre (padded_code s code), ap length (no_padding s code t))
+    plain t = rw and_left (omega (arith, length-append pre (padded_code s code), ap length (no_padding s code t)))
 
     padded : s.pad ≡ true → begin_of s bits i b ≡ length (pre ++ padded_code s code)
     padded t =
-        cond-true (s.pad && (i % s.interval == 0)) (min (next_multiple_of b 8) (length bits)) b
-        (and_from s.pad (i % s.interval == 0) t (eq-eqb (i % s.interval) 0 (mul-mod_left k s.interval)))
-        ∙ omega (arith, len, enough, length-padding_of s code t, aligned t)
+        rw (and_from s.pad (i % s.interval == 0) t (eq-eqb (i % s.interval) 0 (mul-mod_left k s.interval)))
+        (omega (arith, len, enough, length-padding_of s code t, aligned t))
 
 pub IsAligned-code : (s : Settings) (code pre : List Bool) → IsAligned s pre → IsAligned s (pre ++ padded_code s code)
 IsAligned-code s code pre aligned t =
@@ -140,14 +132,14 @@ HasWalk s count limit tail xs = (codes : List (List Bool)) (k i b : ℕ) (pre bi
 
 no_walk : (s : Settings) (count limit : ℕ) (tail : List Bool) → IsAllowed s → HasWalk s count limit tail []
 no_walk s count limit tail a codes k i b pre bits each aligned e f spelled need =
-    let z : div_ceil count s.block_size - i ≡ 0 = omega (arith, div_ceil-zero s.block_size (block_size-positive s a)) in
+    let z : div_ceil count s.block_size - i ≡ 0 = omega arith in
     record {
       sets = [];
       end_block = i;
       end_bit = b;
       leads = (refl, refl);
       enough = omega arith;
-      blocks = ap (λ n. take n []) z ∙ sym (all_blocks_of-nil s a);
+      blocks = rw (z, all_blocks_of-nil);
     }
 
 -- the walk through the code of one interval
@@ -170,7 +162,7 @@ part_of s count limit k i b pre code rest bits v a some few r e f spelled need =
     let len : n ≡ div_ceil (length v) s.block_size = length-blocks_of s v a in
     let within : n ≤ s.interval = blocks-few s v a few in
     let positive : 0 < n = omega (arith, div_ceil-positive (length v) s.block_size (block_size-positive s a) some) in
-    let cut = spelled ∙ ap (◌++◌ pre) (append_assoc code (padding_of s code) rest ∙ ap (λ x. x ++ (padding_of s code ++ rest)) r.spelled) in
+    let cut = spelled ∙ ap (◌++◌ pre) (rw (append_assoc, r.spelled)) in
     record {
       sets = r.sets;
       leads = subst (λ x. LeadsTo s (Some count) limit bits i b r.sets (k * s.interval + end_of s 0 r.sets)
@@ -186,13 +178,11 @@ part_of s count limit k i b pre code rest bits v a some few r e f spelled need =
 
 last_walk : (s : Settings) (count limit : ℕ) (tail : List Bool) → IsAllowed s → (v : List ℤ) → 0 < length v → length v ≤ interval_len s
     → HasWalk s count limit tail v
-last_walk s count limit tail a v some few [] k i b pre bits each aligned e f spelled need =
-    absurd (subst (ReadsEach s []) (pieces_of-one (interval_len s) v some few) each)
+last_walk s count limit tail a v some few [] k i b pre bits each aligned e f spelled need = absurd (rw pieces_of-one at each)
 last_walk s count limit tail a v some few (code ∷ codes) k i b pre bits each aligned e f spelled need =
-    let parts = subst (ReadsEach s (code ∷ codes)) (pieces_of-one (interval_len s) v some few) each in
+    let parts = rw pieces_of-one at each in
     let later = flat_map (padded_code s) codes ++ tail in
-    let part = part_of s count limit k i b pre code later bits v a some few parts.0 e f
-    (spelled ∙ ap (◌++◌ pre) (append_assoc (padded_code s code) (flat_map (padded_code s) codes) tail)) (omega arith) in
+    let part = part_of s count limit k i b pre code later bits v a some few parts.0 e f (rw (spelled, append_assoc)) (omega arith) in
     let len = length-blocks_of s v a in
     let needed : div_ceil count s.block_size - i ≡ length (blocks_of s v) = omega arith in
     record {
@@ -200,15 +190,14 @@ last_walk s count limit tail a v some few (code ∷ codes) k i b pre bits each a
       end_block = k * s.interval + end_of s 0 part.sets;
       end_bit = begin_of s bits (k * s.interval + end_of s 0 part.sets) (length pre + length code);
       leads = part.leads;
-      enough = omega (arith, part.reaches);
-      blocks = ap₂ take needed part.covered ∙ part.stand_for ∙ sym (all_blocks_of-one s v some few);
+      enough = omega arith;
+      blocks = rw (needed, part.covered, part.stand_for, all_blocks_of-one);
     }
 
 -- the walk through the code of a full interval, and on through the others
 walk_on : (s : Settings) (count limit : ℕ) (tail : List Bool) → IsAllowed s → (front rest : List ℤ) → IsPieceBefore (interval_len s) front rest
     → 0 < length rest → HasWalk s count limit tail rest → HasWalk s count limit tail (front ++ rest)
-walk_on s count limit tail a front rest piece more ih [] k i b pre bits each aligned e f spelled need =
-    absurd (subst (ReadsEach s []) (pieces_of-cons (interval_len s) front rest piece) each)
+walk_on s count limit tail a front rest piece more ih [] k i b pre bits each aligned e f spelled need = absurd (rw pieces_of-cons at each)
 walk_on s count limit tail a front rest piece more ih (code ∷ codes) k i b pre bits each aligned e f spelled need =
     record {
       sets = part.sets ++ later.sets;
@@ -216,14 +205,20 @@ walk_on s count limit tail a front rest piece more ih (code ∷ codes) k i b pre
       end_bit = later.end_bit;
       leads = LeadsTo-append s (Some count) limit bits i b part.sets j g later.sets later.end_block later.end_bit part.leads later.leads;
       enough = later.enough;
-      blocks = ap₂ take all_needed (stream_blocks-append s (Some count) limit bits i b part.sets j g later.sets part.leads
-          ∙ ap (λ x. x ++ stream_blocks s j later.sets) part.covered)
-          ∙ take-append-add (covered_blocks s 0 part.sets) (stream_blocks s j later.sets) (div_ceil count s.block_size - j)
-          ∙ ap₂ ◌++◌ here later.blocks ∙ sym (all_blocks_of-cons s front rest piece);
+      blocks =
+          rw (
+            all_needed,
+            stream_blocks-append s (Some count) limit bits i b part.sets j g later.sets part.leads,
+            part.covered,
+            take-append-add,
+            here,
+            later.blocks,
+            all_blocks_of-cons,
+          );
     }
   where
     parts : ReadsEach s (code ∷ codes) (front ∷ intervals_of s rest)
-    parts = subst (ReadsEach s (code ∷ codes)) (pieces_of-cons (interval_len s) front rest piece) each
+    parts = rw pieces_of-cons at each
 
     counted : div_ceil (length (front ++ rest)) s.block_size ≡ s.interval + div_ceil (length rest) s.block_size
     counted = div_ceil-interval s front rest a (piece.full more)
@@ -235,11 +230,11 @@ walk_on s count limit tail a front rest piece more ih (code ∷ codes) k i b pre
     behind = flat_map (padded_code s) codes ++ tail
 
     cut : bits ≡ pre ++ (padded_code s code ++ behind)
-    cut = spelled ∙ ap (◌++◌ pre) (append_assoc (padded_code s code) (flat_map (padded_code s) codes) tail)
+    cut = rw (spelled, append_assoc)
 
     part : IsPart s count limit k i b pre bits code front
     part = part_of s count limit k i b pre code behind bits front a piece.some piece.fits parts.0 e f cut
-        (omega (arith, n, length-blocks_of s front a, counted, need))
+        (omega (arith, n, length-blocks_of s front a, counted))
 
     j : ℕ
     j = k * s.interval + end_of s 0 part.sets
@@ -265,8 +260,7 @@ walk_on s count limit tail a front rest piece more ih (code ∷ codes) k i b pre
 
 step : (s : Settings) (count limit : ℕ) (tail : List Bool) → IsAllowed s → (front rest : List ℤ) → IsPieceBefore (interval_len s) front rest
     → HasWalk s count limit tail rest → HasWalk s count limit tail (front ++ rest)
-step s count limit tail a front [] piece ih =
-    subst (HasWalk s count limit tail) (sym (append-nil front)) (last_walk s count limit tail a front piece.some piece.fits)
+step s count limit tail a front [] piece ih = rw append-nil (last_walk s count limit tail a front piece.some piece.fits)
 step s count limit tail a front (x ∷ rest) piece ih = walk_on s count limit tail a front (x ∷ rest) piece (omega arith) ih
 
 pub walk_of : (s : Settings) (count limit : ℕ) (tail : List Bool) → IsAllowed s → (xs : List ℤ) → HasWalk s count limit tail xs
@@ -279,16 +273,13 @@ walk_of s count limit tail a =
 pub stream_of-codes : (s : Settings) (intervals : List (List ℤ))
     → flat_map (interval_bits s) intervals ≡ flat_map (padded_code s) (map (unpadded_bits s) intervals)
 stream_of-codes s [] = refl
-stream_of-codes s (v ∷ intervals) = ap₂ ◌++◌ (interval_bits-padded s v) (stream_of-codes s intervals)
+stream_of-codes s (v ∷ intervals) = rw (interval_bits-padded, stream_of-codes s intervals)
 
 pub ReadsEach-unpadded_bits : (s : Settings) → IsAllowed s → (xs : List ℤ) → AllByRecursion (IsHeld s) xs
     → ReadsEach s (map (unpadded_bits s) (intervals_of s xs)) (intervals_of s xs)
 ReadsEach-unpadded_bits s a = by_pieces (λ xs. AllByRecursion (IsHeld s) xs → AreRead (intervals_of s xs)) (interval_len s) (interval_len-positive s a)
-    (λ held. subst AreRead (sym (pieces_of-nil (interval_len s) (interval_len-positive s a))) tt)
-    (λ front rest piece ih held. subst AreRead (sym (pieces_of-cons (interval_len s) front rest piece)) (
-      ReadsBlocks-unpadded_bits s front a (all_left (IsHeld s) front rest held) piece.some piece.fits,
-      ih (all_right (IsHeld s) front rest held),
-    ))
+    (λ held. rw (pieces_of-nil (interval_len s) (interval_len-positive s a)) tt) (λ front rest piece ih held. rw pieces_of-cons
+    (ReadsBlocks-unpadded_bits s front a (all_left (IsHeld s) front rest held) piece.some piece.fits, ih (all_right (IsHeld s) front rest held)))
   where
     AreRead : List (List ℤ) → Type 0
     AreRead intervals = ReadsEach s (map (unpadded_bits s) intervals) intervals

@@ -1,6 +1,6 @@
 -- Blocks of coded data sets without a reference sample, of which none needs a test of its place.
-use Rattle.std.proofs.Common.{length, take, ◌≡◌, ℕ, ◌+◌, ◌-◌, ◌*◌, ◌/◌, ◌%◌, ◌<◌, ◌≤◌, ◌==◌, ◌&&◌, Bool, true, false, if◌then◌else◌, min, Option, Some, None, IfSome, unwrap_or, ⊎_elim, Ok, Err, ℤ, List, [], ◌∷◌, ◌++◌, refl, sym, ap, ◌∙◌, subst, arith}
-use Rattle.std.proofs.Math.Nat.{mod-lt, mul-le-mul_right, le-mul_of_pos_right, div-mul-le_self, add-mul}
+use Rattle.std.proofs.Common.{length, take, ◌≡◌, ℕ, ◌+◌, ◌-◌, ◌*◌, ◌/◌, ◌%◌, ◌<◌, ◌≤◌, ◌==◌, ◌&&◌, Bool, true, false, if◌then◌else◌, Option, Some, None, IfSome, unwrap_or, ⊎_elim, Ok, ℤ, List, [], ◌∷◌, ◌++◌, refl, sym, ◌∙◌, arith}
+use Rattle.std.proofs.Math.Nat.{mod-lt, mul-le-mul_right, le-mul_of_pos_right, add-mul}
 use Rattle.std.proofs.lemmas.Grind.{div_ceil_times}
 use Rattle.std.proofs.lemmas.Bool.{cases_lt, and_right, ne_eqb, lt-ltb, le-ltb, le-leb, leb-true}
 use Rattle.std.proofs.Math.Seq.{take-append_seam}
@@ -8,10 +8,10 @@ use Rattle.std.proofs.lemmas.List.{take_all}
 use Rattle.std.proofs.lemmas.Slice.{take-put_mid}
 use borrow.Rule.Slice.PartMut.{put_mid}
 use Rattle.std.specs.List.{AllByRecursion}
-use Rattle.std.specs.Int.{div_ceil, next_multiple_of}
+use Rattle.std.specs.Int.{div_ceil}
 use Rattle.aec_params.specs.declared.settings.Settings.{Settings}
 use Rattle.aec_params.specs.declared.fault.Fault.{Fault}
-use Rattle.aec_params.specs.declared.fault.Fault.TheVariants.{RunTooLong, TooManySamples, Memory}
+use Rattle.aec_params.specs.declared.fault.Fault.TheVariants.{Memory}
 use Rattle.aec_params.specs.CodedDataSets.{CodedDataSet}
 use Rattle.aec_params.specs.Params.{IsAllowed, IsHeld}
 use Rattle.aec_params.specs.Places.{segment_left, is_reference_block, block_of_values}
@@ -33,7 +33,7 @@ use Rattle.aec_interval.specs.NextSet.{run_count, block_behind, kept_count, IsNe
 use Rattle.aec_interval.specs.Steps.{IsUntestedEnd}
 use Rattle.aec_interval.specs.declared.reading.Wanted.{Wanted}
 use Rattle.aec_interval.specs.UntestedBlocks.{IsUntestedAt, ReadsBlocks}
-use Rattle.aec_interval.specs.Reached.{IsReached, LeadsBehindOne, RefusesUpTo, no_room}
+use Rattle.aec_interval.specs.Reached.{LeadsBehindOne, RefusesUpTo, no_room}
 use Rattle.aec_interval.proofs.BlockLemmas.{all-append}
 use Rattle.aec_interval.proofs.ReadIntervalLemmas.{place-behind}
 use Rattle.aec_interval.proofs.NextFillLemmas.{fills_block_single}
@@ -48,10 +48,10 @@ pub untested-within : (s : Settings) (count : Option ℕ) (limit first end pad l
     → last * s.block_size ≤ unwrap_or count limit
     → IsUntestedEnd s count limit first last
 untested-within s count limit first end pad last allowed low counted end_is pad_is within samples = record {
-  within = omega (arith, within, end_is);
+  within = omega arith;
   unpadded = λ padded.
-      let one : pad ≡ 1 = pad_is ∙ ap (λ b. if b then 1 else 0) padded in
-      omega (arith, within, one, end_is, interval-positive s allowed);
+      let one : pad ≡ 1 = rw (pad_is, padded) in
+      omega (arith, interval-positive s allowed);
   needed = needed_by count samples;
   keeps = keeps_by count samples;
   few = few_by count counted samples;
@@ -63,8 +63,8 @@ untested-within s count limit first end pad last allowed low counted end_is pad_
     needed_by : (count : Option ℕ) → last * s.block_size ≤ unwrap_or count limit → IfSome count (λ n. last ≤ div_ceil n s.block_size)
     needed_by None few = tt
     needed_by (Some n) few = ⊎_elim (λ (past : div_ceil n s.block_size < last).
-        let more : (div_ceil n s.block_size + 1) * s.block_size ≤ last * s.block_size = mul-le-mul_right s.block_size (omega (arith, past)) in
-        absurd (omega (arith, more, few, div_ceil_times n s.block_size positive, add-mul (div_ceil n s.block_size) 1 s.block_size, positive)))
+        let more : (div_ceil n s.block_size + 1) * s.block_size ≤ last * s.block_size = mul-le-mul_right s.block_size (omega arith) in
+        absurd (omega (arith, div_ceil_times n s.block_size positive, add-mul (div_ceil n s.block_size) 1 s.block_size)))
         (λ (kept : last ≤ div_ceil n s.block_size). kept) (cases_lt (div_ceil n s.block_size) last)
 
     keeps_by : (count : Option ℕ) → last * s.block_size ≤ unwrap_or count limit → keeps_limit s count limit last ≡ true
@@ -72,8 +72,8 @@ untested-within s count limit first end pad last allowed low counted end_is pad_
     keeps_by (Some n) few = refl
 
     few_by : (count : Option ℕ) → IfSome count (λ n. n ≤ most_samples) → last * s.block_size ≤ unwrap_or count limit → last < most_blocks
-    few_by None counted few = omega (arith, low, few, le-mul_of_pos_right last positive)
-    few_by (Some n) counted few = omega (arith, counted, few, le-mul_of_pos_right last positive)
+    few_by None counted few = omega (arith, le-mul_of_pos_right last positive)
+    few_by (Some n) counted few = omega (arith, le-mul_of_pos_right last positive)
 
 pub few_samples : (count : Option ℕ) (limit : ℕ) → limit ≤ most_samples → IfSome count (λ n. n ≤ most_samples) → unwrap_or count limit ≤ most_samples
 few_samples None limit low counted = low
@@ -81,49 +81,51 @@ few_samples (Some n) limit low counted = counted
 
 -- z blocks from block i on, of the interval that begins at block `first`, need no test of their
 -- places, and a 1 bit is left
-module _ (s : Settings) (count : Option ℕ) (limit first end i z : ℕ) (old : Cursor) (allowed : IsAllowed s) (aligned : first % s.interval ≡ 0)
-    (after : first ≤ i) (ends : IsUntestedEnd s count limit first end) (some : 1 ≤ z) (within : i + z ≤ end) (one : has_one (bits_at old) ≡ true) where
+pub record AreUntested (s : Settings) (count : Option ℕ) (limit first end i z : ℕ) (old : Cursor) : Type 0 where
+  pub allowed : IsAllowed s
+  pub aligned : first % s.interval ≡ 0
+  pub after : first ≤ i
+  pub ends : IsUntestedEnd s count limit first end
+  pub some : 1 ≤ z
+  pub within : i + z ≤ end
+  pub one : has_one (bits_at old) ≡ true
+
+module _ {s : Settings} {count : Option ℕ} {limit first end i z : ℕ} {old : Cursor} (are : AreUntested s count limit first end i z old) where
   wanted_by : (count : Option ℕ) → IsUntestedEnd s count limit first end → is_wanted s count old.list i old.pos ≡ true
-  wanted_by None ends = one
-  wanted_by (Some n) ends = lt-ltb i (div_ceil n s.block_size) (omega (arith, ends.needed, some, within))
+  wanted_by None ends = are.one
+  wanted_by (Some n) ends = lt-ltb i (div_ceil n s.block_size) (omega arith)
 
   pub wanted_here : is_wanted s count old.list i old.pos ≡ true
-  wanted_here = wanted_by count ends
+  wanted_here = wanted_by count are.ends
 
   pub untested-place : i % s.interval ≡ i - first
-  untested-place = place-behind s first i aligned after (omega (arith, some, within, ends.within))
+  untested-place = place-behind s first i are.aligned are.after (omega arith)
 
   keeps_by : (count : Option ℕ) → keeps_limit s count limit end ≡ true → keeps_limit s count limit (i + z) ≡ true
   keeps_by None keeps =
-      let fewer : (i + z) * s.block_size ≤ end * s.block_size = mul-le-mul_right s.block_size within in
-      le-leb ((i + z) * s.block_size) limit (omega (arith, fewer, leb-true (end * s.block_size) limit keeps))
+      let fewer : (i + z) * s.block_size ≤ end * s.block_size = mul-le-mul_right s.block_size are.within in
+      le-leb ((i + z) * s.block_size) limit (omega (arith, leb-true (end * s.block_size) limit keeps))
   keeps_by (Some n) keeps = refl
 
   -- they are no more than their segment has left
   pub untested-placed : z ≤ segment_left s (i % s.interval) → Ok (i + z) ≡ block_behind s count limit i z 0
-  untested-placed fits =
-      let keeps = keeps_by count ends.keeps in
-      sym (ap (λ b. if b then Err (RunTooLong 0)
-      else (if keeps_limit s count limit (i + z) then Ok (i + z) else Err (TooManySamples limit)))
-      (le-ltb (segment_left s (i % s.interval)) z fits)
-      ∙ ap (λ b. if b then Ok (i + z) else Err (TooManySamples limit)) keeps)
+  untested-placed fits = rw (le-ltb, keeps_by count are.ends.keeps)
 
   kept_by : (count : Option ℕ) → IsUntestedEnd s count limit first end → z ≡ kept_count s count i (i + z - i)
   kept_by None ends = omega arith
-  kept_by (Some n) ends = omega (arith, ends.needed, within)
+  kept_by (Some n) ends = omega arith
 
   pub untested-kept : z ≡ kept_count s count i (i + z - i)
-  untested-kept = kept_by count ends
+  untested-kept = kept_by count are.ends
 
   unpadded : (pad : Bool) → (pad ≡ true → end < first + s.interval) → (pad && ((i + z) % s.interval == 0)) ≡ false
   unpadded false padded = refl
   unpadded true padded =
-      let next : (i + z) % s.interval ≡ i + z - first =
-      place-behind s first (i + z) aligned (omega (arith, after)) (omega (arith, within, padded refl)) in
-      ne_eqb ((i + z) % s.interval) 0 (λ e. omega (arith, e, next, after, some))
+      let next : (i + z) % s.interval ≡ i + z - first = place-behind s first (i + z) are.aligned (omega arith) (omega (arith, padded refl)) in
+      ne_eqb ((i + z) % s.interval) 0 (λ e. omega arith)
 
   pub untested-begins : (list : List Bool) (b : ℕ) → b ≡ begin_of s list (i + z) b
-  untested-begins list b = sym (ap (λ skips. if skips then min (next_multiple_of b 8) (length list) else b) (unpadded s.pad ends.unpadded))
+  untested-begins list b = rw (unpadded s.pad are.ends.unpadded)
 
 -- a segment has room for one block
 pub one_fits : (s : Settings) (i : ℕ) → IsAllowed s → 1 ≤ segment_left s (i % s.interval)
@@ -131,42 +133,41 @@ one_fits s i allowed = omega (arith, mod-lt i (interval-positive s allowed))
 
 -- a reading has come to z blocks that need no test, and the first of which isn't the first of its
 -- interval
-module _ (s : Settings) (wanted : Wanted) (end i z : ℕ) (old : Cursor) (samples : List ℤ) (allowed : IsAllowed s)
+module _ {s : Settings} {wanted : Wanted} {end i : ℕ} {old : Cursor} {samples : List ℤ} (z : ℕ) (allowed : IsAllowed s)
     (here : IsUntestedAt s wanted end i old samples) (some : 1 ≤ z) (within : i + z ≤ end) (one : has_one (bits_at old) ≡ true) where
-  after : wanted.first ≤ i
-  after = omega (arith, here.behind)
+  pub untested-here : AreUntested s wanted.count wanted.limit wanted.first end i z old
+  untested-here = record {
+    allowed = allowed;
+    aligned = here.aligned;
+    after = omega arith;
+    ends = here.untested;
+    some = some;
+    within = within;
+    one = one;
+  }
 
   pub wanted_there : is_wanted s wanted.count old.list i old.pos ≡ true
-  wanted_there = wanted_here s wanted.count wanted.limit wanted.first end i z old allowed here.aligned after here.untested some within one
+  wanted_there = wanted_here untested-here
 
   due : false ≡ is_reference_block s (i % s.interval)
-  due =
-      let place = untested-place s wanted.count wanted.limit wanted.first end i z old allowed here.aligned after here.untested some within one in
-      sym (and_right s.preprocess (i % s.interval == 0) (ne_eqb (i % s.interval) 0 (λ e. omega (arith, e, place, here.behind))))
+  due = sym (and_right s.preprocess (i % s.interval == 0) (ne_eqb (i % s.interval) 0 (λ e. omega (arith, untested-place untested-here))))
 
   -- a coded data set of these blocks was read there
   module _ (new : Cursor) (cds : Cds) (len : RunLen) (len_is : len ≡ read_len cds) (read : (c : CodedDataSet) × IsReadAs s false old new c cds)
       (count_is : run_count s (i % s.interval) len ≡ z) (fits : z ≤ segment_left s (i % s.interval)) where
     placed : Ok (i + z) ≡ block_behind s wanted.count wanted.limit i (run_count s (i % s.interval) len) 0
-    placed =
-        untested-placed s wanted.count wanted.limit wanted.first end i z old allowed here.aligned after here.untested some within one fits
-        ∙ ap (λ k. block_behind s wanted.count wanted.limit i k 0) (sym count_is)
-
-    kept : z ≡ kept_count s wanted.count i (i + z - i)
-    kept = untested-kept s wanted.count wanted.limit wanted.first end i z old allowed here.aligned after here.untested some within one
+    placed = rw count_is (untested-placed untested-here fits)
 
     pub next-there : IsNextCds s (i - wanted.first) samples z cds
     next-there =
-        next-cds s wanted.count wanted.limit wanted.first wanted.start old new i samples allowed here.reached wanted_there false cds len due len_is read
-        0 (i + z) placed z (i - wanted.first) here.aligned refl kept
+        next-cds old new allowed here.reached wanted_there due len_is read 0 (i + z) placed z (i - wanted.first) here.aligned refl (untested-kept untested-here)
 
     pub place-next : (more : List ℤ) → FillsNext s samples more (cds_front s z cds) → IsUntestedAt s wanted end (i + z) new more
     place-next more fills = record {
-      reached = reached-next s wanted.count wanted.limit wanted.first wanted.start old new i samples allowed here.reached wanted_there false cds len due
-          len_is read 0 (i + z) placed z more new.list new.pos kept fills refl
-          (untested-begins s wanted.count wanted.limit wanted.first end i z old allowed here.aligned after here.untested some within one new.list new.pos);
+      reached = reached-next old new allowed here.reached wanted_there due len_is read 0 (i + z) placed z more new.list new.pos (untested-kept untested-here)
+          fills refl (untested-begins untested-here new.list new.pos);
       aligned = here.aligned;
-      behind = omega (arith, here.behind);
+      behind = omega arith;
       untested = here.untested;
     }
 
@@ -177,8 +178,7 @@ single-fills : (s : Settings) (all part : List ℤ) (values : List ℕ) (p : ℤ
     → FillsNext s (take at all) (take n (put_mid at k all part)) (block_of_values None values ∷ [])
 single-fills s all part values p at k n allowed next previous sum within len unmaps =
     fills_block_single s (take at all) (take n (put_mid at k all part)) (block_of_values None values) p values allowed next refl previous refl
-    (subst (Unmaps s p values (take at all)) (sym (take-put_mid at k all part n (omega (arith, sum, len)) (omega (arith, within))))
-    (unmaps-behind s p values (take at all) part unmaps))
+    (rw (take-put_mid at k all part n (omega arith) (omega arith)) (unmaps-behind s p values (take at all) part unmaps))
 
 pub one_single : (s : Settings) (place : ℕ) (old new : Cursor) (all part : List ℤ) (values : List ℕ) (p : ℤ) (at k n : ℕ) → IsAllowed s
     → IsReadSingle s old new None values → has_one (bits_at old) ≡ true → new.list ≡ old.list → AllByRecursion (IsHeld s) (take at all)
@@ -186,15 +186,15 @@ pub one_single : (s : Settings) (place : ℕ) (old new : Cursor) (all part : Lis
     → ReadsBlocks s place 1 old (take at all) new (take n (put_mid at k all part))
 one_single s place old new all part values p at k n allowed read one same held previous sum within len unmaps = record {
   list = same;
-  held = subst (AllByRecursion (IsHeld s)) (sym (take-put_mid at k all part n (omega (arith, sum, len)) (omega (arith, within))))
-      (all-append (IsHeld s) (take at all) part held (subst (AllByRecursion (IsHeld s)) (sym unmaps.appended) unmaps.held));
+  held =
+      rw (take-put_mid at k all part n (omega arith) (omega arith)) (all-append (IsHeld s) (take at all) part held (rw unmaps.appended unmaps.held));
   leads = λ wanted end i there some here.
       let single : Cds = Single (block_of_values None values) in
-      let before : i + 1 ≤ end = omega (arith, some) in
-      place-next s wanted end i 1 old (take at all) allowed here (omega arith) before one new single (Blocks 1) refl (read.set, read.read) refl
+      let before : i + 1 ≤ end = omega arith in
+      place-next 1 allowed here (omega arith) before one new single (Blocks 1) refl (read.set, read.read) refl
       (one_fits s i allowed) (take n (put_mid at k all part))
       (single-fills s all part values p at k n allowed
-      (next-there s wanted end i 1 old (take at all) allowed here (omega arith) before one new single (Blocks 1) refl (read.set, read.read) refl
+      (next-there 1 allowed here (omega arith) before one new single (Blocks 1) refl (read.set, read.read) refl
       (one_fits s i allowed)) previous sum within len unmaps);
 }
 
@@ -206,7 +206,7 @@ none_read s place cursor samples held = record {
   list = refl;
   held = held;
   leads = λ wanted end i there some here.
-      let same : i ≡ i + 0 = omega arith in subst (λ j. IsUntestedAt s wanted end j cursor samples) same here;
+      let same : i ≡ i + 0 = omega arith in rw same at here;
 }
 
 pub more_read : (s : Settings) (place n m : ℕ) (old mid new : Cursor) (samples front more : List ℤ) → ReadsBlocks s place n old samples mid front
@@ -216,23 +216,21 @@ more_read s place n m old mid new samples front more first second = record {
   held = second.held;
   leads = λ wanted end i there some here.
       let last : i + n + m ≡ i + (n + m) = omega arith in
-      subst (λ j. IsUntestedAt s wanted end j new more) last
-      (second.leads wanted end (i + n) (omega (arith, there)) (omega (arith, some)) (first.leads wanted end i there (omega (arith, some)) here));
+      rw last at (second.leads wanted end (i + n) (omega arith) (omega arith) (first.leads wanted end i there (omega arith) here));
 }
 
 -- the samples before the places that were added
 front_of_extended : (items more extended all : List ℤ) (b : Bool) (from : ℕ) → extended ≡ (if b then items ++ more else items) → all ≡ extended
     → from ≡ length items → take from all ≡ items
 front_of_extended items more extended all true from is same place = rw (same, is, place) (take-append_seam items more)
-front_of_extended items more extended all false from is same place = rw (same, is) (take_all from items (omega (arith, place)))
+front_of_extended items more extended all false from is same place = rw (same, is) (take_all from items (omega arith))
 
 -- blocks were read into places that were added after the samples; only filled places are kept
 reads_kept : (s : Settings) (p n j from : ℕ) (old new : Cursor) (items more extended all filled kept : List ℤ) (b : Bool)
     → extended ≡ (if b then items ++ more else items) → all ≡ extended → from ≡ length items → j ≡ s.block_size → kept ≡ take (from + n * j) filled
     → ReadsBlocks s p n old (take from all) new (take (from + n * s.block_size) filled) → ReadsBlocks s p n old items new kept
 reads_kept s p n j from old new items more extended all filled kept b is same place size cut read =
-    subst (λ items. ReadsBlocks s p n old items new kept) (front_of_extended items more extended all b from is same place)
-    (subst (ReadsBlocks s p n old (take from all) new) (sym (cut ∙ ap (λ j. take (from + n * j) filled) size)) read)
+    rw (← (front_of_extended items more extended all b from), cut, size) read
 
 -- ---- how many samples
 
@@ -240,65 +238,52 @@ pub few_places : (blocks size j : ℕ) → size ≡ j → j ≤ 64 → blocks �
 few_places blocks size j is small few =
     let most : blocks * j ≤ (2 + 120 / j) * j = mul-le-mul_right j few in
     let both : (2 + 120 / j) * j ≡ 2 * j + 120 / j * j = add-mul 2 (120 / j) j in
-    omega (arith, ap (λ n. blocks * n) is, most, both, div-mul-le_self 120 j, small)
+    grind arith
 
 -- what is left has room for its blocks
 pub blocks_fit : (from at count most size all : ℕ) → at ≡ from + count * size → count ≤ most → from + most * size ≤ all → at + (most - count) * size ≤ all
 blocks_fit from at count most size all is within room =
     let both : (count + (most - count)) * size ≡ count * size + (most - count) * size = add-mul count (most - count) size in
-    let all : count + (most - count) ≡ most = omega (arith, within) in
-    omega (arith, is, room, both, ap (λ n. n * size) all)
+    let all : count + (most - count) ≡ most = omega arith in
+    grind arith
 
 pub blocks_more : (from at count read size j : ℕ) → at ≡ from + count * size → j ≡ size → at + read * j ≡ from + (count + read) * size
 blocks_more from at count read size j is same =
-    let both : (count + read) * size ≡ count * size + read * size = add-mul count read size in omega (arith, is, both, ap (λ j. read * j) same)
+    let both : (count + read) * size ≡ count * size + read * size = add-mul count read size in grind arith
 
 pub len-joined : (old mid new block next read size : ℕ) → block ≤ next → mid ≤ old + (next - block) * size → new ≤ mid + read * size
     → new ≤ old + (next + read - block) * size
 len-joined old mid new block next read size forward front more =
-    let sum : next + read - block ≡ next - block + read = omega (arith, forward) in
-    omega (arith, ap (λ n. n * size) sum, front, more, add-mul (next - block) read size)
+    let sum : next + read - block ≡ next - block + read = omega arith in
+    grind arith
 
 -- a capacity too small for the next blocks is too small for all up to the end
 pub len-lacking : (old mid block next end asked size j capacity grown : ℕ) → size ≡ j → block ≤ next → mid ≤ old + (next - block) * j
     → next + asked ≤ end → capacity ≤ grown → grown < mid + asked * size → capacity < old + (end - block) * j
 len-lacking old mid block next end asked size j capacity grown is forward front within more full =
-    let all : (next - block + asked) * j ≤ (end - block) * j = mul-le-mul_right j (omega (arith, forward, within)) in
-    omega (arith, all, add-mul (next - block) asked j, ap (λ j. asked * j) is, front, more, full)
+    let all : (next - block + asked) * j ≤ (end - block) * j = mul-le-mul_right j (omega arith) in
+    grind arith
 
 -- a list that isn't empty has a last item
 last-of : {X : Type 0} (x : X) (xs : List X) → (front : List X) × (last : X) × (x ∷ xs ≡ front ++ (last ∷ []))
 last-of x [] = ([], x, refl)
-last-of x (y ∷ ys) = let rest = last-of y ys in (x ∷ rest.0, rest.1, ap (λ l. x ∷ l) rest.2)
+last-of x (y ∷ ys) = let rest = last-of y ys in (x ∷ rest.0, rest.1, rw rest.2)
 
 -- a reading that has come past a block was not refused at its first coded data set
-behind-one : (s : Settings) (count : Option ℕ) (limit : ℕ) (bits : List Bool) (first start i b : ℕ) (samples : List ℤ)
-    → IsReached s count limit bits first start i b samples → first < i → (h : LeadsBehindOne s count limit bits first start) × (h.block ≡ i)
-behind-one s count limit bits first start i b samples reached after = by_sets reached.sets reached.leads
-  where
-    by_sets : (sets : List CodedDataSet) → LeadsTo s count limit bits first start sets i b
-        → (h : LeadsBehindOne s count limit bits first start) × (h.block ≡ i)
-    by_sets [] leads = absurd (omega (arith, after, leads.0))
-    by_sets (c ∷ sets) leads =
-        let last = last-of c sets in (
-          record {
-            sets = last.0;
-            last = last.1;
-            block = i;
-            bit = b;
-            leads = subst (λ l. LeadsTo s count limit bits first start l i b) last.2 leads;
-          },
-          refl,
-        )
+pub behind-one : (s : Settings) (count : Option ℕ) (limit : ℕ) (bits : List Bool) (first start : ℕ) (sets : List CodedDataSet) (i b : ℕ)
+    → LeadsTo s count limit bits first start sets i b → first < i → (h : LeadsBehindOne s count limit bits first start) × (h.block ≡ i)
+behind-one s count limit bits first start [] i b leads after = absurd (omega arith)
+behind-one s count limit bits first start (c ∷ sets) i b leads after =
+    let last = last-of c sets in
+    (record { sets = last.0; last = last.1; block = i; bit = b; leads = rw (← last.2) leads }, refl)
 
 -- there is no room for the samples of the next block
 pub lacks_room : (s : Settings) (wanted : Wanted) (last next end : ℕ) (before old : Cursor) (samples : List ℤ) (fault : Fault) → old ≡ before
     → IsUntestedAt s wanted last next before samples → next ≤ end → fault ≡ Memory
     → RefusesUpTo s wanted.count wanted.limit old.list wanted.first wanted.start end fault
 lacks_room s wanted last next end before old samples fault stays here within memory =
-    let one = behind-one s wanted.count wanted.limit before.list wanted.first wanted.start next before.pos samples here.reached here.behind in
-    subst (λ (cursor : Cursor). RefusesUpTo s wanted.count wanted.limit cursor.list wanted.first wanted.start end fault) (sym stays)
-    (subst (RefusesUpTo s wanted.count wanted.limit before.list wanted.first wanted.start end) (sym memory) (no_room one.0 (omega (arith, one.1, within))))
+    let one = behind-one s wanted.count wanted.limit before.list wanted.first wanted.start here.reached.sets next before.pos here.reached.leads here.behind in
+    rw (stays, memory) (no_room one.0 (omega arith))
 
 -- so a reading goes n blocks further, to a block that needs no test either
 pub reads_further : (s : Settings) (wanted : Wanted) (last next n j from : ℕ) (before old new : Cursor) (items more extended all filled kept : List ℤ)
@@ -310,5 +295,5 @@ pub reads_further : (s : Settings) (wanted : Wanted) (last next n j from : ℕ) 
 reads_further s wanted last next n j from before old new items more extended all filled kept b is same place size cut read stays here few =
     let whole = reads_kept s (next - wanted.first) n j from old new items more extended all filled kept b is same place size cut read in (
       whole,
-      whole.leads wanted last next (omega (arith, here.behind)) few (subst (λ cursor. IsUntestedAt s wanted last next cursor items) (sym stays) here),
+      whole.leads wanted last next (omega arith) few (rw stays here),
     )

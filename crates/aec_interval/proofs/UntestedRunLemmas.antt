@@ -1,6 +1,5 @@
 -- Runs of zero blocks that need no test of their places.
-use Rattle.std.proofs.Common.{◌≡◌, ℕ, ◌+◌, ◌-◌, ◌*◌, ◌%◌, ◌<◌, ◌≤◌, ◌&&◌, Bool, true, false, Option, Some, None, ℤ, pos, List, [], ◌++◌, take, drop, length, replicate, refl, sym, ap, ◌∙◌, subst, arith}
-use Rattle.std.proofs.lemmas.Bool.{cond-true, cond-false}
+use Rattle.std.proofs.Common.{◌≡◌, ℕ, ◌+◌, ◌-◌, ◌*◌, ◌%◌, ◌<◌, ◌≤◌, ◌&&◌, Bool, true, false, Option, Some, None, ℤ, List, [], ◌++◌, take, drop, length, replicate, refl, sym, ap, ◌∙◌, subst, arith}
 use Rattle.std.proofs.Math.Nat.{mul_comm, mul-le-mul_right}
 use Rattle.std.proofs.lemmas.List.{take_at, length-replicate, length-take, length-drop}
 use Rattle.std.proofs.lemmas.Slice.{take-put_mid}
@@ -17,7 +16,7 @@ use Rattle.aec_block.specs.declared.cds.RunLen.{RunLen}
 use Rattle.aec_block.specs.declared.cds.Cds.TheVariants.{Zeros}
 use Rattle.aec_block.specs.Gathering.{bits_at}
 use Rattle.aec_block.specs.ReadCds.{IsReadAs, answer_of}
-use Rattle.aec_interval.specs.NextBlock.{FillsNext, last_sample, run_blocks, sample_of_zeros}
+use Rattle.aec_interval.specs.NextBlock.{sample_of_zeros}
 use Rattle.aec_interval.specs.NextSet.{run_count}
 use Rattle.aec_interval.specs.Reached.{AreFilled}
 use Rattle.aec_interval.specs.UntestedBlocks.{ReadsBlocks}
@@ -28,7 +27,7 @@ use Rattle.aec_interval.proofs.PlaceLemmas.{block_count-positive}
 use Rattle.aec_interval.proofs.ReachedLemmas.{AreFilled-reached}
 use Rattle.aec_interval.proofs.ReadNextLemmas.{skipped-read}
 use Rattle.aec_interval.proofs.WantedSetLemmas.{run_count-body_len}
-use Rattle.aec_interval.proofs.UntestedLemmas.{untested-place, wanted_there, next-there, place-next}
+use Rattle.aec_interval.proofs.UntestedLemmas.{untested-here, untested-place, wanted_there, next-there, place-next}
 use Rattle.aec_interval.proofs.ShortLemmas.{reads_front, first_fits}
 use Rattle.aec_interval.proofs.ZeroRunLemmas.{fills-run, repeats-zeros, sample-of-pattern}
 
@@ -45,15 +44,12 @@ run-reference s due reference given (zero_blocks m) len has is = subst (HasRefer
 -- the sample that a run repeats is held
 held-zeros : (s : Settings) (due : Bool) (reference : Option ℕ) (samples : List ℤ) (x : ℤ) → IsAllowed s → HasReference s due reference
     → AllByRecursion (IsHeld s) samples → x ≡ sample_of_zeros s reference samples → IsHeld s x
-held-zeros s due (Some r) samples x allowed has held is =
-    subst (λ (y : ℤ). IsHeld s y) (sym is) (sample-of-pattern s r allowed (reference-below s due r has)).0
+held-zeros s due (Some r) samples x allowed has held is = rw is (sample-of-pattern s r allowed (reference-below s due r has)).0
 held-zeros s due None samples x allowed has held is = by_preprocess s.preprocess refl
   where
     by_preprocess : (b : Bool) → s.preprocess ≡ b → IsHeld s x
-    by_preprocess true on =
-        subst (λ (y : ℤ). IsHeld s y) (sym (is ∙ cond-true s.preprocess (last_sample samples) (pos 0) on)) (held-last_sample s samples allowed held)
-    by_preprocess false off =
-        subst (λ (y : ℤ). IsHeld s y) (sym (is ∙ cond-false s.preprocess (last_sample samples) (pos 0) off)) (held-zero s allowed)
+    by_preprocess true on = rw (is, on) (held-last_sample s samples allowed held)
+    by_preprocess false off = rw (is, off) (held-zero s allowed)
 
 -- a run of z blocks was read at block p of an interval; x is the sample that it repeats after the
 -- samples `before`
@@ -63,8 +59,8 @@ module _ (s : Settings) (due : Bool) (p : ℕ) (old new : Cursor) (reference : O
   some : 1 ≤ z
   some =
       let told = (skipped-read s due old new read.0 (Zeros reference len) len refl read.1).told in
-      let blocks : run_count s p len ≡ block_count s p read.0 = ap (run_count s p) told ∙ run_count-body_len s p read.0.body in
-      omega (arith, count_is, blocks, block_count-positive s p read.0 place)
+      let blocks : run_count s p len ≡ block_count s p read.0 = rw (told, run_count-body_len) in
+      omega (arith, block_count-positive s p read.0 place)
 
   repeated-held : (n : ℕ) → AllByRecursion (IsHeld s) (replicate n x)
   repeated-held n =
@@ -82,25 +78,20 @@ pub one_run : (s : Settings) (p most : ℕ) (old new : Cursor) (reference : Opti
     → part ≡ replicate (length (take k (drop at all))) x → ReadsBlocks s p z old (take at all) new (take (at + z * s.block_size) (put_mid at k all part))
 one_run s p most old new reference len z all part x at k allowed place read count_is fits few one same held x_is size room part_is = record {
   list = same;
-  held = subst (AllByRecursion (IsHeld s)) (sym written)
-      (all-append (IsHeld s) (take at all) (replicate k x) held
-      (repeated-held s false p old new reference len z (take at all) x allowed place read count_is held x_is k));
+  held =
+      rw written (all-append (IsHeld s) (take at all) (replicate k x) held (repeated-held s false p old new reference len z (take at all) x allowed
+      place read count_is held x_is k));
   leads = λ wanted end i there some_left here.
-      let before : i + z ≤ end = omega (arith, some_left, positive) in
-      let at_place : i % s.interval ≡ p =
-      untested-place s wanted.count wanted.limit wanted.first end i z old allowed here.aligned (omega (arith, there)) here.untested positive before one
-      ∙ omega (arith, there) in
-      let count_there : run_count s (i % s.interval) len ≡ z = ap (λ p. run_count s p len) at_place ∙ count_is in
-      let fits_there : z ≤ segment_left s (i % s.interval) = subst (λ p. z ≤ segment_left s p) (sym at_place) fits in
-      let next =
-      next-there s wanted end i z old (take at all) allowed here positive before one new (Zeros reference len) len refl read count_there fits_there in
+      let before : i + z ≤ end = omega (arith, positive) in
+      let at_place : i % s.interval ≡ p = untested-place (untested-here z allowed here positive before one) ∙ omega arith in
+      let count_there : run_count s (i % s.interval) len ≡ z = rw at_place count_is in
+      let fits_there : z ≤ segment_left s (i % s.interval) = rw at_place fits in
+      let next = next-there z allowed here positive before one new (Zeros reference len) len refl read count_there fits_there in
       let filled : AreFilled s (i - wanted.first) (take at all) =
-      AreFilled-reached s wanted.count wanted.limit old.list wanted.first wanted.start i old.pos (take at all) allowed here.reached
-      (wanted_there s wanted end i z old (take at all) allowed here positive before one) in
-      place-next s wanted end i z old (take at all) allowed here positive before one new (Zeros reference len) len refl read count_there fits_there
+      AreFilled-reached allowed here.reached (wanted_there z allowed here positive before one) in
+      place-next z allowed here positive before one new (Zeros reference len) len refl read count_there fits_there
       (take (at + z * s.block_size) (put_mid at k all part))
-      (subst (λ more. FillsNext s (take at all) more (run_blocks s reference z)) (ap (λ m. (take at all) ++ replicate m x) (sym size) ∙ sym written)
-      (fills-run s (i - wanted.first) z (take at all) reference x allowed next.0 next.1.0 next.1.1 filled
+      (rw (written, size) (fills-run s (i - wanted.first) z (take at all) reference x allowed next.0 next.1.0 next.1.1 filled
       (repeats-zeros s (i - wanted.first) (take at all) reference x allowed filled next.1.1 x_is)));
 }
   where
@@ -108,15 +99,14 @@ one_run s p most old new reference len z all part x at k allowed place read coun
     positive = some s false p old new reference len z (take at all) x allowed place read count_is held x_is
 
     within : at + k ≤ length all
-    within = omega (arith, size, mul-le-mul_right s.block_size few, room)
+    within = omega (arith, mul-le-mul_right s.block_size few)
 
     repeated : part ≡ replicate k x
     repeated = part_is ∙ ap (λ n. replicate n x) (omega (arith, length-take k (drop at all), length-drop at all, within))
 
     written : take (at + z * s.block_size) (put_mid at k all part) ≡ (take at all) ++ replicate k x
     written =
-        take-put_mid at k all part (at + z * s.block_size) (omega (arith, size, ap length repeated, length-replicate k x)) (omega (arith, within))
-        ∙ ap (λ more. (take at all) ++ more) repeated
+        rw (take-put_mid at k all part (at + z * s.block_size) (omega (arith, ap length repeated, length-replicate k x)) (omega arith), repeated)
 
 -- ---- a run with which a short interval begins
 
@@ -141,10 +131,10 @@ first_run s old new reference len z x allowed short read one count_is within x_i
 pub run_in_front : (s : Settings) (z k : ℕ) (all part : List ℤ) (x : ℤ) → z ≤ s.interval → k ≡ z * s.block_size → length all ≡ interval_len s
     → part ≡ replicate (length (take k all)) x → take (z * s.block_size) (part ++ drop k all) ≡ replicate (z * s.block_size) x
 run_in_front s z k all part x within size len part_is =
-    take_at part (drop k all) (z * s.block_size) (ap length repeated ∙ (length-replicate k x ∙ size)) ∙ (repeated ∙ ap (λ n. replicate n x) size)
+    rw (take_at part (drop k all) (z * s.block_size) (rw (repeated, length-replicate) size), repeated, size)
   where
     room : k ≤ length all
-    room = omega (arith, size, mul-le-mul_right s.block_size within, mul_comm s.interval s.block_size, len)
+    room = omega (arith, mul-le-mul_right s.block_size within, mul_comm s.interval s.block_size)
 
     repeated : part ≡ replicate k x
     repeated = part_is ∙ ap (λ n. replicate n x) (omega (arith, length-take k all, room))

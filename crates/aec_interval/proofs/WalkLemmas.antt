@@ -1,6 +1,6 @@
 -- From one place there is at most one walk: readings are unique, faults are unique, and no bits
 -- have both.
-use Rattle.std.proofs.Common.{◌≡◌, ℕ, ◌+◌, ◌%◌, Bool, true, false, Option, List, [], ◌∷◌, length, drop, refl, sym, ap, ap₂, ◌∙◌, subst}
+use Rattle.std.proofs.Common.{◌≡◌, ℕ, ◌+◌, ◌%◌, Bool, true, false, Option, List, [], ◌∷◌, length, drop, refl, sym, ◌∙◌}
 use Rattle.std.proofs.lemmas.Bool.{both_ways}
 use Rattle.aec_params.specs.declared.settings.Settings.{Settings}
 use Rattle.aec_params.specs.declared.fault.Fault.{Fault}
@@ -8,7 +8,7 @@ use Rattle.aec_params.specs.Params.{IsAllowed}
 use Rattle.aec_params.specs.Blocks.{Block}
 use Rattle.aec_params.specs.CodedDataSets.{CodedDataSet, cds_bits, HasShape, has_small_values}
 use Rattle.aec_params.specs.Places.{stays_in_segment, is_reference_block, IsLawfulAt}
-use Rattle.aec_params.specs.Reading.{StandsAt, next_block, next_begin, is_wanted, keeps_limit, LeadsTo, stream_blocks, kept_blocks, IsBlockReading}
+use Rattle.aec_params.specs.Reading.{StandsAt, next_block, next_begin, is_wanted, keeps_limit, LeadsTo, IsBlockReading}
 use Rattle.aec_params.specs.Faults.{IsSetAt, IsNotRead, IsWrongAt, not_read, cut_short, too_large, too_long, too_many, IsFault}
 use Rattle.aec_block.proofs.SetLemmas.{no_set_is_a_prefix}
 
@@ -28,14 +28,14 @@ pub record SameWalk (one other : List CodedDataSet) (j e k f : ℕ) : Type 0 whe
 
 wanted-back : (s : Settings) (count : Option ℕ) (bits : List Bool) (i b j e : ℕ) (t : Bool) → (j ≡ i) × (e ≡ b) → is_wanted s count bits j e ≡ t
     → is_wanted s count bits i b ≡ t
-wanted-back s count bits i b j e t h w = ap₂ (is_wanted s count bits) (sym h.0) (sym h.1) ∙ w
+wanted-back s count bits i b j e t h w = rw (← h.0, ← h.1) w
 
 module _ (s : Settings) (a : IsAllowed s) (count : Option ℕ) (limit : ℕ) (bits : List Bool) where
   -- the walk after a coded data set is the walk after an equal one
   leads-from_same : (i b : ℕ) (c d : CodedDataSet) (sets : List CodedDataSet) (j e : ℕ) → c ≡ d
       → LeadsTo s count limit bits (next_block s i d) (next_begin s bits i b d) sets j e
       → LeadsTo s count limit bits (next_block s i c) (next_begin s bits i b c) sets j e
-  leads-from_same i b c d sets j e p h = subst (λ x. LeadsTo s count limit bits (next_block s i x) (next_begin s bits i b x) sets j e) (sym p) h
+  leads-from_same i b c d sets j e p h = rw p h
 
   pub same_walk : (i b : ℕ) (sets later : List CodedDataSet) (j e k f : ℕ) → LeadsTo s count limit bits i b sets j e
       → LeadsTo s count limit bits i b later k f
@@ -46,18 +46,18 @@ module _ (s : Settings) (a : IsAllowed s) (count : Option ℕ) (limit : ℕ) (bi
   same_walk i b (c ∷ sets) (d ∷ later) j e k f h t w v =
       let p = same_set s bits b (is_reference_block s (i % s.interval)) c d a h.2.shape t.2.shape h.1 t.1 in
       let r = same_walk (next_block s i c) (next_begin s bits i b c) sets later j e k f h.4 (leads-from_same i b c d later k f p t.4) w v in
-      record { sets = ap₂ ◌∷◌ p r.sets; block = r.block; bit = r.bit }
+      record { sets = rw (p, r.sets); block = r.block; bit = r.bit }
 
   pub same_blocks : (i b : ℕ) (xs ys : List Block) → IsBlockReading s count limit bits i b xs → IsBlockReading s count limit bits i b ys → xs ≡ ys
   same_blocks i b xs ys x y =
       let r = same_walk i b x.sets y.sets x.end_block x.end_bit y.end_block y.end_bit x.leads y.leads x.done y.done in
-      x.kept ∙ ap (λ sets. kept_blocks s count i (stream_blocks s i sets)) r.sets ∙ sym y.kept
+      rw (x.kept, r.sets, y.kept)
 
   -- a coded data set of small values is read where it is
   pub read_there : (t : Bool) (b : ℕ) (c : CodedDataSet) (fault : Fault) → IsSetAt s t bits b c → has_small_values s c ≡ true → IsNotRead s t bits b fault → ⊥
   read_there t b c fault at small (cut_short none) = none c at
   read_there t b c fault at small (too_large d other large) =
-      both_ways (has_small_values s d) large (ap (has_small_values s) (same_set s bits b t d c a other.shape at.shape other.stands at.stands) ∙ small)
+      both_ways (has_small_values s d) large (rw (same_set s bits b t d c a other.shape at.shape other.stands at.stands) small)
 
   -- at a lawful coded data set within the limit, nothing is wrong
   pub not_wrong : (i b : ℕ) (c : CodedDataSet) (fault : Fault) → StandsAt s bits b c → IsLawfulAt s (i % s.interval) c
@@ -67,14 +67,13 @@ module _ (s : Settings) (a : IsAllowed s) (count : Option ℕ) (limit : ℕ) (bi
       read_there (is_reference_block s (i % s.interval)) b c fault (record { shape = l.shape; stands = x }) l.small none
   not_wrong i b c fault x l within (too_long d at small long) =
       both_ways (stays_in_segment s (i % s.interval) d) long
-      (ap (stays_in_segment s (i % s.interval)) (same_set s bits b (is_reference_block s (i % s.interval)) d c a at.shape l.shape at.stands x) ∙ l.within)
+      (rw (same_set s bits b (is_reference_block s (i % s.interval)) d c a at.shape l.shape at.stands) l.within)
   not_wrong i b c fault x l within (too_many d at lawful past) =
       both_ways (keeps_limit s count limit (next_block s i d)) past
-      (ap (λ c. keeps_limit s count limit (next_block s i c))
-      (same_set s bits b (is_reference_block s (i % s.interval)) d c a at.shape l.shape at.stands x) ∙ within)
+      (rw (same_set s bits b (is_reference_block s (i % s.interval)) d c a at.shape l.shape at.stands) within)
 
   wrong-back : (i b j e : ℕ) (fault : Fault) → (j ≡ i) × (e ≡ b) → IsWrongAt s count limit bits j e fault → IsWrongAt s count limit bits i b fault
-  wrong-back i b j e fault h w = subst (λ x. IsWrongAt s count limit bits x b fault) h.0 (subst (λ x. IsWrongAt s count limit bits j x fault) h.1 w)
+  wrong-back i b j e fault h w = rw (h.1, h.0) at w
 
   -- a walk that is done and a walk that ends in a fault can't begin at the same place
   pub not_both : (i b : ℕ) (sets later : List CodedDataSet) (j e k f : ℕ) (fault : Fault) → LeadsTo s count limit bits i b sets j e
@@ -102,8 +101,7 @@ module _ (s : Settings) (a : IsAllowed s) (count : Option ℕ) (limit : ℕ) (bi
       → stays_in_segment s (i % s.interval) c ≡ false → stays_in_segment s (i % s.interval) d ≡ true → ⊥
   different_long i b c d x y long within =
       both_ways (stays_in_segment s (i % s.interval) c) long
-      (ap (stays_in_segment s (i % s.interval)) (same_set s bits b (is_reference_block s (i % s.interval)) c d a x.shape y.shape x.stands y.stands)
-      ∙ within)
+      (rw (same_set s bits b (is_reference_block s (i % s.interval)) c d a x.shape y.shape x.stands y.stands) within)
 
   pub same_wrong : (i b : ℕ) (fault other : Fault) → IsWrongAt s count limit bits i b fault → IsWrongAt s count limit bits i b other → fault ≡ other
   same_wrong i b fault other (not_read _ none) (not_read _ n) = same_unread (is_reference_block s (i % s.interval)) b fault other none n

@@ -1,6 +1,6 @@
 -- A coded data set that is wanted and was found: the block after it, or its fault.
-use Rattle.std.proofs.Common.{◌≡◌, ◌+◌, ◌*◌, ◌%◌, ◌<◌, ◌≤◌, ◌∷◌, ◌++◌, ◌∙◌, if◌then◌else◌}
-use Rattle.std.proofs.Common.{ℕ, lit≤, Bool, true, false, Option, Some, None, List, [], refl, sym, ap, subst, arith, Ok, Err, IfSome, nat_lt}
+use Rattle.std.proofs.Common.{◌≡◌, ◌+◌, ◌*◌, ◌%◌, ◌<◌, ◌≤◌, ◌∷◌, ◌++◌, if◌then◌else◌}
+use Rattle.std.proofs.Common.{ℕ, lit≤, Bool, true, false, Option, Some, None, List, [], refl, sym, subst, arith, Ok, Err, IfSome, nat_lt}
 use Rattle.std.proofs.Math.Nat.{mod-lt, le-mul_of_pos_right}
 use Rattle.std.proofs.lemmas.Grind.{div_ceil_times}
 use Rattle.std.proofs.lemmas.Bool.{le-leb, lt-leb, leb-true, ltb-true, ltb-false}
@@ -22,13 +22,13 @@ use Rattle.aec_block.specs.SkipCds.{body_len, IsSkippedAs}
 use Rattle.aec_interval.specs.NextSet.{run_count, block_behind, blocks_before_end}
 use Rattle.aec_interval.specs.Steps.{ComesNext}
 use Rattle.aec_interval.specs.Skipping.{IsLedTo, IsFaultBefore}
-use Rattle.aec_interval.proofs.ReadingSteps.{LeadsTo-push}
+use Rattle.aec_interval.proofs.PlaceLemmas.{LeadsTo-append}
 use Rattle.aec_interval.proofs.DecodeLemmas.{run_count-run_len_of}
 
 -- whether block i needs a reference depends on its place in the interval
 pub due_there : (s : Settings) (is_reference : Bool) (place i : ℕ) → is_reference ≡ is_reference_block s place → place ≡ i % s.interval
     → is_reference ≡ is_reference_block s (i % s.interval)
-due_there s is_reference place i at_place is_place = at_place ∙ ap (is_reference_block s) is_place
+due_there s is_reference place i at_place is_place = rw (at_place, is_place)
 
 -- ---- the block after it, or why there is none
 
@@ -64,13 +64,13 @@ may_not_stand s count limit i z bit fault P is long many = by_place (nat_lt (seg
         → Err fault ≡ (if b then Ok (i + z) else Err (TooManySamples limit)) → P fault
     by_limit true within keeps is = absurd (cc)
     by_limit false within keeps is =
-        let same : TooManySamples limit ≡ fault = cc in subst P same (many within keeps)
+        let same : TooManySamples limit ≡ fault = cc in rw same at (many within keeps)
 
     by_place : (b : Bool) → nat_lt (segment_left s (i % s.interval)) z ≡ b
         → Err fault ≡ (if b then Err (RunTooLong bit) else (if keeps_limit s count limit (i + z) then Ok (i + z) else Err (TooManySamples limit)))
         → P fault
     by_place true past is =
-        let same : RunTooLong bit ≡ fault = cc in subst P same (long (ltb-true (segment_left s (i % s.interval)) z past))
+        let same : RunTooLong bit ≡ fault = cc in rw same at (long (ltb-true (segment_left s (i % s.interval)) z past))
     by_place false within is =
         by_limit (keeps_limit s count limit (i + z)) (ltb-false (segment_left s (i % s.interval)) z within) refl is
 
@@ -92,7 +92,7 @@ count-some s p c within = of_body c.body
     of_body (zero_blocks m) = run_len-some s p m within
 
 -- lawful coded data sets lead from block `first` to block i, where another is wanted
-module _ (s : Settings) (count : Option ℕ) (limit : ℕ) (first start : ℕ) (old new : Cursor) (i : ℕ) (allowed : IsAllowed s)
+module _ {s : Settings} {count : Option ℕ} {limit first start : ℕ} (old new : Cursor) {i : ℕ} (allowed : IsAllowed s)
     (led : IsLedTo s count limit old.list first start i old.pos) (wanted : is_wanted s count old.list i old.pos ≡ true) where
   wrong_here : (fault : Fault) → IsWrongAt s count limit old.list i old.pos fault
       → IsFaultBefore s count limit old.list first start (i + blocks_before_end s i) fault
@@ -104,10 +104,10 @@ module _ (s : Settings) (count : Option ℕ) (limit : ℕ) (first start : ℕ) (
   -- no coded data set is found there
   pub unread-wrong : (due : Bool) (fault : Fault) → due ≡ is_reference_block s (i % s.interval) → IsNotRead s due old.list old.pos fault
       → IsFaultBefore s count limit old.list first start (i + blocks_before_end s i) fault
-  unread-wrong due fault due_is none = wrong_here fault (not_read fault (subst (λ b. IsNotRead s b old.list old.pos fault) due_is none))
+  unread-wrong due fault due_is none = wrong_here fault (not_read fault (rw due_is at none))
 
   -- a coded data set is found there
-  module _ (due : Bool) (len : RunLen) (due_is : due ≡ is_reference_block s (i % s.interval))
+  module _ {due : Bool} {len : RunLen} (due_is : due ≡ is_reference_block s (i % s.interval))
       (found_there : (c : CodedDataSet) × IsSkippedAs s due old new c len) where
     abbrev pub c : CodedDataSet
     c = found_there.0
@@ -117,20 +117,20 @@ module _ (s : Settings) (count : Option ℕ) (limit : ℕ) (first start : ℕ) (
     blocks = run_count s (i % s.interval) len
 
     pub found : IsSkippedAs s (is_reference_block s (i % s.interval)) old new c len
-    found = subst (λ b. IsSkippedAs s b old new c len) due_is found_there.1
+    found = rw due_is at found_there.1
 
     pub blocks-is : blocks ≡ block_count s (i % s.interval) c
-    blocks-is = ap (run_count s (i % s.interval)) found.told ∙ run_count-body_len s (i % s.interval) c.body
+    blocks-is = simp (found.told, run_count-body_len)
 
     pub lawful : blocks ≤ segment_left s (i % s.interval) → IsLawfulAt s (i % s.interval) c
     lawful within = record {
       shape = found.read.set.shape;
       small = found.read.small;
-      within = le-leb (block_count s (i % s.interval) c) (segment_left s (i % s.interval)) (omega (arith, blocks-is, within));
+      within = le-leb (block_count s (i % s.interval) c) (segment_left s (i % s.interval)) (omega (arith, blocks-is));
     }
 
     pub keeps-is : (b : Bool) → keeps_limit s count limit (i + blocks) ≡ b → keeps_limit s count limit (next_block s i c) ≡ b
-    keeps-is b is = ap (λ z. keeps_limit s count limit (i + z)) (sym blocks-is) ∙ is
+    keeps-is b is = rw (← blocks-is) is
 
     pub unplaced-wrong : (bit : ℕ) (fault : Fault) → bit ≡ old.pos → Err fault ≡ block_behind s count limit i blocks bit
         → IsFaultBefore s count limit old.list first start (i + blocks_before_end s i) fault
@@ -138,14 +138,14 @@ module _ (s : Settings) (count : Option ℕ) (limit : ℕ) (first start : ℕ) (
         may_not_stand s count limit i blocks bit fault (IsFaultBefore s count limit old.list first start (i + blocks_before_end s i)) is
         (λ past. subst (λ b. IsFaultBefore s count limit old.list first start (i + blocks_before_end s i) (RunTooLong b)) (sym at)
         (wrong_here (RunTooLong old.pos) (too_long c found.read.set found.read.small
-        (lt-leb (block_count s (i % s.interval) c) (segment_left s (i % s.interval)) (omega (arith, blocks-is, past))))))
+        (lt-leb (block_count s (i % s.interval) c) (segment_left s (i % s.interval)) (omega (arith, blocks-is))))))
         (λ within many. wrong_here (TooManySamples limit) (too_many c found.read.set (lawful within) (keeps-is false many)))
 
     pub blocks-some : 1 ≤ blocks
     blocks-some = omega (arith, blocks-is, count-some s (i % s.interval) c (mod-lt i (interval-positive s allowed)))
 
     pub same_list : new.list ≡ old.list
-    same_list = ap (λ (cursor : Cursor). cursor.list) found.read.behind
+    same_list = rw found.read.behind
 
     -- the block after it
     module _ (bit next : ℕ) (placed : Ok next ≡ block_behind s count limit i blocks bit) where
@@ -153,28 +153,22 @@ module _ (s : Settings) (count : Option ℕ) (limit : ℕ) (first start : ℕ) (
       stand = may_stand s count limit i blocks bit next placed
 
       pub next-is : next ≡ next_block s i c
-      next-is = stand.next_is ∙ ap (λ z. i + z) blocks-is
+      next-is = rw (stand.next_is, blocks-is)
 
       pub forward : i < next
       forward = omega (arith, stand.next_is, blocks-some)
 
       pub leads-next : LeadsTo s count limit old.list first start (led.sets ++ c ∷ []) (next_block s i c) (next_begin s old.list i old.pos c)
-      leads-next = LeadsTo-push s count limit old.list first start led.sets i old.pos c led.leads wanted found.read.set.stands (lawful stand.within)
-          (keeps-is true stand.keeps)
+      leads-next =
+          LeadsTo-append s count limit old.list first start led.sets i old.pos (c ∷ []) (next_block s i c) (next_begin s old.list i old.pos c) led.leads
+          (wanted, found.read.set.stands, lawful stand.within, keeps-is true stand.keeps, (refl, refl))
 
       pub begin-is : (e : ℕ) → e ≡ begin_of s new.list next new.pos → e ≡ next_begin s old.list i old.pos c
-      begin-is e begins =
-          begins ∙ (ap (λ n. begin_of s new.list n new.pos) next-is
-          ∙ (ap (λ bits. begin_of s bits (next_block s i c) new.pos) same_list
-          ∙ ap (begin_of s old.list (next_block s i c)) (ap (λ (cursor : Cursor). cursor.pos) found.read.behind)))
+      begin-is e begins = simp (begins, next-is, same_list, found.read.behind)
 
       pub led-next : (list : List Bool) (e : ℕ) → list ≡ new.list → e ≡ begin_of s new.list next new.pos
           → IsLedTo s count limit list first start next e
-      led-next list e same begins =
-          subst (λ bits. IsLedTo s count limit bits first start next e) (sym (same ∙ same_list))
-          (subst (λ n. IsLedTo s count limit old.list first start n e) (sym next-is)
-          (subst (λ e. IsLedTo s count limit old.list first start (next_block s i c) e) (sym (begin-is e begins))
-          (record { sets = led.sets ++ c ∷ []; leads = leads-next })))
+      led-next list e same begins = rw (same, same_list, next-is, begin-is e) (record { sets = led.sets ++ c ∷ []; leads = leads-next })
 
       few : limit ≤ most_samples → IfSome count (λ n. n ≤ most_samples) → next < most_blocks
       few low counted = by_count count wanted stand.keeps counted
@@ -186,12 +180,11 @@ module _ (s : Settings) (count : Option ℕ) (limit : ℕ) (first start : ℕ) (
               → IfSome count (λ n. n ≤ most_samples) → next < most_blocks
           by_count None wanted keeps counted =
               let kept = leb-true ((i + blocks) * s.block_size) limit keeps in
-              omega (arith, kept, low, stand.next_is, le-mul_of_pos_right (i + blocks) positive)
+              omega (arith, low, stand.next_is, le-mul_of_pos_right (i + blocks) positive)
           by_count (Some n) wanted keeps counted =
               let below = ltb-true i (div_ceil n s.block_size) wanted in
               omega (
                 arith,
-                below,
                 counted,
                 stand.within,
                 stand.next_is,

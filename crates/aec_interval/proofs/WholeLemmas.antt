@@ -1,13 +1,12 @@
 -- All samples: the first number that is no sample, and the intervals one after the other.
-use Rattle.std.proofs.Common.{◌≡◌, ℕ, ◌+◌, ◌<◌, Bool, true, false, IsTrue, Some, None, ℤ, List, [], ◌∷◌, ◌++◌, ap, rules}
+use Rattle.std.proofs.Common.{◌≡◌, ℕ, ◌+◌, ◌<◌, Bool, true, false, IsTrue, Some, None, ℤ, List, [], ◌∷◌, rules}
 use Rattle.std.specs.Prelude.{if◌then◌else◌}
-use Rattle.std.specs.List.{AllByRecursion, flat_map}
+use Rattle.std.specs.List.{AllByRecursion}
 use Rattle.aec_params.specs.declared.settings.Settings.{Settings}
 use Rattle.aec_params.specs.Params.{IsHeld, is_held, interval_len}
-use Rattle.aec_params.specs.Intervals.{interval_bits}
 use Rattle.aec_params.specs.Streams.{stream_of}
 use Rattle.aec_bits.specs.Refusals.{first_unheld}
-use Rattle.aec_interval.proofs.CuttingLemmas.{IsPieceBefore, pieces_of-nil, pieces_of-cons}
+use Rattle.aec_interval.proofs.CuttingLemmas.{pieces_of-nil}
 
 -- ---- the first number that is no sample
 
@@ -24,8 +23,4 @@ all-held s i (x ∷ v) h = by_test (is_held s x) h (all-held s (i + 1) v)
 -- ---- intervals
 
 pub stream_of-nil : (s : Settings) → 0 < interval_len s → stream_of s [] ≡ []
-stream_of-nil s h = ap (flat_map (interval_bits s)) (pieces_of-nil (interval_len s) h)
-
-pub stream_of-cons : (s : Settings) (front rest : List ℤ) → IsPieceBefore (interval_len s) front rest
-    → stream_of s (front ++ rest) ≡ interval_bits s front ++ stream_of s rest
-stream_of-cons s front rest piece = ap (flat_map (interval_bits s)) (pieces_of-cons (interval_len s) front rest piece)
+stream_of-nil s h = rw pieces_of-nil

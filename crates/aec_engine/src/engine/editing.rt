@@ -336,13 +336,12 @@ pub fn edit_at_once<C: Codec + Drop, Q: Source, R: Source, W: Sink>(
 ///   Up to here nothing is taken from the source.
 /// - Those of `decode`.
 /// - `Memory`, also if there is no room to read a line again before its edit is applied.
-/// - That of the first edit that is refused for its place, the limit, its values or lack of calls;
-///   the fault names its line.
+/// - That of the first edit that is refused for its place, the limit, its values or lack of calls.
 /// - `Write`, after `begin`; then a prefix of the bytes is written. On all other refusals nothing
 ///   is written and `begin` isn't called.
 ///
-/// Edits may be applied in another order than the script's, or many at a time. If one that is
-/// applied alone fails with `Memory`, the fault names its line. All other faults name no line.
+/// A refused edit's fault names its line; so does `Memory` if the edit is applied alone. All others
+/// name none. Edits may be applied in another order than the script's, or many at a time.
 pub fn edit<Q: Source, R: Source, W: Sink>(
     alloc: Global,
     params: &Params,

@@ -1,12 +1,11 @@
-use Rattle.std.proofs.Common.{arith, rules, ◌≡◌, ◌+◌, ◌-◌, ◌*◌, ◌%◌, ◌<◌, min, length, ap, refl, sym, subst, None, ◌∙◌, ◌++◌}
-use Rattle.aec_params.specs.Streams.{stream_of}
+use Rattle.std.proofs.Common.{arith, rules, ◌≡◌, ◌+◌, ◌-◌, ◌%◌, ◌<◌, refl, ◌∙◌}
 use Rattle.std.specs.Slice.Iter.{chunks_rest}
 use Rattle.std.proofs.lemmas.Result.{on_ok_weaker}
 use Rattle.std.proofs.lemmas.List.{take_all}
 use Rattle.aec_params.proofs.SettingLaws.{block_size-positive, interval-positive}
 use Rattle.aec_interval.proofs.PendingLemmas.{kept-append}
 use Rattle.aec_interval.proofs.SegmentLemmas.{piece_taken, nothing_left, kept-trans}
-use Rattle.aec_interval.proofs.OneLoopLemmas.{StreamAt, at-next, at-inside, at-first, at-last, at-segment_end, none_of_segment, at-closed, none_left}
+use Rattle.aec_interval.proofs.OneLoopLemmas.{at-next, at-inside, at-first, at-last, at-segment_end, none_of_segment, at-closed, none_left}
 use Rattle.aec_interval.proofs.interval.write_known_intervals.Goals as goal
 
 pub loop-chunk-init : goal.loop-chunk-init
@@ -21,9 +20,7 @@ loop-chunk-init g c =
       size = search rules;
       inside = interval-positive s allowed;
       is_run = record { few = omega arith; reference = tt };
-      so_far = subst (StreamAt s 64 (s.block_size * (s.interval - 0)) None (record { reference = None; blocks = 0 }) c.len-start.result old old
-          (old ++ stream_of s c.args.samples.now)) (sym all)
-          (at-first s allowed c.len-start.result old old _ c.args.samples.now c.len-start.ensures.value (take_all _ _ (omega arith)) c.requires.held refl);
+      so_far = rw all (at-first s allowed c.len-start.ensures.value (take_all _ old (omega arith)) c.requires.held refl);
     }
 
 pub loop-chunk-preserved-then-segment_goes_on : goal.loop-chunk-preserved-then-segment_goes_on
@@ -31,18 +28,16 @@ loop-chunk-preserved-then-segment_goes_on g c =
     let s = c.args.params.now in let at = c.loop-chunk.invariant in
     let positive = block_size-positive s c.interval-interval.ensures.allowed in
     let steps = c.in-Some.ensures.steps in
-    let piece = piece_taken s.block_size _ c.in-Some.chunk.now _ positive steps.1.0
-    (steps.1.1 ∙ ap (λ n. min n (length (chunks_rest c.loop-chunk.chunk-iterator))) at.size) steps.1.2 in
-    let next = at-next s c.loop-chunk.place _ _ _ _ _ _ _ _ _ _ _ positive at.inside at.so_far steps.1.0 piece c.in_ok-run.ensures.kept
-    c.in_ok-run.ensures.ok in
+    let piece = piece_taken s.block_size _ c.in-Some.chunk.now _ positive steps.1.0 (rw (steps.1.1, at.size)) steps.1.2 in
+    let next = at-next s c.loop-chunk.place positive at.inside at.so_far steps.1.0 piece c.in_ok-run.ensures.kept c.in_ok-run.ensures.ok in
     let here = c.segment_goes_on.ensures.inside c.if-segment_goes_on.true in
     record {
-      can_next = omega (arith, steps.0, at.can_next);
+      can_next = omega arith;
       is_finite = tt;
       size = steps.0 ∙ at.size;
-      inside = omega (arith, here.0, c.interval-interval.ensures.value);
+      inside = omega arith;
       is_run = record { few = omega (arith, c.in_ok-run.ensures.run.few, at.is_run.few, here.1); reference = c.in_ok-run.ensures.run.reference };
-      so_far = at-inside s c.loop-chunk.place _ _ _ _ _ _ _ _ _ _ piece.some (omega (arith, here.1)) (c.copied-preceding.ensures ∙ c.last.ensures.value) next;
+      so_far = at-inside s c.loop-chunk.place _ _ piece.some (omega arith) (c.copied-preceding.ensures ∙ c.last.ensures.value) next;
     }
 
 pub loop-chunk-preserved-then-place-interval : goal.loop-chunk-preserved-then-place-interval
@@ -50,22 +45,20 @@ loop-chunk-preserved-then-place-interval g c =
     let s = c.args.params.now in let at = c.loop-chunk.invariant in
     let positive = block_size-positive s c.interval-interval.ensures.allowed in
     let steps = c.in-Some.ensures.steps in
-    let piece = piece_taken s.block_size _ c.in-Some.chunk.now _ positive steps.1.0
-    (steps.1.1 ∙ ap (λ n. min n (length (chunks_rest c.loop-chunk.chunk-iterator))) at.size) steps.1.2 in
-    let next = at-next s c.loop-chunk.place _ _ _ _ _ _ _ _ _ _ _ positive at.inside at.so_far steps.1.0 piece c.in_ok-run.ensures.kept
-    c.in_ok-run.ensures.ok in
-    let inside : c.loop-chunk.place + 1 < s.interval = omega (arith, c.if-place-interval.true, c.interval-interval.ensures.value) in
-    let end = c.segment_goes_on.ensures.end c.if-segment_goes_on.false (omega (arith, inside, c.interval-interval.ensures.value)) in
-    let whole : 63 - c.loop-chunk.place % 64 ≡ 0 = omega (arith, end) in
+    let piece = piece_taken s.block_size _ c.in-Some.chunk.now _ positive steps.1.0 (rw (steps.1.1, at.size)) steps.1.2 in
+    let next = at-next s c.loop-chunk.place positive at.inside at.so_far steps.1.0 piece c.in_ok-run.ensures.kept c.in_ok-run.ensures.ok in
+    let inside : c.loop-chunk.place + 1 < s.interval = omega arith in
+    let end = c.segment_goes_on.ensures.end c.if-segment_goes_on.false (omega arith) in
+    let whole : 63 - c.loop-chunk.place % 64 ≡ 0 = omega arith in
     record {
-      can_next = omega (arith, steps.0, at.can_next);
+      can_next = omega arith;
       is_finite = tt;
       size = steps.0 ∙ at.size;
       inside = inside;
       is_run = record { few = omega arith; reference = tt };
-      so_far = at-inside s c.loop-chunk.place _ _ _ _ _ _ _ _ _ _ piece.some (omega (arith, end))
+      so_far = at-inside s c.loop-chunk.place _ _ piece.some (omega arith)
           (c.copied-preceding-then-place-interval.ensures ∙ c.last-then-place-interval.ensures.value)
-          (at-segment_end s _ _ _ _ _ _ _ _ _ _ next (none_of_segment s _ _ _ whole) c.in_ok-write.ensures.ok);
+          (at-segment_end next (none_of_segment s _ _ _ whole) c.in_ok-write.ensures.ok);
     }
 
 pub returns-in_err-end_interval : goal.returns-in_err-end_interval
@@ -82,21 +75,18 @@ loop-chunk-preserved g c =
     let s = c.args.params.now in let at = c.loop-chunk.invariant in
     let positive = block_size-positive s c.interval-interval.ensures.allowed in
     let steps = c.in-Some.ensures.steps in
-    let piece = piece_taken s.block_size _ c.in-Some.chunk.now _ positive steps.1.0
-    (steps.1.1 ∙ ap (λ n. min n (length (chunks_rest c.loop-chunk.chunk-iterator))) at.size) steps.1.2 in
-    let next = at-next s c.loop-chunk.place _ _ _ _ _ _ _ _ _ _ _ positive at.inside at.so_far steps.1.0 piece c.in_ok-run.ensures.kept
-    c.in_ok-run.ensures.ok in
-    let none = none_left s.block_size s.interval (c.loop-chunk.place + 1) (chunks_rest c.next.new.self)
-    (omega (arith, c.if-place-interval.false, c.interval-interval.ensures.value)) in
-    let left = at-closed s _ _ _ _ _ _ _ _ _ _ _ positive next none.0 none.1 c.in_ok-write.ensures.ok c.in_ok-end_interval.ensures.ok in
+    let piece = piece_taken s.block_size _ c.in-Some.chunk.now _ positive steps.1.0 (rw (steps.1.1, at.size)) steps.1.2 in
+    let next = at-next s c.loop-chunk.place positive at.inside at.so_far steps.1.0 piece c.in_ok-run.ensures.kept c.in_ok-run.ensures.ok in
+    let none = none_left s.block_size s.interval (c.loop-chunk.place + 1) (chunks_rest c.next.new.self) (omega arith) in
+    let left = at-closed positive next none.0 none.1 c.in_ok-write.ensures.ok c.in_ok-end_interval.ensures.ok in
     let kept = kept-trans _ _ _ next.kept (kept-trans _ _ _ (kept-append _ _ _ c.in_ok-write.ensures.ok) c.in_ok-end_interval.ensures.kept) in
     record {
-      can_next = omega (arith, steps.0, at.can_next);
+      can_next = omega arith;
       is_finite = tt;
       size = steps.0 ∙ at.size;
       inside = interval-positive s c.interval-interval.ensures.allowed;
       is_run = record { few = omega arith; reference = tt };
-      so_far = at-first s c.interval-interval.ensures.allowed _ _ _ _ _ c.len-start-in-loop-chunk.ensures.value kept next.held left;
+      so_far = at-first s c.interval-interval.ensures.allowed c.len-start-in-loop-chunk.ensures.value kept next.held left;
     }
 
 pub returns : goal.returns
@@ -104,8 +94,7 @@ returns g c =
     let s = c.args.params.now in let at = c.loop-chunk.invariant in
     let positive = block_size-positive s c.interval-interval.ensures.allowed in
     record {
-      ok = on_ok_weaker c.end_interval-2.result
-          (λ padded. at-last s _ _ _ _ _ _ _ _ _ _ _ positive (interval-positive s c.interval-interval.ensures.allowed) at.so_far
+      ok = on_ok_weaker c.end_interval-2.result (λ padded. at-last positive (interval-positive s c.interval-interval.ensures.allowed) at.so_far
           (nothing_left _ c.in-None.ensures.steps.1.0) c.in_ok-write-2.ensures.ok padded)
           c.end_interval-2.ensures.ok;
       kept = kept-trans _ _ _ c.loop-chunk.invariant.so_far.kept

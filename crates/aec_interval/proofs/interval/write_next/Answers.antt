@@ -19,7 +19,7 @@ returns-in_err-write_shortest_of g c =
 pub returns : goal.returns
 returns g c =
     let s = c.args.params.now in
-    let all = take_all g.row.N c.args.samples.now (omega (arith, c.if-samples.false)) in
+    let all = take_all g.row.N c.args.samples.now (omega arith) in
     let filled = c.map_block-reference.ensures.filled.value ∙ ap (block_after s c.args.previous) all in
     let b = block_with c.map_block-reference.result c.map_block-reference.new.values in
     record {

@@ -19,7 +19,7 @@ returns-then-is_none-clause-ok c =
 pub loop-offsets-smaller : goal.loop-offsets-smaller
 loop-offsets-smaller c =
     let has = found_interval c.loop-offsets.reader c.skip.new.self _ c.in_ok-skip.ensures.skipped c.if-is_none.ensures in
-    omega (arith, has.1.read.ahead, c.skip.ensures.few)
+    omega arith
 
 pub loop-offsets-preserved : goal.loop-offsets-preserved
 loop-offsets-preserved c =

@@ -1,4 +1,4 @@
-use Rattle.std.proofs.Common.{rules, ap, refl, sym, ◌∙◌, arith, length, vec_len, vec_capacity}
+use Rattle.std.proofs.Common.{rules, refl, sym, ◌∙◌, arith, vec_len, vec_capacity}
 use Rattle.aec_interval.specs.Reached.{RefusesUpTo}
 use Rattle.aec_interval.proofs.ReadNextLemmas.{reached-start}
 use Rattle.aec_interval.proofs.ReadIntervalLemmas.{place, inside-begun, no_room-refuses, no_room-untested, by_its_end, by_block_end, comes-further, len-further, gone-over, len-within}
@@ -9,8 +9,8 @@ pub loop-behind-init : goal.loop-behind-init
 loop-behind-init c = record {
   reached = reached-start c.args.params.now _ _ _ _ _ _ _ c.requires.begins c.requires.empty;
   list = refl;
-  inside = inside-begun _ _ _ _ _ _ _ c.interval.ensures.allowed (omega (arith, c.from.ensures, c.interval.ensures.value)) c.requires.wanted;
-  len = omega (arith, c.args.samples.now.ok, ap length c.requires.empty);
+  inside = inside-begun _ _ _ _ _ _ _ c.interval.ensures.allowed (omega arith) c.requires.wanted;
+  len = grind arith;
   capacity = omega arith;
 }
 
@@ -38,8 +38,7 @@ returns-in_err-block-clause-full c =
     of_refusal _ _ _ c.from_residual-in_err-block.ensures.1
     (λ memory. no_room-untested _ _ _ _ _ _ _ _ c.loop-behind.invariant.inside c.in_ok-behind.behind (vec_len c.loop-behind.samples)
     (vec_len c.read_next.new.samples) (vec_capacity c.read_next.new.samples) (vec_capacity c.args.samples.now) c.in_ok-behind.ensures.next
-    c.loop-behind.invariant.len c.in_ok-behind.ensures.len (omega (arith, c.loop-behind.invariant.capacity, c.read_next.ensures.capacity))
-    c.in_err-block.ensures.full)
+    c.loop-behind.invariant.len c.in_ok-behind.ensures.len (omega arith) c.in_err-block.ensures.full)
 
 pub returns-then-not-goes_on-clause-over : goal.returns-then-not-goes_on-clause-over
 returns-then-not-goes_on-clause-over c =

@@ -1,4 +1,4 @@
-use Rattle.std.proofs.Common.{length, sym, ap, arith}
+use Rattle.std.proofs.Common.{sym, arith}
 use Rattle.std.proofs.lemmas.Result.{IfOk-weaker}
 use Rattle.aec_interval.proofs.WholeLemmas.{all-held}
 use Rattle.aec_interval.proofs.OptimalityLemmas.{codes_are_shortest}
@@ -12,5 +12,4 @@ returns-in-None-clause-shortest c unpadded =
     let s = c.args.params.now in
     let held = all-held s 0 c.args.samples.now (sym c.in-None.ensures) in
     let law = codes_are_shortest s c.args.samples.now c.code_intervals.ensures.allowed in
-    IfOk-weaker c.code_intervals.result _ _
-    (λ b same codes each. omega (arith, ap length same, law.stream held unpadded codes each)) c.code_intervals.ensures.ok
+    IfOk-weaker c.code_intervals.result _ _ (λ b same codes each. grind arith) c.code_intervals.ensures.ok

@@ -1,8 +1,6 @@
-use Rattle.std.proofs.Common.{rules, ℤ, List, pos, slice_index_or, unwrap_or, w64, FitsSigned, to_z, of_z, ◌++◌, ap, ◌∙◌}
+use Rattle.std.proofs.Common.{rules, ℤ, pos, slice_index_or, unwrap_or, w64, FitsSigned, to_z, of_z, ap, ◌∙◌}
 use Rattle.std.proofs.lemmas.Int.{to_z-of_z}
 use Rattle.std.proofs.lemmas.List.{take_rest}
-use Rattle.aec_params.specs.Mapping.{mapped_after}
-use Rattle.aec_params.specs.Blocks.{Block}
 use Rattle.aec_interval.proofs.ShortBlockLemmas.{mapped-whole}
 use Rattle.aec_interval.proofs.interval.short_blocks.mapped_block.Goals as goal
 
@@ -17,5 +15,4 @@ returns-clause-values c =
     let first_fits : FitsSigned w64 (slice_index_or c.args.samples.now 0 (pos 0)) = search rules in
     let first = to_z-of_z w64 c.unwrap_or-first.result fits ∙ c.unwrap_or-first.ensures ∙ ap (unwrap_or c.args.previous) (to_z-of_z w64 x first_fits) in
     mapped-whole s c.args.previous v p c.reference_after.result start _ c.len.result c.requires.block.allowed c.requires.block.some first
-    c.requires.block.samples.held c.reference_after.ensures c.new-block.ensures.values c.len.ensures.value (ap (λ (b : Block). b.values) c.push_mapped.ensures
-    ∙ ap (λ (behind : List ℤ). start ++ mapped_after s p behind) (take_rest v c.len.result))
+    c.requires.block.samples.held c.reference_after.ensures c.new-block.ensures.values c.len.ensures.value (rw (c.push_mapped.ensures, take_rest))

@@ -1,6 +1,5 @@
-use Rattle.std.proofs.Common.{rules, arith, refl, pos, slice_index_or, ℤ, w64, FitsSigned, [], ◌∷◌, length, length-append, ap, ◌∙◌}
+use Rattle.std.proofs.Common.{rules, arith, refl, pos, slice_index_or, ℤ, w64, FitsSigned, length-append}
 use Rattle.std.proofs.lemmas.Int.{to_z-of_z}
-use Rattle.aec_params.specs.Blocks.{Block}
 use Rattle.aec_interval.proofs.ShortBlockLemmas.{mapped-more}
 use Rattle.aec_interval.proofs.interval.short_blocks.push_mapped.Goals as goal
 
@@ -10,12 +9,7 @@ loop-i-preserved c =
     let fits : FitsSigned w64 (slice_index_or c.args.samples.now c.loop-i.i (pos 0)) = search rules in
     record {
       so_far = mapped-more c.args.params.now _ _ _ c.args.samples.now c.loop-i.i _ _ _ _ (omega arith) refl (to_z-of_z w64 x fits)
-          c.loop-i.invariant.so_far c.map.ensures.value (ap (λ (b : Block). b.values) c.push.ensures);
-      len = omega (
-        arith,
-        ap (λ (b : Block). length b.values) c.push.ensures,
-        length-append c.loop-i.block.values (c.map.result ∷ []),
-        c.loop-i.invariant.len,
-      );
-      reference = ap (λ (b : Block). b.reference) c.push.ensures ∙ c.loop-i.invariant.reference;
+          c.loop-i.invariant.so_far c.map.ensures.value (rw c.push.ensures);
+      len = grind (arith, length-append);
+      reference = rw c.push.ensures c.loop-i.invariant.reference;
     }

@@ -1,6 +1,5 @@
-use Rattle.std.proofs.Common.{rules, ◌≡◌, ◌+◌, ◌-◌, ◌*◌, ◌≤◌, ◌∙◌, length, take, drop, refl, ap, arith}
-use Rattle.std.proofs.Math.Nat.{add-mul}
-use Rattle.std.proofs.lemmas.List.{length-take, length-drop, length-replicate, nil_from_length}
+use Rattle.std.proofs.Common.{rules, ◌≡◌, ◌+◌, ◌-◌, ◌*◌, ◌≤◌, ◌∙◌, length, take, refl, arith}
+use Rattle.std.proofs.lemmas.List.{length-take, length-replicate, nil_from_length}
 use Rattle.std.proofs.lemmas.Slice.{take-put_mid}
 use Rattle.aec_params.specs.Params.{interval_len}
 use Rattle.aec_interval.proofs.ShortLemmas.{reads_none, reads_one_more, reads_stay, front_kept, part_fits}
@@ -21,7 +20,7 @@ slice_bounds-part-end g c =
     let inv = c.loop-count.invariant in
     let fits : c.loop-count.at + c.interval_len-len.result ≤ length c.loop-count.samples =
     part_fits c.loop-count.at c.loop-count.count c.args.most c.interval_len-len.result (interval_len c.args.params.now) (length c.loop-count.samples)
-    inv.place (omega (arith, c.loop-count-test.true)) c.interval_len-len.ensures.value (omega (arith, c.requires.room, inv.len)) in
+    inv.place (omega arith) c.interval_len-len.ensures.value (omega arith) in
     search (rules, fits)
 
 pub returns-then-not-fill_interval : goal.returns-then-not-fill_interval
@@ -32,9 +31,9 @@ returns-then-not-fill_interval g c =
     let k = at + c.interval_len-len.result - at in
     let fits : at + c.interval_len-len.result ≤ length c.loop-count.samples =
     part_fits c.loop-count.at c.loop-count.count c.args.most c.interval_len-len.result (interval_len c.args.params.now) (length c.loop-count.samples)
-    inv.place (omega (arith, c.loop-count-test.true)) c.interval_len-len.ensures.value (omega (arith, c.requires.room, inv.len)) in
-    let place : at ≡ c.loop-count.count * interval_len s = inv.place ∙ ap (λ n. c.loop-count.count * n) c.interval_len-len.ensures.value in
-    let kept = front_kept c.loop-count.samples c.fill_interval.new.samples at k (omega (arith, fits)) in
+    inv.place (omega arith) c.interval_len-len.ensures.value (omega arith) in
+    let place : at ≡ c.loop-count.count * interval_len s = rw (inv.place, c.interval_len-len.ensures.value) in
+    let kept = front_kept c.loop-count.samples c.fill_interval.new.samples at k (omega arith) in
     record {
       reads = λ some. reads_stay s c.loop-count.count at _ c.args.reader.now c.loop-count.reader c.fill_interval.new.reader c.loop-count.samples _
           (c.if-not-fill_interval.ensures.fills.stays refl) place kept inv.reads;
@@ -51,16 +50,15 @@ loop-count-preserved g c =
     let len = c.interval_len-len.result in
     let fits : at + len ≤ length c.loop-count.samples =
     part_fits at c.loop-count.count c.args.most len (interval_len c.args.params.now) (length c.loop-count.samples) inv.place
-    (omega (arith, c.loop-count-test.true)) c.interval_len-len.ensures.value (omega (arith, c.requires.room, inv.len)) in
-    let size : at + len ≡ at + length c.fill_interval.new.samples =
-    omega (arith, c.fill_interval.ensures.fills.len, length-take (at + len - at) (drop at c.loop-count.samples), length-drop at c.loop-count.samples, fits) in
+    (omega arith) c.interval_len-len.ensures.value (omega arith) in
+    let size : at + len ≡ at + length c.fill_interval.new.samples = omega arith in
     record {
       reads = reads_one_more _ _ _ _ _ (take at c.loop-count.samples) c.fill_interval.new.samples _ c.interval_len-len.ensures.allowed inv.reads
           (c.if-not-fill_interval.ensures.fills.ok refl)
-          (take-put_mid at (at + len - at) c.loop-count.samples c.fill_interval.new.samples (at + len) size (omega (arith, fits)));
-      stays = λ none. absurd (omega (arith, none));
+          (take-put_mid at (at + len - at) c.loop-count.samples c.fill_interval.new.samples (at + len) size (omega arith));
+      stays = λ none. absurd (omega arith);
       within = search rules;
-      place = omega (arith, inv.place, add-mul c.loop-count.count 1 len);
+      place = omega arith;
       values = search rules;
       len = search rules;
     }

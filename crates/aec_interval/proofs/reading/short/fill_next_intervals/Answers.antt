@@ -1,17 +1,13 @@
-use Rattle.std.proofs.Common.{rules, ◌*◌, ◌∙◌, take, subst, arith}
-use Rattle.aec_bits.specs.BitReader.{Cursor}
-use Rattle.aec_params.specs.Params.{interval_len}
-use Rattle.aec_interval.specs.ShortIntervals.{ReadsWhole}
+use Rattle.std.proofs.Common.{rules, ◌∙◌, arith}
 use Rattle.aec_interval.proofs.reading.short.fill_next_intervals.Goals as goal
 
 pub returns : goal.returns
 returns c =
     let s = c.args.params.now in
     let mixed = c.fill_mixed_intervals-2 in
-    let stays = c.fill_usual_intervals-zeros.ensures.stays (omega (arith, c.if-zeros-gt0.false)) in
+    let stays = c.fill_usual_intervals-zeros.ensures.stays (omega arith) in
     record {
-      reads = λ some. subst (λ (cursor : Cursor). ReadsWhole s mixed.result cursor mixed.new.reader (take (mixed.result * interval_len s) mixed.new.samples))
-          (stays ∙ c.is_single_next.ensures.stays) (mixed.ensures.reads some);
+      reads = λ some. rw (stays, c.is_single_next.ensures.stays) at (mixed.ensures.reads some);
       stays = λ none. mixed.ensures.stays none ∙ (stays ∙ c.is_single_next.ensures.stays);
       list = search rules;
       within = mixed.ensures.within;

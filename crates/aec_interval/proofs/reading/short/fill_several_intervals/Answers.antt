@@ -1,5 +1,4 @@
-use Rattle.std.proofs.Common.{rules, ◌≡◌, ◌+◌, ◌-◌, ◌*◌, ◌∙◌, length, take, refl, ap, arith}
-use Rattle.std.proofs.Math.Nat.{add-mul}
+use Rattle.std.proofs.Common.{rules, ◌≡◌, ◌+◌, ◌-◌, ◌*◌, ◌∙◌, length, take, refl, arith}
 use Rattle.std.proofs.lemmas.List.{length-take, nil_from_length}
 use Rattle.aec_params.specs.Params.{interval_len}
 use Rattle.aec_interval.proofs.ShortLemmas.{reads_none, rest_within, rest_room, reads_rest, reads_stay, front_kept}
@@ -18,7 +17,7 @@ pub fill_next_intervals-read-requires-clause-room : goal.fill_next_intervals-rea
 fill_next_intervals-read-requires-clause-room c =
     let inv = c.loop-count.invariant in
     rest_room c.args.params.now c.loop-count.count c.args.most c.loop-count.at c.interval_len-len.result c.loop-count.samples inv.place
-    c.interval_len-len.ensures.value inv.within (omega (arith, c.requires.room, inv.len))
+    c.interval_len-len.ensures.value inv.within (omega arith)
 
 pub returns-then-read-eq0 : goal.returns-then-read-eq0
 returns-then-read-eq0 c =
@@ -28,11 +27,10 @@ returns-then-read-eq0 c =
     let read = c.fill_next_intervals-read in
     let samples = c.loop-count.samples in
     let size = c.interval_len-len.ensures.value in
-    let within = rest_within s c.loop-count.count c.args.most at c.interval_len-len.result samples inv.place size inv.within
-    (omega (arith, c.requires.room, inv.len)) in
+    let within = rest_within s c.loop-count.count c.args.most at c.interval_len-len.result samples inv.place size inv.within (omega arith) in
     record {
       reads = λ some. reads_stay s c.loop-count.count at _ c.args.reader.now c.loop-count.reader read.new.reader samples _
-          (read.ensures.stays c.if-read-eq0.true) (inv.place ∙ ap (λ n. c.loop-count.count * n) size)
+          (read.ensures.stays c.if-read-eq0.true) (rw (inv.place, size))
           (front_kept samples read.new.samples at (length samples - at) within) inv.reads;
       stays = search rules;
       list = search rules;
@@ -48,11 +46,10 @@ loop-count-preserved c =
     let read = c.fill_next_intervals-read in
     record {
       reads = reads_rest c.args.params.now c.loop-count.count c.args.most c.loop-count.at len c.loop-count.samples inv.place size inv.within
-          (omega (arith, c.requires.room, inv.len)) read.result (c.loop-count.at + read.result * len) c.args.reader.now c.loop-count.reader
-          read.new.reader read.new.samples c.interval_len-len.ensures.allowed inv.reads read.ensures
-          (ap (λ l. c.loop-count.at + read.result * l) size);
-      stays = λ none. absurd (omega (arith, none, c.if-read-eq0.false));
-      within = omega (arith, read.ensures.within, inv.within);
-      place = omega (arith, inv.place, add-mul c.loop-count.count read.result len);
+          (omega arith) read.result (c.loop-count.at + read.result * len) c.args.reader.now c.loop-count.reader
+          read.new.reader read.new.samples c.interval_len-len.ensures.allowed inv.reads read.ensures (rw size);
+      stays = λ none. absurd (omega arith);
+      within = omega arith;
+      place = omega arith;
       len = search rules;
     }

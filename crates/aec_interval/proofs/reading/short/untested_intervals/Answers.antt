@@ -1,6 +1,5 @@
-use Rattle.std.proofs.Common.{rules, ◌≡◌, ◌-◌, ◌*◌, unwrap_or, ap, arith}
+use Rattle.std.proofs.Common.{rules, ◌≡◌, ◌-◌, ◌*◌, unwrap_or, arith}
 use Rattle.aec_params.specs.Params.{interval_len}
-use Rattle.aec_params.proofs.SampleLaws.{interval_len-positive}
 use Rattle.aec_interval.proofs.ShortLemmas.{whole_within}
 use Rattle.aec_interval.proofs.reading.short.untested_intervals.Goals as goal
 
@@ -11,12 +10,10 @@ returns c =
     let size : c.from.result ≡ s.block_size = search rules in
     let samples : c.unwrap_or-samples.result ≡ unwrap_or c.args.wanted.count c.args.wanted.limit = search rules in
     let len : c.interval_len.result ≡ interval_len s = c.interval_len.ensures.value in
-    let left : c.saturating_sub.result ≡ unwrap_or c.args.wanted.count c.args.wanted.limit - first * s.block_size =
-    omega (arith, c.saturating_sub.ensures, ap (λ n. first * n) size, samples) in
+    let left : c.saturating_sub.result ≡ unwrap_or c.args.wanted.count c.args.wanted.limit - first * s.block_size = grind arith in
     λ n some within. record {
       unpadded = c.requires.unpadded;
       low = c.requires.limit;
       counted = c.requires.counted;
-      samples = whole_within first n s.interval s.block_size _ c.saturating_sub.result c.interval_len.result some
-          (omega (arith, len, interval_len-positive s c.interval_len.ensures.allowed)) len left within;
+      samples = whole_within first n s.interval s.block_size _ c.saturating_sub.result c.interval_len.result some (omega arith) len left within;
     }

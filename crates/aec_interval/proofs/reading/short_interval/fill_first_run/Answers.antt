@@ -1,6 +1,5 @@
-use Rattle.std.proofs.Common.{rules, ◌*◌, ℤ, replicate, sym, ap, subst, w64, FitsSigned, to_z, of_z}
+use Rattle.std.proofs.Common.{rules, ◌*◌, ℤ, w64, FitsSigned, to_z, of_z}
 use Rattle.std.proofs.lemmas.Int.{to_z-of_z}
-use Rattle.aec_interval.specs.ShortIntervals.{ReadsFirst}
 use Rattle.aec_interval.proofs.UntestedRunLemmas.{run_in_front}
 use Rattle.aec_interval.proofs.reading.short_interval.fill_first_run.Goals as goal
 
@@ -12,11 +11,9 @@ returns c =
     let fits : FitsSigned w64 c.in-Some.sample = search (rules, c.read_first_run.type_inv) in
     let front =
     run_in_front s z (z * c.block_size.result) c.args.samples.now c.fill.new.self x c.in-Some.ensures.within
-    (ap (λ j. z * j) c.block_size.ensures.value) c.requires.len (c.fill.ensures.after (λ y same. search (rules, same))) in
+    (rw c.block_size.ensures.value) c.requires.len (c.fill.ensures.after (λ y same. search (rules, same))) in
     record {
-      ok = λ some. subst (ReadsFirst s z c.args.reader.now c.read_first_run.new.reader) (sym front)
-          (subst (λ (x : ℤ). ReadsFirst s z c.args.reader.now c.read_first_run.new.reader (replicate (z * s.block_size) x))
-          (sym (to_z-of_z w64 c.in-Some.sample fits)) c.in-Some.ensures.read);
+      ok = λ some. rw (front, to_z-of_z) c.in-Some.ensures.read;
       within = c.in-Some.ensures.within;
       list = search rules;
       len = search rules;

@@ -1,8 +1,6 @@
-use Rattle.std.proofs.Common.{rules, ◌≡◌, ℤ, length, refl, sym, ap, ◌∙◌, subst, w64, FitsSigned, to_z, of_z}
+use Rattle.std.proofs.Common.{rules, ◌≡◌, length, refl, ◌∙◌, w64, FitsSigned, to_z, of_z}
 use Rattle.std.proofs.lemmas.Int.{to_z-of_z}
-use Rattle.aec_params.specs.Params.{IsHeld, sample_pattern}
 use Rattle.aec_params.proofs.SettingLaws.{interval-positive}
-use Rattle.aec_interval.specs.ShortIntervals.{ReadsFirst}
 use Rattle.aec_interval.proofs.ShortLemmas.{filled_front, reads_first}
 use Rattle.aec_interval.proofs.reading.short_interval.fill_reference_block.Goals as goal
 
@@ -15,11 +13,10 @@ returns-in-Some-clause-fills g c =
     let front = filled_front c.unmap_into.new.samples _ c.args.samples.now (length c.read_single_first.new.values) s.block_size c.unmap_into.ensures.len
     (c.read_single_first.ensures.len ∙ c.requires.count) c.requires.room in
     record {
-      ok = λ some. subst (ReadsFirst s 1 c.args.reader.now c.read_single_first.new.reader) (sym front)
-          (reads_first s c.args.reader.now c.read_single_first.new.reader c.in-Some.pattern c.read_single_first.new.values x c.unmap_into.new.samples
-          c.known_allowed.ensures c.requires.on c.in-Some.ensures.read (c.in-Some.ensures.one refl)
-          (subst (λ (x : ℤ). IsHeld s x) (sym kept) c.value-first.ensures.held)
-          (ap (λ (x : ℤ). sample_pattern s x) kept ∙ c.value-first.ensures.undone) c.unmap_into.ensures.items c.read_single_first.ensures.list);
+      ok =
+          λ some. rw (← front) at (reads_first s c.args.reader.now c.read_single_first.new.reader c.in-Some.pattern c.read_single_first.new.values x
+          c.unmap_into.new.samples c.known_allowed.ensures c.requires.on c.in-Some.ensures.read (c.in-Some.ensures.one refl)
+          (rw kept c.value-first.ensures.held) (rw kept c.value-first.ensures.undone) c.unmap_into.ensures.items c.read_single_first.ensures.list);
       within = interval-positive s c.known_allowed.ensures;
       list = search rules;
       len = search rules;

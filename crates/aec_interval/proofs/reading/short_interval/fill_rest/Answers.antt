@@ -1,7 +1,6 @@
-use Rattle.std.proofs.Common.{◌≡◌, ◌+◌, ◌-◌, ◌*◌, take, ◌∙◌, ap, subst, arith}
+use Rattle.std.proofs.Common.{◌≡◌, ◌+◌, ◌-◌, ◌*◌, take, ◌∙◌, arith}
 use Rattle.std.proofs.lemmas.Bool.{eqb-true}
 use Rattle.std.proofs.lemmas.List.{take_all}
-use Rattle.aec_interval.specs.UntestedBlocks.{ReadsBlocks}
 use Rattle.aec_interval.proofs.ShortLemmas.{rest_len}
 use Rattle.aec_interval.proofs.reading.short_interval.fill_rest.Goals as goal
 
@@ -9,7 +8,7 @@ pub fill_blocks-requires-clause-room : goal.fill_blocks-requires-clause-room
 fill_blocks-requires-clause-room g c =
     let s = c.args.params.now in
     let len = rest_len c.args.first g.row.N s.block_size s.interval _ c.requires.within c.requires.size c.requires.len in
-    omega (arith, len, ap (λ r. (r - c.args.first) * s.block_size) c.interval.ensures.value)
+    grind arith
 
 pub returns-clause-ok : goal.returns-clause-ok
 returns-clause-ok g c =
@@ -18,9 +17,6 @@ returns-clause-ok g c =
     let front = take (c.args.first * g.row.N) c.args.samples.now in
     λ same.
     let rest : fill.result ≡ s.interval - c.args.first =
-    eqb-true fill.result (c.interval.result - c.args.first) same ∙ ap (λ r. r - c.args.first) c.interval.ensures.value in
+    rw (eqb-true fill.result (c.interval.result - c.args.first) same, c.interval.ensures.value) in
     let len = rest_len c.args.first g.row.N s.block_size s.interval _ c.requires.within c.requires.size (fill.ensures.fills.len ∙ c.requires.len) in
-    subst (λ n. ReadsBlocks s c.args.first n c.args.reader.now front fill.new.reader fill.new.samples) rest
-    (subst (ReadsBlocks s c.args.first fill.result c.args.reader.now front fill.new.reader)
-    (take_all (c.args.first * g.row.N + fill.result * s.block_size) fill.new.samples (omega (arith, len, ap (λ n. n * s.block_size) rest)))
-    fill.ensures.fills.reads)
+    rw (take_all (c.args.first * g.row.N + fill.result * s.block_size) fill.new.samples (grind arith), rest) at fill.ensures.fills.reads

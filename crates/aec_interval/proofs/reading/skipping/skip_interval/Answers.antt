@@ -8,7 +8,7 @@ pub loop-block-init : goal.loop-block-init
 loop-block-init c = record {
   led = led-start c.args.params.now _ _ _ _ _ _ c.requires.begins;
   list = refl;
-  inside = inside-begun _ _ _ _ _ _ _ c.interval.ensures.allowed (omega (arith, c.from.ensures, c.interval.ensures.value)) c.requires.wanted;
+  inside = inside-begun _ _ _ _ _ _ _ c.interval.ensures.allowed (omega arith) c.requires.wanted;
 }
 
 pub returns-in_err-block-clause-refuses : goal.returns-in_err-block-clause-refuses

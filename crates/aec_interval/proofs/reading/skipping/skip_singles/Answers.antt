@@ -1,4 +1,4 @@
-use Rattle.std.proofs.Common.{◌≡◌, ◌+◌, ◌%◌, ◌∙◌, refl, ap, arith}
+use Rattle.std.proofs.Common.{◌≡◌, ◌∙◌, refl, arith}
 use Rattle.aec_interval.proofs.SkippedBlockLemmas.{place-begun, place-next, skips_none, skips_more}
 use Rattle.aec_interval.proofs.reading.skipping.skip_singles.Goals as goal
 
@@ -17,9 +17,9 @@ loop-count-preserved c =
     let interval : c.from-interval.result ≡ s.interval = c.from-interval.ensures ∙ c.interval.ensures.value in
     record {
       skips = skips_more s c.args.place c.args.most c.loop-count.count c.loop-count.at c.args.reader.now c.loop-count.reader c.skip_single.new.reader
-          c.interval.ensures.allowed (c.requires.unpadded (omega (arith, c.loop-count-test.true))) inv.skips inv.at (found.one refl)
-          c.has_reference.result c.has_reference.ensures.value (found.skipped refl) c.skip_single.ensures.list (omega (arith, c.loop-count-test.true));
+          c.interval.ensures.allowed (c.requires.unpadded (omega arith)) inv.skips inv.at (found.one refl)
+          c.has_reference.result c.has_reference.ensures.value (found.skipped refl) c.skip_single.ensures.list (omega arith);
       at = place-next s.interval c.args.place c.loop-count.count c.loop-count.at c.next_place-at.result inv.at
-          (c.next_place-at.ensures.value ∙ ap (λ r. (c.loop-count.at + 1) % r) interval);
-      within = omega (arith, c.next_place-at.ensures.within, interval);
+          (rw (c.next_place-at.ensures.value, interval));
+      within = omega arith;
     }

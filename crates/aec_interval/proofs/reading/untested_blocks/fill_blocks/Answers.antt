@@ -1,5 +1,4 @@
-use Rattle.std.proofs.Common.{rules, ◌≡◌, ◌+◌, ◌*◌, ◌∙◌, length, take, sym, ap, subst, arith}
-use Rattle.aec_interval.specs.UntestedBlocks.{ReadsBlocks}
+use Rattle.std.proofs.Common.{rules, ◌≡◌, ◌+◌, ◌*◌, ◌∙◌, length, arith}
 use Rattle.aec_interval.proofs.UntestedLemmas.{none_read, more_read, blocks_fit, blocks_more}
 use Rattle.aec_interval.proofs.reading.untested_blocks.fill_blocks.Goals as goal
 
@@ -15,8 +14,7 @@ loop-count-init g c = record {
 pub fill_next-read-requires-clause-room : goal.fill_next-read-requires-clause-room
 fill_next-read-requires-clause-room g c =
     let inv = c.loop-count.invariant in
-    blocks_fit c.args.from c.loop-count.at c.loop-count.count c.args.most c.args.params.now.block_size _ inv.at inv.within
-    (omega (arith, c.requires.room, inv.len))
+    blocks_fit c.args.from c.loop-count.at c.loop-count.count c.args.most c.args.params.now.block_size _ inv.at inv.within (omega arith)
 
 pub loop-count-preserved : goal.loop-count-preserved
 loop-count-preserved g c =
@@ -26,10 +24,8 @@ loop-count-preserved g c =
     let size : length fill.new.values ≡ s.block_size = fill.ensures.count ∙ inv.values in
     let at = blocks_more c.args.from c.loop-count.at c.loop-count.count fill.result s.block_size _ inv.at size in
     record {
-      reads = subst (λ n. ReadsBlocks s c.args.place (c.loop-count.count + fill.result) c.args.reader.now (take c.args.from c.args.samples.now)
-          fill.new.reader (take n fill.new.samples)) (ap (λ j. c.loop-count.at + fill.result * j) (sym size))
-          (more_read s c.args.place c.loop-count.count fill.result _ _ _ _ _ _ inv.reads fill.ensures.fills.reads);
-      within = omega (arith, fill.ensures.fills.within, inv.within);
+      reads = rw size (more_read s c.args.place c.loop-count.count fill.result _ _ _ _ _ _ inv.reads fill.ensures.fills.reads);
+      within = omega arith;
       at = at;
       values = search rules;
       len = search rules;
@@ -41,15 +37,10 @@ returns-then-read-eq0-clause-fills g c =
     let s = c.args.params.now in
     let fill = c.fill_next-read in
     let none : fill.result ≡ 0 = c.if-read-eq0.true in
-    let count : c.loop-count.count + fill.result ≡ c.loop-count.count = omega (arith, none) in
-    let last : c.loop-count.at + fill.result * s.block_size ≡ c.args.from + c.loop-count.count * s.block_size =
-    omega (arith, inv.at, ap (λ n. n * s.block_size) none) in
+    let count : c.loop-count.count + fill.result ≡ c.loop-count.count = omega arith in
+    let last : c.loop-count.at + fill.result * s.block_size ≡ c.args.from + c.loop-count.count * s.block_size = grind arith in
     record {
-      reads = subst (λ n. ReadsBlocks s c.args.place c.loop-count.count c.args.reader.now (take c.args.from c.args.samples.now) fill.new.reader
-          (take n fill.new.samples)) last
-          (subst (λ m. ReadsBlocks s c.args.place m c.args.reader.now (take c.args.from c.args.samples.now) fill.new.reader
-          (take (c.loop-count.at + fill.result * s.block_size) fill.new.samples)) count
-          (more_read s c.args.place c.loop-count.count fill.result _ _ _ _ _ _ inv.reads fill.ensures.fills.reads));
+      reads = rw (count, last) at (more_read s c.args.place c.loop-count.count fill.result _ _ _ _ _ _ inv.reads fill.ensures.fills.reads);
       within = inv.within;
       len = search rules;
     }

@@ -1,9 +1,6 @@
-use Rattle.std.proofs.Common.{rules, ◌≡◌, ◌≤◌, ◌+◌, ◌-◌, ◌*◌, ◌∙◌, ℤ, length, take, refl, sym, subst, arith, w64, FitsSigned}
+use Rattle.std.proofs.Common.{rules, ◌≡◌, ◌≤◌, ◌+◌, ◌-◌, ◌*◌, ◌∙◌, length, take, refl, arith, w64, FitsSigned}
 use Rattle.std.proofs.Math.Nat.{mul-le-mul_right}
 use Rattle.std.proofs.lemmas.Int.{to_z-of_z}
-use borrow.Rule.Slice.PartMut.{put_mid}
-use Rattle.aec_params.specs.Params.{IsHeld}
-use Rattle.aec_interval.specs.UntestedBlocks.{ReadsBlocks}
 use Rattle.aec_interval.proofs.NextFillLemmas.{held-last_sample}
 use Rattle.aec_interval.proofs.UntestedLemmas.{one_single}
 use Rattle.aec_interval.proofs.reading.untested_blocks.fill_next.Goals as goal
@@ -11,7 +8,7 @@ use Rattle.aec_interval.proofs.reading.untested_blocks.fill_next.Goals as goal
 pub unmap_into-requires-clause-prediction : goal.unmap_into-requires-clause-prediction
 unmap_into-requires-clause-prediction g c =
     let fits : FitsSigned w64 c.previous_of-previous.result = search (rules, c.previous_of-previous.type_inv) in
-    subst (λ (x : ℤ). IsHeld c.args.params.now x) (sym (to_z-of_z w64 c.previous_of-previous.result fits ∙ c.previous_of-previous.ensures))
+    rw (to_z-of_z, c.previous_of-previous.ensures)
     (held-last_sample c.args.params.now (take c.args.from c.args.samples.now) c.known_allowed.ensures c.requires.held)
 
 pub returns-clause-fills : goal.returns-clause-fills
@@ -21,16 +18,15 @@ returns-clause-fills g c =
     let values = c.read_single.new.values in
     let size : length values ≡ s.block_size = c.read_single.ensures.len ∙ c.requires.count in
     let one : 1 * s.block_size ≤ c.args.most * s.block_size = mul-le-mul_right s.block_size c.requires.some in
-    let room : from + s.block_size ≤ length c.args.samples.now = omega (arith, one, c.requires.room) in
-    let next : from + length values ≡ from + 1 * s.block_size = omega (arith, size) in
+    let room : from + s.block_size ≤ length c.args.samples.now = omega arith in
+    let next : from + length values ≡ from + 1 * s.block_size = omega arith in
     record {
-      reads = subst (λ n. ReadsBlocks s c.args.place 1 c.args.reader.now (take from c.args.samples.now) c.read_single.new.reader
-          (take n (put_mid from (from + length values - from) c.args.samples.now c.unmap_into.new.samples))) next
-          (one_single s c.args.place c.args.reader.now c.read_single.new.reader c.args.samples.now c.unmap_into.new.samples
-          values _ from (from + length values - from) (from + length values) c.known_allowed.ensures (c.if-not-read_single.ensures.read refl)
+      reads =
+          rw (← next) (one_single s c.args.place c.args.reader.now c.read_single.new.reader c.args.samples.now c.unmap_into.new.samples values _ from
+          (from + length values - from) (from + length values) c.known_allowed.ensures (c.if-not-read_single.ensures.read refl)
           (c.if-not-read_single.ensures.one refl) c.read_single.ensures.list c.requires.held
           (to_z-of_z w64 c.previous_of-previous.result (search (rules, c.previous_of-previous.type_inv)) ∙ c.previous_of-previous.ensures)
-          (omega arith) (omega (arith, size, room)) (search rules) c.unmap_into.ensures.items);
+          (omega arith) (omega arith) (search rules) c.unmap_into.ensures.items);
       within = c.requires.some;
       len = search rules;
     }

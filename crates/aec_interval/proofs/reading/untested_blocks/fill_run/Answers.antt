@@ -1,4 +1,4 @@
-use Rattle.std.proofs.Common.{rules, ◌≡◌, ◌≤◌, ◌+◌, ◌-◌, ◌*◌, ◌∙◌, ℤ, refl, sym, ap, arith, w64, FitsSigned, to_z, of_z}
+use Rattle.std.proofs.Common.{rules, ◌≡◌, ◌≤◌, ◌+◌, ◌-◌, ◌*◌, ◌∙◌, ℤ, refl, sym, arith, w64, FitsSigned, to_z, of_z}
 use Rattle.std.proofs.lemmas.Int.{to_z-of_z}
 use Rattle.aec_params.specs.Places.{segment_left}
 use Rattle.aec_interval.proofs.UntestedRunLemmas.{one_run}
@@ -11,9 +11,9 @@ returns-then-blocks-min c =
     let k = c.args.from + z * c.block_size.result - c.args.from in
     let fits : FitsSigned w64 c.repeated_sample-sample.result = search (rules, c.repeated_sample-sample.type_inv) in
     let x : ℤ = to_z w64 (of_z w64 c.repeated_sample-sample.result) in
-    let few : z ≤ c.args.most = omega (arith, c.if-blocks-min.true, c.min.ensures) in
-    let left : z ≤ segment_left s c.args.place = omega (arith, c.if-blocks-min.true, c.min.ensures, c.blocks_left.ensures.value) in
-    let size : k ≡ z * s.block_size = omega (arith, ap (λ j. z * j) c.block_size.ensures.value) in
+    let few : z ≤ c.args.most = omega arith in
+    let left : z ≤ segment_left s c.args.place = omega arith in
+    let size : k ≡ z * s.block_size = grind arith in
     record {
       reads = one_run s c.args.place c.args.most c.args.reader.now c.read_run.new.reader c.in-Some.reference c.in-Some.len z c.args.samples.now
           c.fill.new.self x c.args.from k c.block_size.ensures.allowed c.requires.place c.in-Some.ensures.read (sym c.block_count-blocks.ensures) left few

@@ -1,5 +1,4 @@
-use Rattle.std.proofs.Common.{rules, ◌≡◌, ◌≤◌, ◌-◌, ◌*◌, ◌/◌, unwrap_or, ap, arith}
-use Rattle.std.proofs.Math.Nat.{mul-le-mul_right, div-mul-le_self}
+use Rattle.std.proofs.Common.{rules, ◌≡◌, ◌≤◌, ◌-◌, ◌/◌, unwrap_or, arith}
 use Rattle.aec_interval.proofs.UntestedLemmas.{untested-within, few_samples}
 use Rattle.aec_interval.proofs.reading.untested_blocks.untested_end.Goals as goal
 
@@ -11,8 +10,7 @@ returns-then-saturating_mul-samples c =
     let samples : c.unwrap_or-samples.result ≡ unwrap_or c.args.wanted.count c.args.wanted.limit = search rules in
     let few = few_samples c.args.wanted.count c.args.wanted.limit c.requires.limit c.requires.counted in
     untested-within s _ _ _ c.args.end c.from.result last c.block_size.ensures.allowed c.requires.limit c.requires.counted c.requires.end (search rules)
-    (omega arith)
-    (omega (arith, ap (λ n. last * n) size, samples, few, c.saturating_mul.ensures, c.if-saturating_mul-samples.true))
+    (omega arith) (grind arith)
 
 pub returns : goal.returns
 returns c =
@@ -22,5 +20,4 @@ returns c =
     let samples : c.unwrap_or-samples.result ≡ unwrap_or c.args.wanted.count c.args.wanted.limit = search rules in
     let within : last ≤ c.unwrap_or-samples.result / c.from-size.result = search rules in
     untested-within s _ _ _ c.args.end c.from.result last c.block_size.ensures.allowed c.requires.limit c.requires.counted c.requires.end (search rules)
-    (search rules)
-    (omega (arith, ap (λ n. last * n) size, samples, mul-le-mul_right c.from-size.result within, div-mul-le_self c.unwrap_or-samples.result c.from-size.result))
+    (search rules) (grind arith)

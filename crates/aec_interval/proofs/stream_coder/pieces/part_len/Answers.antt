@@ -1,8 +1,6 @@
-use Rattle.std.proofs.Common.{rules, ◌-◌, ◌*◌, ◌%◌, ◌≤◌, max, arith, [], subst, sym}
+use Rattle.std.proofs.Common.{rules, ◌-◌, ◌%◌, ◌≤◌, max, arith}
 use Rattle.std.proofs.Math.Nat.{mul-le-mul_right}
 use Rattle.aec_params.specs.Params.{interval_len}
-use Rattle.aec_interval.specs.Feeding.{StopsFeeding}
-use Rattle.aec_interval.specs.Progress.{coder_at}
 use Rattle.aec_interval.proofs.NextPartLemmas.{few_of_first, all_of_first, front_bytes, front_of_first, first_refused}
 use Rattle.aec_interval.proofs.stream_coder.pieces.part_len.Goals as goal
 
@@ -17,10 +15,9 @@ returns-then-taken-interval-clause-stops c bits =
     let u = c.args.terms.now in let p = c.args.progress.now in let bytes = c.args.bytes.now in
     let few = few_of_first u p bytes _ _ _ c.requires.progress c.storage-width.ensures.value c.part_samples-samples.ensures.there
     c.taken_samples-taken.ensures.value in
-    subst (StopsFeeding (coder_at u p []) bytes bits bits) (sym c.refusal.ensures)
-    (first_refused u p bytes bits _ _ _ _ _ c.requires.progress c.storage-width.ensures.value c.interval_len-interval.ensures.value
-    c.len.ensures c.part_samples-samples.ensures.there c.part_samples-samples.ensures.begun c.taken_samples-taken.ensures.value
-    (omega (arith, few, c.if-taken-samples.false)) c.if-taken-interval.true)
+    rw c.refusal.ensures (first_refused u p bytes bits _ _ _ _ _ c.requires.progress c.storage-width.ensures.value
+    c.interval_len-interval.ensures.value c.len.ensures c.part_samples-samples.ensures.there c.part_samples-samples.ensures.begun
+    c.taken_samples-taken.ensures.value (omega arith) c.if-taken-interval.true)
 
 pub overflow_mul-result-2 : goal.overflow_mul-result-2
 overflow_mul-result-2 c =
@@ -35,9 +32,8 @@ returns-clause-few c =
     let most = max 4096 (interval_len c.args.terms.now.params) in
     let few = few_of_first c.args.terms.now c.args.progress.now c.args.bytes.now _ _ _ c.requires.progress c.storage-width.ensures.value
     c.part_samples-samples.ensures.there c.taken_samples-taken.ensures.value in
-    let within : whole ≤ most =
-    omega (arith, few, c.part_samples-samples.ensures.at_once, c.samples_at_once-at_once.ensures.few, c.interval_len-interval.ensures.value) in
-    subst (λ width. whole * c.storage-width.result ≤ most * width) c.storage-width.ensures.value (mul-le-mul_right c.storage-width.result within)
+    let within : whole ≤ most = omega arith in
+    rw (← c.storage-width.ensures.value) (mul-le-mul_right c.storage-width.result within)
 
 pub returns-clause-within : goal.returns-clause-within
 returns-clause-within c =
@@ -49,4 +45,4 @@ pub returns-clause-part : goal.returns-clause-part
 returns-clause-part c =
     front_of_first c.args.terms.now c.args.progress.now c.args.bytes.now _ _ _ _ _ c.requires.progress c.storage-width.ensures.value
     c.interval_len-interval.ensures.value c.len.ensures c.part_samples-samples.ensures.there c.part_samples-samples.ensures.begun
-    c.taken_samples-taken.ensures.value (omega (arith, c.if-taken-interval.false))
+    c.taken_samples-taken.ensures.value (omega arith)

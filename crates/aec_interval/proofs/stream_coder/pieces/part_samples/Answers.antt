@@ -1,10 +1,9 @@
-use Rattle.std.proofs.Common.{◌≡◌, ◌+◌, ◌-◌, ◌*◌, ◌/◌, ◌%◌, ap, ◌∙◌, inr, arith}
+use Rattle.std.proofs.Common.{◌≡◌, ◌+◌, ◌-◌, ◌*◌, ◌/◌, ◌%◌, inr, arith}
 use Rattle.std.proofs.Math.Nat.{mul-mod_left}
-use Rattle.std.proofs.lemmas.Nat.{div-add-mod'}
 use Rattle.aec_interval.proofs.stream_coder.pieces.part_samples.Goals as goal
 
 pub returns-clause-whole : goal.returns-clause-whole
 returns-clause-whole c =
     let i = c.args.interval in let most = c.min-most.result in
-    let whole : c.args.held + (most - most % i) ≡ most / i * i = omega (arith, c.if-held-gt0.false, div-add-mod' most i) in
-    inr (ap (λ n. n % i) whole ∙ mul-mod_left (most / i) i)
+    let whole : c.args.held + (most - most % i) ≡ most / i * i = omega arith in
+    inr (rw (whole, mul-mod_left))

@@ -1,4 +1,4 @@
-use Rattle.std.proofs.Common.{[], arith, ap, ◌++◌, ◌∙◌}
+use Rattle.std.proofs.Common.{[], arith}
 use Rattle.aec_interval.proofs.RefusalLemmas.{of_answer}
 use Rattle.aec_interval.proofs.PartLemmas.{short_fed, cut_at, front_longer, left_refused, part_stops, left_kept}
 use Rattle.aec_interval.proofs.stream_coder.pieces.take_piece.Goals as goal
@@ -6,7 +6,7 @@ use Rattle.aec_interval.proofs.stream_coder.pieces.take_piece.Goals as goal
 pub returns-then-piece-width-clause-takes : goal.returns-then-piece-width-clause-takes
 returns-then-piece-width-clause-takes c =
     short_fed c.args.terms.now c.args.progress.now c.args.rest.now c.args.piece.now c.extend.new.self c.args.out.now.list c.requires.begun.progress
-    c.extend.ensures (omega (arith, c.if-piece-width.true, c.len.ensures, c.storage-width.ensures.value, c.requires.begun.short))
+    c.extend.ensures (omega arith)
 
 pub returns-in_err-left-clause-takes : goal.returns-in_err-left-clause-takes
 returns-in_err-left-clause-takes c = of_answer _ _ _ _ c.from_residual.ensures.1 c.in_err-left.ensures.completes
@@ -35,6 +35,5 @@ loop-left-preserved c = record {
 pub returns-clause-takes : goal.returns-clause-takes
 returns-clause-takes c =
     left_kept _ _ _ _ _ _ _ c.storage-width.ensures.allowed c.loop-left.invariant.so_far
-    (short_fed c.args.terms.now _ [] c.loop-left.left.now _ _ c.loop-left.invariant.progress
-    (c.extend-2.ensures ∙ ap (λ r. r ++ c.loop-left.left.now) c.complete_rest.ensures.empty)
-    (omega (arith, c.loop-left-test.false, c.storage-width.ensures.value)))
+    (short_fed c.args.terms.now _ [] c.loop-left.left.now _ _ c.loop-left.invariant.progress (rw (c.extend-2.ensures, c.complete_rest.ensures.empty))
+    (omega arith))
