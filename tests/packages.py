@@ -2,8 +2,8 @@
 """Tests the packages of `make dist`, installed where there is no kit and, if they need none, no Python or compiler: packages.py [--quick]
 
 Runs `make dist` here and in a copy of the checkout elsewhere, and compares the bytes. Installs each package into an empty root, runs
-README's commands there, removes the package, and looks for files that are left. Then tests the wheel in fresh environments, and the
-Rust crate over the packed archive. All versions must be that of the file VERSION.
+README's commands and debian/tests there, removes the package, and looks for files that are left. Then tests the wheel in fresh
+environments, and the Rust crate over the packed archive. All versions must be that of the file VERSION.
 
 A part that needs a missing program is skipped, with a line. MUST_RUN names programs (`lintian cargo`): if one of them is missing, the
 test fails. If MUST_RUN contains the word `proved`, the test also fails if a binary of bin/ isn't what a proving build has written at
@@ -175,13 +175,14 @@ def try_wheel_libraries(made, tally):
 
 
 def try_symbols(made, tally):
-    """Checks that the binaries need no newer C library than the packages say, and no other library."""
+    """Checks that the binaries need no newer C library than the packages say, and no other library, and how they are linked."""
     paths = {name: os.path.join(TOP, "bin", name) for name in BINARIES if not name.endswith(".a")}
     needs = {name: elf.glibc_needed(path) for name, path in paths.items()}
     library, program = (max(it for name, it in needs.items() if name.endswith(end)) for end in ("libaecp.so", "aec"))
     tally.holds(library <= python.glibc_allowed(), f"the wheel is for {python.platform_tag()}, and the library needs glibc {library}")
     for path in paths.values():
         tally.holds(set(elf.libraries_needed(path)) <= {"libc.so.6"}, f"{path} needs {elf.libraries_needed(path)}")
+        tally.holds(elf.is_bound_at_load(path), f"{path} isn't linked with -z relro and -z now")
     told = subprocess.run(["dpkg-deb", "-f", made[f"aec-proved_{version()}_amd64.deb"], "Depends"], capture_output=True, text=True).stdout
     tally.check("what the package of the program needs", told.strip(), "libc6 (>= {}.{})".format(*program))
     print("glibc: the program needs {}.{}, the library {}.{}".format(*program, *library))
@@ -340,13 +341,19 @@ def try_debs(made, root, folder, tally):
 
 
 def try_link(root, deb, last, tally):
-    """Installs the program's package on processors of both levels, last on one of the level `last`. Checks which program the command is."""
+    """Installs the program's package on processors of both levels, last on one of the level `last`. Checks which program the command is,
+    and that one chosen by hand stays."""
     for level in (PLAIN, V3, last):
         root.set_processor(FLAGS[level])
         status, said = root.run(f"dpkg -i {deb}")
         tally.holds(status == 0, f"dpkg -i on {level}: {said}")
         wanted = f"/usr/lib/aec-proved/{level}/aec-proved\n"
         tally.check(f"the command aec-proved on {level}", root.run("readlink -f /usr/bin/aec-proved"), (0, wanted))
+    chosen = f"/usr/lib/aec-proved/{PLAIN if last == V3 else V3}/aec-proved"
+    status, said = root.run(f"update-alternatives --set aec-proved {chosen} && dpkg -i {deb}")
+    tally.holds(status == 0, f"dpkg -i after a choice: {said}")
+    tally.check("the command aec-proved after a choice", root.run("readlink -f /usr/bin/aec-proved"), (0, f"{chosen}\n"))
+    root.run("update-alternatives --auto aec-proved")
 
 
 def try_versions(made, tally):
