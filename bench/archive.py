@@ -2,11 +2,16 @@
 """Measures the archive of one file: archive.py FOLDER [--place DIR] [--full] [--only NAME]
 
 FOLDER contains libaecp.so. Prints a table for each of
-    ends     ten samples at the end of 64 MiB and of 1 GiB, by aecp.open, and by flac, where it can seek
-    files    keep and check of 10,000 files of 8 KiB, beside zstd
-    large    keep and check of 1 GiB (with --full 4 GiB), beside flac and zstd
-    growth   the history: 100 edits of 3,000 samples in 256 KiB: one script, the same places, and others
-Each time is the least of some runs, in seconds of the clock. Without --full the numbers of files and bytes are an eighth.
+    ends     ten samples at the end of 64 MiB and of 1 GiB, by aecp.open
+    files    keep, check and back of 10,000 files of 8 KiB, beside zstd
+    edits    edit and undo of 100 of 300 files of 256 KiB, and the repair of 3 damaged ones
+    large    keep, check and back of one file of 256 MiB and one of 4 GiB, beside flac and zstd
+    growth   the history: 100 edits of 3,000 samples in 256 KiB: one script, the same places, and
+             others
+Times are seconds of the clock, of one run each (of `ends` the least of 50), and seconds of
+processors, user and system. A rate is MB of samples for each second of a processor: so it hardly
+depends on what else runs, and is that of one core. Without --full the numbers of files and samples
+are an eighth, and of `large` only the smaller file is measured.
 """
 
 from __future__ import annotations
@@ -20,21 +25,31 @@ import sys
 import tempfile
 import time
 from pathlib import Path
-from typing import Any, Callable
+from typing import Any, Callable, NamedTuple
 
 TOP = Path(__file__).resolve().parents[1]
 MIB = 1 << 20
 
 
-def clock(work: Callable[[], Any], runs: int = 1, before: Callable[[], Any] = lambda: None) -> float:
+class Spent(NamedTuple):
+    """Seconds of the clock, and of the processors in the commands that were run."""
+
+    clock: float
+    cores: float
+
+
+def spent(work: Callable[[], Any]) -> Spent:
+    """Returns what some work took."""
+    before, begun = os.times(), time.perf_counter()
+    work()
+    ended, after = time.perf_counter(), os.times()
+    cores = after.children_user + after.children_system
+    return Spent(ended - begun, cores - before.children_user - before.children_system)
+
+
+def clock(work: Callable[[], Any], runs: int = 1) -> float:
     """Returns the least time of some runs."""
-    times = []
-    for _ in range(runs):
-        before()
-        begun = time.perf_counter()
-        work()
-        times.append(time.perf_counter() - begun)
-    return min(times)
+    return min(spent(work).clock for _ in range(runs))
 
 
 def row(*cells: Any) -> None:
@@ -109,34 +124,71 @@ def files(place: str, full: bool) -> None:
     os.mkdir(folder)
     for number in range(many):
         Path(folder, f"f{number:05}.raw").write_bytes(detector(number % 50, 4096))
-    head(f"{many} files of 8 KiB", "seconds", "files a second")
-    for name, words in {
-        "aecp keep": aecp_words("keep", folder, "-n", 16),
-        "aecp check": aecp_words("check", folder),
-        "aecp back --to": aecp_words("back", folder, "--to", "restored"),
-        "aecp keep --jobs 1 --to": aecp_words("keep", folder, "-n", 16, "--jobs", 1, "--to", "other"),
-    }.items():
-        took = clock(lambda: run(*words, where=place))
-        row(name, f"{took:.1f}", round(many / took))
+    head(f"{many} files of 8 KiB", "seconds", "of processors", "files a second")
+
+    def measured(name: str, *words: Any) -> None:
+        took = spent(lambda: run(*words, where=place))
+        row(name, f"{took.clock:.1f}", f"{took.cores:.1f}", round(many / took.clock))
+
+    measured("aecp keep", *aecp_words("keep", folder, "-n", 16))
+    measured("aecp check", *aecp_words("check", folder))
+    measured("aecp back --to", *aecp_words("back", folder, "--to", "restored"))
+    measured("aecp keep --jobs 1 --to", *aecp_words("keep", folder, "-n", 16, "--jobs", 1, "--to", "other"))
     if shutil.which("zstd"):
-        took = clock(lambda: run("sh", "-c", "mkdir zstd && find many -name '*.raw' | xargs zstd -q --output-dir-flat zstd", where=place))
-        row("zstd -3 (not synced)", f"{took:.1f}", round(many / took))
-        took = clock(lambda: run("sh", "-c", "find zstd -name '*.zst' | xargs zstd -q -t", where=place))
-        row("zstd -t", f"{took:.1f}", round(many / took))
+        coding = "mkdir zstd && find many -name '*.raw' | xargs zstd -q --output-dir-flat zstd"
+        measured("zstd -3 (not synced)", "sh", "-c", coding)
+        measured("zstd -t", "sh", "-c", "find zstd -name '*.zst' | xargs zstd -q -t")
     for name in ("many", "restored", "other", "zstd"):
         shutil.rmtree(os.path.join(place, name), ignore_errors=True)
 
 
+def edits(place: str, full: bool) -> None:
+    """One table of two pixels for many files, and damage in few."""
+    many = 300 if full else 36
+    names = [f"f{number:03}.raw" for number in range(many)]
+    os.mkdir(os.path.join(place, "sky"))
+    for number, name in enumerate(names):
+        Path(place, "sky", name).write_bytes(detector(number % 50, MIB // 8))
+    Path(place, "table.csv").write_text("row,column,value\n9,4,1\n9,5,2\n", encoding="ascii")
+    head(f"{many} files of 256 KiB", "seconds", "of processors", "files a second")
+
+    def measured(name: str, number: int, *words: Any) -> None:
+        took = spent(lambda: run(*aecp_words(*words), where=place))
+        row(name, f"{took.clock:.1f}", f"{took.cores:.1f}", round(number / took.clock))
+
+    measured("keep", many, "keep", "sky", "-n", 16, "--shape", "256x512")
+    measured("check", many, "check", "sky")
+    measured("back --to", many, "back", "sky", "--to", "restored")
+    edited = [f"sky/{name}.aec" for name in names[: many // 3]]
+    measured(f"edit of {many // 3}", len(edited), "edit", *edited, "table.csv")
+    measured(f"undo of {many // 3}", len(edited), "undo", *edited)
+    for name in names[:3]:
+        with open(os.path.join(place, "sky", f"{name}.aec"), "r+b") as file:
+            file.seek(40000)
+            file.write(bytes(4))
+    measured("keep --repair, 3 are damaged", many, "keep", "sky", "--repair")
+    for name in ("sky", "restored"):
+        shutil.rmtree(os.path.join(place, name))
+    os.unlink(os.path.join(place, "table.csv"))
+
+
 def large(place: str, full: bool) -> None:
     """One large file."""
-    size = (4096 if full else 256) * MIB
-    raw = os.path.join(place, "raw")
-    write_large(raw, size)
-    head(f"{size // MIB} MiB", "seconds", "bytes")
+    for mib in (256, 4096) if full else (256,):
+        write_large(os.path.join(place, "raw"), mib * MIB)
+        large_file(place, mib * MIB)
+        for name in ("raw", "raw.aec", "raw.zst", "raw.flac"):
+            Path(place, name).unlink(missing_ok=True)
+
+
+def large_file(place: str, size: int) -> None:
+    """The file `raw`, of so many bytes."""
+    head(f"{size // MIB} MiB", "seconds", "of processors", "MB a second of one core", "bytes")
 
     def measured(name: str, result: str, *words: Any) -> None:
-        took = clock(lambda: run(*words, where=place))
-        row(name, f"{took:.1f}", os.path.getsize(os.path.join(place, result)) if result else "")
+        took = spent(lambda: run(*words, where=place))
+        made = os.path.getsize(os.path.join(place, result)) if result else ""
+        row(name, f"{took.clock:.1f}", f"{took.cores:.1f}", round(size / took.cores / 1e6), made)
 
     measured("aecp keep", "raw.aec", *aecp_words("keep", "raw", "-n", 16, "--jobs", 1))
     measured("aecp check", "", *aecp_words("check", "raw.aec", "--jobs", 1))
@@ -146,46 +198,44 @@ def large(place: str, full: bool) -> None:
         measured("zstd -3", "raw.zst", "zstd", "-q", "-3", "raw", "-o", "raw.zst")
         measured("zstd -t", "", "zstd", "-q", "-t", "raw.zst")
     if shutil.which("flac") and size < 2 << 30:
-        shape = ["--force-raw-format", "--endian=little", "--sign=unsigned", "--channels=1", "--bps=16", "--sample-rate=48000"]
+        shape = ["--force-raw-format", "--endian=little", "--sign=unsigned", "--channels=1"]
+        shape += ["--bps=16", "--sample-rate=48000"]
         measured("flac -5", "raw.flac", "flac", "-s", "-5", *shape, "raw", "-o", "raw.flac")
         measured("flac -t", "", "flac", "-s", "-t", "raw.flac")
-    for name in ("raw", "raw.aec", "raw.zst", "raw.flac"):
-        if os.path.exists(os.path.join(place, name)):
-            os.unlink(os.path.join(place, name))
 
 
 def growth(place: str, full: bool) -> None:
     """The bytes of the file after 100 edits."""
-    edits = 100 if full else 25
+    count = 100 if full else 25
     samples = 1 << 17
-    head(f"{edits} edits of 3,000 samples in 256 KiB", "stream, bytes", "FILE.aec, bytes", "times the stream", "seconds an edit")
+    head(f"{count} edits of 3,000 samples in 256 KiB", "stream, bytes", "FILE.aec, bytes", "times the stream", "seconds an edit")
     for name in ("the same script each time", "the same places, other values", "other places, other values"):
         chance = random.Random(1)
         Path(place, "g").write_bytes(detector(1, samples))
         run(*aecp_words("keep", "g", "-n", 16), where=place)
         places = sorted(chance.sample(range(samples), 3000))
-        spent = 0.0
-        for number in range(edits):
+        total = 0.0
+        for number in range(count):
             if name.startswith("other"):
                 places = sorted(chance.sample(range(samples), 3000))
             if number == 0 or not name.endswith("script each time"):
                 script = "".join(f"overwrite {at} {chance.randrange(900, 1100)}\n" for at in places)
             Path(place, "script").write_text(script, encoding="ascii")
-            spent += clock(lambda: run(*aecp_words("edit", "g.aec", "script"), where=place))
+            total += clock(lambda: run(*aecp_words("edit", "g.aec", "script"), where=place))
         run(*aecp_words("export", "g.aec", "bare"), where=place)
         stream, size = (os.path.getsize(os.path.join(place, it)) for it in ("bare", "g.aec"))
-        row(name, stream, size, f"{size / stream:.2f}", f"{spent / edits:.2f}")
+        row(name, stream, size, f"{size / stream:.2f}", f"{total / count:.2f}")
         for it in ("g", "g.aec", "bare", "script"):
             os.unlink(os.path.join(place, it))
 
 
-TABLES = {"ends": ends, "files": files, "large": large, "growth": growth}
+TABLES = {"ends": ends, "files": files, "edits": edits, "large": large, "growth": growth}
 
 
 def main() -> None:
     asked = argparse.ArgumentParser(description=__doc__, allow_abbrev=False)
     asked.add_argument("library", metavar="FOLDER")
-    asked.add_argument("--place", help="the folder for the files, which needs three times the bytes of the largest")
+    asked.add_argument("--place", help="the folder for the files, which needs thrice the bytes of the largest")
     asked.add_argument("--full", action="store_true")
     asked.add_argument("--only", choices=TABLES)
     words = asked.parse_args()
