@@ -94,7 +94,7 @@ def even_blocks(ours, folder):
 
 
 def main():
-    ours, theirs = sys.argv[1], os.environ.get("LIBAEC", "/usr/bin/aec")
+    ours, theirs = os.path.abspath(sys.argv[1]), os.environ.get("LIBAEC", "/usr/bin/aec")
     with tempfile.TemporaryDirectory() as folder:
         if "--even" not in sys.argv[2:]:
             beside_theirs(ours, theirs, folder)
