@@ -119,24 +119,33 @@ pub(crate) fn decode_with(
     decode_within_bound(alloc, &params, count_of(count), bound, bytes, out)
 }
 
-/// Decodes the first `front` coded bytes as `count` samples, and cuts out a range, as `range_into`
-/// does. Returns `None` if that fails; the buffer is unchanged then.
+/// The samples that C asks for: `len` of them from place `first` on, of the first `count`, or of
+/// all if `count` is 2^64 - 1.
+#[derive(Clone, Copy)]
+pub(crate) struct Asked {
+    pub(crate) count: u64,
+    pub(crate) first: u64,
+    pub(crate) len: u64,
+}
+
+/// Decodes the first `front` coded bytes as `asked.count` samples, and cuts out a range, as
+/// `range_into` does. Returns `None` if that fails; the buffer is unchanged then.
 fn range_front(
     alloc: Global,
     params: &Params,
-    count: u64,
-    first: u64,
-    len: u64,
+    asked: Asked,
     front: usize,
     bytes: &[u8],
     out: &mut [u8],
 ) -> Option<u64>
     requires within { front ≤ length bytes.now }
     requires short { length bytes.now ≤ 2 ^ 40 }
-    ensures some { IfSome result (λ put. FillsOne (OrMemory (IsRanged params.now most (Some count)
-        first len (input_of bytes.now false))) out.old out.new (Ok put)) }
+    ensures some { IfSome result (λ put. FillsOne (OrMemory (IsRanged params.now most
+        (Some asked.count) asked.first asked.len (input_of bytes.now false))) out.old out.new
+        (Ok put)) }
     ensures none { result ≡ None → out.new ≡ out.old }
 {
+    let Asked { count, first, len } = asked;
     let front = &bytes[..front];
     match range_into(alloc, params, limits(), Some(count), first, len, front, out) {
         Ok(put) => Some(put),
@@ -149,26 +158,22 @@ fn range_front(
 fn range_within_bound(
     alloc: Global,
     params: &Params,
-    count: Option<u64>,
-    first: u64,
-    len: u64,
+    asked: Asked,
     bound: u64,
     bytes: &[u8],
     out: &mut [u8],
 ) -> Result<u64, Fault>
-    ensures { FillsOne (OrMemory (IsRanged params.now most count first len
-        (input_of bytes.now false))) out.old out.new result }
+    ensures { FillsOne (OrMemory (IsRanged params.now most (count_of asked.count) asked.first
+        asked.len (input_of bytes.now false))) out.old out.new result }
 {
     let whole = bytes.len() as u64;
-    if bound < whole
-        && whole <= MAX_CODED_BYTES
-        && let Some(count) = count
-    {
-        let front = bound as usize;
-        if let Some(put) = range_front(alloc, params, count, first, len, front, bytes, out) {
+    let count = count_of(asked.count);
+    if count.is_some() && bound < whole && whole <= MAX_CODED_BYTES {
+        if let Some(put) = range_front(alloc, params, asked, bound as usize, bytes, out) {
             return Ok(put);
         }
     }
+    let Asked { first, len, .. } = asked;
     range_into(alloc, params, limits(), count, first, len, bytes, out)
 }
 
@@ -177,17 +182,14 @@ fn range_within_bound(
 pub(crate) fn range_with(
     alloc: Global,
     options: &Options,
-    count: u64,
-    first: u64,
-    len: u64,
+    asked: Asked,
     bytes: &[u8],
     out: &mut [u8],
 ) -> Result<u64, Fault>
-    ensures { FillsOne (IsRanging (settings_of options.now) (count_of count) first len bytes.now)
-        out.old out.new result }
+    ensures { FillsOne (IsRanging (settings_of options.now) (count_of asked.count) asked.first
+        asked.len bytes.now) out.old out.new result }
 {
     let params = params_of(options)?;
-    let bound = bytes_read_first(options, count, bytes.len());
-    let count = count_of(count);
-    range_within_bound(alloc, &params, count, first, len, bound, bytes, out)
+    let bound = bytes_read_first(options, asked.count, bytes.len());
+    range_within_bound(alloc, &params, asked, bound, bytes, out)
 }

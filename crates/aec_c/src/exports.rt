@@ -7,7 +7,7 @@ ghost use Rattle.aec_c.specs.Bounds.{bound_of, Suffices};
 ghost use Rattle.aec_c.specs.StreamEdits.{IsEditing, RepliesEdit};
 ghost use Rattle.aec_c.specs.Texts.{PutsText};
 
-use crate::answers::{decode_with, encode_with, range_with};
+use crate::answers::{Asked, decode_with, encode_with, range_with};
 use crate::bound::bound_of;
 use crate::options::Options;
 use crate::reply::{Reply, reply_of};
@@ -86,7 +86,8 @@ pub extern "C" fn aecp_range(
     ensures number { result ≡ reply.new.fault }
 {
     let room = out.len();
-    let answer = range_with(alloc, options, count, first, len, bytes, out);
+    let asked = Asked { count, first, len };
+    let answer = range_with(alloc, options, asked, bytes, out);
     *reply = reply_of(answer, room);
     reply.fault
 }

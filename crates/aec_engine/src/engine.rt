@@ -10,6 +10,7 @@ mod intake;
 mod into_buffers;
 mod loading;
 mod ranging;
+mod terms;
 mod two_readings;
 
 pub use coding::encode;

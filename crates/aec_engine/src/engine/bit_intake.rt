@@ -1,7 +1,8 @@
-//! Reads the bits of a source to its end, or to a limit.
+//! Reads the bits of a source, or of bytes in memory, to their end or to a limit.
 
-ghost use Rattle.std.specs.Prelude.{◌≡◌, ◌≤◌, IfErr, IfOk, length, true};
-ghost use Rattle.aec_params.specs.declared.fault.Fault.TheVariants.{Memory};
+ghost use Rattle.std.specs.Prelude.{◌≡◌, ◌<◌, ◌≤◌, ◌⊎◌, [], Some, Err, IfErr, IfOk, length, true};
+ghost use Rattle.aec_params.specs.declared.fault.Fault.TheVariants.{Memory, StreamTooLong};
+ghost use Rattle.aec_params.specs.Codewords.{bits_of_bytes};
 ghost use Rattle.aec_engine.specs.ReadingTwice.{GaveBits, GaveWhole};
 ghost use Rattle.aec_engine.specs.Transfers.{RefusesIntake, Taking, taking_of};
 
@@ -53,4 +54,21 @@ pub(crate) fn read_bits<R: Source>(
         return Err(Fault::StreamTooLong { limit });
     }
     Ok(bits)
+}
+
+/// Returns the bits of coded bytes. If there are more than `limit` bytes, fails with
+/// `StreamTooLong` before it allocates.
+pub(crate) fn bits_of(alloc: Global, coded: &[u8], limit: u64) -> Result<BitBuf, Fault>
+    ensures ok { IfOk result (λ bits. GaveWhole (Some coded.now) (Some []) 0 limit bits.list) }
+    ensures refuses { IfErr result (RefusesIntake (Some coded.now) (Some []) 0 limit) }
+    ensures long { limit < length coded.now → result ≡ Err (StreamTooLong limit) }
+    ensures spelled { IfOk result (λ bits. bits.list ≡ bits_of_bytes coded.now) }
+    ensures short { IfOk result (λ _. length coded.now ≤ limit) }
+    ensures fault { IfErr result (λ fault. (fault ≡ Memory)
+        ⊎ ((limit < length coded.now) × (fault ≡ StreamTooLong limit))) }
+{
+    if coded.len() as u64 > limit {
+        return Err(Fault::StreamTooLong { limit });
+    }
+    BitBuf::from_bytes(alloc, coded)
 }

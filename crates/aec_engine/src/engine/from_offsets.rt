@@ -1,13 +1,15 @@
 //! Decodes coded bytes in memory from a bit on, and finds the bits where their intervals begin: the
 //! results go into a buffer.
 
-ghost use Rattle.std.specs.Prelude.{◌≡◌, ◌*◌, ◌≤◌, ◌%◌, ◌⊎◌, true, Ok, Err, Some, length, drop, IfOk, IfErr, OnErr};
+ghost use Rattle.std.specs.Prelude.{◌≡◌, ◌*◌, ◌≤◌, ◌%◌, ◌⊎◌, true, Ok, Err, length, drop, IfOk, IfErr, OnErr};
 ghost use Rattle.aec_params.specs.declared.fault.Fault.TheVariants.{Memory};
 ghost use Rattle.aec_params.specs.Codewords.{bits_of_bytes};
 ghost use Rattle.aec_engine.specs.Buffers.{FillsOne, OrMemory};
 ghost use Rattle.aec_engine.specs.Offsets.{IsDecodedAt, AreFound};
 
-use crate::engine::into_buffers::{bits_of, decode_bits_into, put_first};
+use crate::engine::bit_intake::bits_of;
+use crate::engine::into_buffers::{decode_bits_into, put_first};
+use crate::engine::terms::Terms;
 use aec_bits::BitBuf;
 use aec_interval::{decode_at, interval_offsets};
 use aec_params::{Fault, Limits, Params};
@@ -23,45 +25,44 @@ fn bits_behind(alloc: Global, coded: &[u8], bit: u64) -> Result<BitBuf, Fault>
     Ok(bits)
 }
 
-/// Decodes the bits of coded bytes from a bit on as `count` samples, as `decode_into` decodes all.
-/// If it fails, the buffer is unchanged, and the bit of the fault is counted from there on.
+/// Decodes the bits of coded bytes from a bit on, as `decode_into` decodes all. If it fails, the
+/// buffer is unchanged, and the bit of the fault is counted from there on.
 fn decode_from_bit(
     alloc: Global,
-    params: &Params,
-    limits: Limits,
+    terms: &Terms,
     bit: u64,
-    count: u64,
     coded: &[u8],
     out: &mut [u8],
 ) -> Result<u64, Fault>
     requires within { bit ≤ 8 * length coded.now }
-    requires short { length coded.now ≤ limits.bytes }
-    ensures ok { IfOk result (λ len. FillsOne (OrMemory (IsDecodedAt params.now limits bit
-        (Some count) coded.now)) out.old out.new (Ok len)) }
+    requires short { length coded.now ≤ terms.now.limits.bytes }
+    ensures ok { IfOk result (λ len. FillsOne (OrMemory
+        (IsDecodedAt terms.now.params terms.now.limits bit terms.now.count coded.now))
+        out.old out.new (Ok len)) }
     ensures err { OnErr result (out.new ≡ out.old) }
 {
     let bits = bits_behind(alloc, coded, bit)?;
-    decode_bits_into(alloc, params, limits, Some(count), &bits, out)
+    decode_bits_into(alloc, terms, &bits, out)
 }
 
 /// Does what `decode_at_into` does, by a list of all samples.
 fn decode_list_at(
     alloc: Global,
-    params: &Params,
-    limits: Limits,
+    terms: &Terms,
     bit: u64,
-    count: Option<u64>,
     coded: &[u8],
     out: &mut [u8],
 ) -> Result<u64, Fault>
     requires within { bit ≤ 8 * length coded.now }
-    requires whole_bytes { params.now.pad ≡ true → bit % 8 ≡ 0 }
-    ensures { FillsOne (OrMemory (IsDecodedAt params.now limits bit count coded.now)) out.old
-        out.new result }
+    requires whole_bytes { terms.now.params.pad ≡ true → bit % 8 ≡ 0 }
+    ensures { FillsOne (OrMemory (IsDecodedAt terms.now.params terms.now.limits bit terms.now.count
+        coded.now)) out.old out.new result }
 {
+    let params = &terms.params;
     params.known_allowed();
-    let bits = bits_of(alloc, coded, limits.bytes())?;
-    let samples = decode_at(alloc, params, &bits, bit, count, limits.samples())?;
+    let bits = bits_of(alloc, coded, terms.limits.bytes())?;
+    let limit = terms.limits.samples();
+    let samples = decode_at(alloc, params, &bits, bit, terms.count, limit)?;
     Ok(put_first(params, &samples, out))
 }
 
@@ -91,16 +92,19 @@ pub fn decode_at_into(
     ensures { FillsOne (OrMemory (IsDecodedAt params.now limits bit count coded.now)) out.old
         out.new result }
 {
-    if coded.len() as u64 <= limits.bytes()
-        && let Some(count) = count
-    {
-        match decode_from_bit(alloc, params, limits, bit, count, coded, out) {
+    let terms = Terms {
+        params: *params,
+        limits,
+        count,
+    };
+    if count.is_some() && coded.len() as u64 <= limits.bytes() {
+        match decode_from_bit(alloc, &terms, bit, coded, out) {
             Ok(len) => return Ok(len),
             Err(Fault::Memory) => return Err(Fault::Memory),
             Err(_) => {}
         }
     }
-    decode_list_at(alloc, params, limits, bit, count, coded, out)
+    decode_list_at(alloc, &terms, bit, coded, out)
 }
 
 /// Writes offsets to the front of a buffer if there is room for all of them. Returns how many they

@@ -4,21 +4,22 @@
 //! contracts say what the sink that an engine returns has taken, but not that it still has the same
 //! buffer.
 
-ghost use Rattle.std.specs.Prelude.{◌≡◌, ℕ, ◌+◌, ◌*◌, ◌<◌, ◌≤◌, ◌^◌, ◌++◌, List, [], ℤ, None, Some, Ok, false, length, take, drop, max, vec_len, vec_capacity, ◌⊎◌, IsOk, IfOk, IfErr, OnOk, ◌↔◌, IsTrue, Err};
+ghost use Rattle.std.specs.Prelude.{◌≡◌, ℕ, ◌+◌, ◌*◌, ◌<◌, ◌≤◌, ◌^◌, ◌++◌, List, [], ℤ, None, Some, Ok, false, length, take, drop, max, vec_len, vec_capacity, IsOk, IfOk, IfErr, OnOk, ◌↔◌, IsTrue};
 ghost use Rattle.std.specs.List.{AllByRecursion};
-ghost use Rattle.aec_params.specs.declared.fault.Fault.TheVariants.{Memory, StreamTooLong};
+ghost use Rattle.aec_params.specs.declared.fault.Fault.TheVariants.{Memory};
 ghost use Rattle.aec_params.specs.Params.{IsHeld, interval_len, storage_len};
-ghost use Rattle.aec_params.specs.Codewords.{bits_of_bytes};
 ghost use Rattle.aec_params.specs.Limits.{most_samples};
-ghost use Rattle.aec_engine.specs.Transfers.{input_of, RefusesIntake};
+ghost use Rattle.aec_engine.specs.Transfers.{input_of};
 ghost use Rattle.aec_engine.specs.Output.{all_stored, samples_from, IsDecoded, IsRanged};
 ghost use Rattle.aec_interval.specs.Reached.{count_refusal, RefusesReading};
 ghost use Rattle.aec_interval.specs.Pieces.{place_at};
-ghost use Rattle.aec_engine.specs.ReadingTwice.{AreSamplesOf, GaveWhole, IsAtStart, IsBegun, KeepsFront, StoresPart, DecodesBits, CutsBits};
+ghost use Rattle.aec_engine.specs.ReadingTwice.{AreSamplesOf, IsAtStart, IsBegun, KeepsFront, StoresPart, DecodesBits, CutsBits};
 ghost use Rattle.aec_engine.specs.Buffers.{FillsOne, OrMemory};
 
+use crate::engine::bit_intake::bits_of;
 use crate::engine::decoding::{keep_more, room_for_answer};
 use crate::engine::ranging::judge_range;
+use crate::engine::terms::Terms;
 use crate::engine::two_readings::{
     Part, append_stored, judge_from, judge_samples, part_of, room_at_once,
 };
@@ -26,23 +27,6 @@ use aec_bits::BitBuf;
 use aec_interval::StreamReader;
 use aec_params::{Fault, Limits, Params, put_samples};
 use std::alloc::Global;
-
-/// Returns the bits of coded bytes. If there are more than `limit` bytes, fails with
-/// `StreamTooLong` before it allocates.
-pub(crate) fn bits_of(alloc: Global, coded: &[u8], limit: u64) -> Result<BitBuf, Fault>
-    ensures ok { IfOk result (λ bits. GaveWhole (Some coded.now) (Some []) 0 limit bits.list) }
-    ensures refuses { IfErr result (RefusesIntake (Some coded.now) (Some []) 0 limit) }
-    ensures long { limit < length coded.now → result ≡ Err (StreamTooLong limit) }
-    ensures spelled { IfOk result (λ bits. bits.list ≡ bits_of_bytes coded.now) }
-    ensures short { IfOk result (λ _. length coded.now ≤ limit) }
-    ensures fault { IfErr result (λ fault. (fault ≡ Memory)
-        ⊎ ((limit < length coded.now) × (fault ≡ StreamTooLong limit))) }
-{
-    if coded.len() as u64 > limit {
-        return Err(Fault::StreamTooLong { limit });
-    }
-    BitBuf::from_bytes(alloc, coded)
-}
 
 /// Writes the bytes of samples after the first `at` bytes of a buffer. Returns where they end.
 fn put_behind(params: &Params, samples: &[i64], at: usize, out: &mut [u8]) -> usize
@@ -306,23 +290,22 @@ fn decode_rest_into(
 /// a buffer, if there is room; else goes on as `decode_rest_into` does.
 pub(crate) fn decode_bits_into(
     alloc: Global,
-    params: &Params,
-    limits: Limits,
-    count: Option<u64>,
+    terms: &Terms,
     bits: &BitBuf,
     out: &mut [u8],
 ) -> Result<u64, Fault>
-    ensures { FillsOne (DecodesBits params.now count limits.samples bits.now.list) out.old out.new
-        result }
+    ensures { FillsOne (DecodesBits terms.now.params terms.now.count terms.now.limits.samples
+        bits.now.list) out.old out.new result }
 {
+    let params = &terms.params;
     params.known_allowed();
-    let mut reader = StreamReader::new(alloc, *params, bits, count, limits.samples())?;
-    let mut samples = first_room(alloc, params, count)?;
+    let mut reader = StreamReader::new(alloc, *params, bits, terms.count, terms.limits.samples())?;
+    let mut samples = first_room(alloc, params, terms.count)?;
     read_first(params, &mut reader, &mut samples)?;
-    if are_all(count, samples.len()) {
+    if are_all(terms.count, samples.len()) {
         return Ok(put_first(params, &samples, out));
     }
-    let room = room_for_answer(params, bits, count, samples.capacity());
+    let room = room_for_answer(params, bits, terms.count, samples.capacity());
     decode_rest_into(alloc, params, &mut reader, room, &mut samples, out)
 }
 
@@ -347,7 +330,12 @@ pub fn decode_into(
         out.old out.new result }
 {
     let bits = bits_of(alloc, coded, limits.bytes())?;
-    decode_bits_into(alloc, params, limits, count, &bits, out)
+    let terms = Terms {
+        params: *params,
+        limits,
+        count,
+    };
+    decode_bits_into(alloc, &terms, &bits, out)
 }
 
 /// Reads coded bits twice: first it judges them and the range, then it reads from the last interval
@@ -355,19 +343,18 @@ pub fn decode_into(
 /// if there is room.
 fn range_bits_into(
     alloc: Global,
-    params: &Params,
-    limits: Limits,
-    count: Option<u64>,
+    terms: &Terms,
     first: u64,
     len: u64,
     bits: &BitBuf,
     out: &mut [u8],
 ) -> Result<u64, Fault>
-    ensures { FillsOne (CutsBits params.now count limits.samples first len bits.now.list) out.old
-        out.new result }
+    ensures { FillsOne (CutsBits terms.now.params terms.now.count terms.now.limits.samples first len
+        bits.now.list) out.old out.new result }
 {
+    let params = &terms.params;
     params.known_allowed();
-    let mut reader = StreamReader::new(alloc, *params, bits, count, limits.samples())?;
+    let mut reader = StreamReader::new(alloc, *params, bits, terms.count, terms.limits.samples())?;
     let judged = judge_samples(params, &mut reader, first)?;
     judge_range(first, len, judged.total)?;
     let part = Part {
@@ -395,5 +382,10 @@ pub fn range_into(
         out.old out.new result }
 {
     let bits = bits_of(alloc, coded, limits.bytes())?;
-    range_bits_into(alloc, params, limits, count, first, len, &bits, out)
+    let terms = Terms {
+        params: *params,
+        limits,
+        count,
+    };
+    range_bits_into(alloc, &terms, first, len, &bits, out)
 }

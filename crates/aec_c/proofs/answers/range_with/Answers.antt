@@ -7,8 +7,8 @@ use Rattle.aec_c.proofs.answers.range_with.Goals as goal
 
 pub returns : goal.returns
 returns c =
-    rw (← c.in_ok-params.ensures.ok, ← c.count_of-count.ensures) (ranging_into c.in_ok-params.params c.count_of-count.result c.args.first c.args.len
-    c.args.bytes.now c.args.out.now _ c.range_within_bound.result c.in_ok-params.ensures.allowed c.range_within_bound.ensures)
+    rw (← c.in_ok-params.ensures.ok) (ranging_into c.in_ok-params.params _ c.args.asked.first c.args.asked.len c.args.bytes.now c.args.out.now _
+    c.range_within_bound.result c.in_ok-params.ensures.allowed c.range_within_bound.ensures)
 
 pub returns-in_err-params : goal.returns-in_err-params
 returns-in_err-params c =

@@ -1,7 +1,7 @@
-use Rattle.std.proofs.Common.{Some, Err, ◌∙◌, ap, arith, refl, subst}
+use Rattle.std.proofs.Common.{Some, ◌∙◌, ap, arith, refl}
 use Rattle.std.proofs.lemmas.Result.{err_from_is_err_and}
 use Rattle.aec_interval.specs.Reached.{faulty}
-use Rattle.aec_engine.specs.ReadingTwice.{CutsBits, not_read}
+use Rattle.aec_engine.specs.ReadingTwice.{not_read}
 use Rattle.aec_engine.proofs.SettlingLemmas.{refuses_count, refuses_reading, cuts_past}
 use Rattle.aec_engine.proofs.BufferLemmas.{fills_refusal}
 use Rattle.aec_engine.proofs.RangeBufferLemmas.{part_range, few_of_range, cuts_into}
@@ -11,7 +11,7 @@ pub returns-in_err-reader : goal.returns-in_err-reader
 returns-in_err-reader c =
     let exit = err_from_is_err_and c.from_residual.result c.from_residual.ensures.1 in
     fills_refusal _ c.args.out.now _ exit.0 exit.0 exit.1 refl
-    (subst (λ limit. CutsBits c.args.params.now c.args.count limit c.args.first c.args.len c.args.bits.now.list (Err exit.0)) c.samples.ensures.value
+    (rw (← c.samples.ensures.value)
     (not_read exit.0 (refuses_count _ _ _ _ exit.0 (ap Some exit.2 ∙ c.in_err-reader.ensures.refuses))))
 
 pub returns-in_err-judged : goal.returns-in_err-judged
@@ -19,7 +19,7 @@ returns-in_err-judged c =
     let exit = err_from_is_err_and c.from_residual-in_err-judged.result c.from_residual-in_err-judged.ensures.1 in
     let fault = c.in_err-judged.field-0.0 in
     fills_refusal _ c.args.out.now _ exit.0 fault exit.1 exit.2
-    (subst (λ limit. CutsBits c.args.params.now c.args.count limit c.args.first c.args.len c.args.bits.now.list (Err fault)) c.samples.ensures.value
+    (rw (← c.samples.ensures.value)
     (not_read fault (refuses_reading _ _ _ _ c.in_ok-reader.reader fault c.in_ok-reader.ensures.ok c.in_ok-reader.ensures.refuses
     (faulty fault c.in_err-judged.ensures.refuses))))
 
@@ -28,7 +28,7 @@ returns-in_err-judge_range c =
     let exit = err_from_is_err_and c.from_residual-in_err-judge_range.result c.from_residual-in_err-judge_range.ensures.1 in
     let fault = c.in_err-judge_range.field-0.0 in
     fills_refusal _ c.args.out.now _ exit.0 fault exit.1 exit.2
-    (subst (λ limit. CutsBits c.args.params.now c.args.count limit c.args.first c.args.len c.args.bits.now.list (Err fault)) c.samples.ensures.value
+    (rw (← c.samples.ensures.value)
     (cuts_past _ _ _ _ _ _ c.in_ok-reader.reader c.in_ok-judged.judged.total fault c.in_ok-reader.ensures.ok c.in_ok-reader.ensures.refuses
     c.in_ok-judged.ensures.ok c.in_err-judge_range.ensures.refuses))
 
@@ -39,7 +39,7 @@ put_range_front-requires-clause-read c =
 
 pub put_range_front-requires-clause-few : goal.put_range_front-requires-clause-few
 put_range_front-requires-clause-few c =
-    let few = few_of_range c.args.params.now c.args.count c.samples.result c.args.bits.now.list c.in_ok-reader.reader c.args.first c.args.len
+    let few = few_of_range c.args.terms.now.params c.args.terms.now.count c.samples.result c.args.bits.now.list c.in_ok-reader.reader c.args.first c.args.len
     c.in_ok-judged.judged.total c.known_allowed.ensures c.in_ok-reader.ensures.ok c.in_ok-reader.ensures.refuses c.in_ok-judged.ensures.ok
     c.in_ok-judge_range.ensures.within in
     omega (arith, few, c.samples.ensures.value, c.samples.ensures.limits.samples)

@@ -1,6 +1,6 @@
 use Rattle.std.proofs.Common.{arith}
 use Rattle.aec_engine.proofs.KeptBufferLemmas.{given_past, given_all, given_none}
-use Rattle.aec_engine.proofs.engine.into_buffers.bits_of.Goals as goal
+use Rattle.aec_engine.proofs.engine.bit_intake.bits_of.Goals as goal
 
 pub returns-then-coded-limit-clause-refuses : goal.returns-then-coded-limit-clause-refuses
 returns-then-coded-limit-clause-refuses c = given_past c.args.coded.now c.args.limit (omega (arith, c.if-coded-limit.true))
