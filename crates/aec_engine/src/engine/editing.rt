@@ -165,7 +165,7 @@ fn edit_planned<C: Codec + Drop>(
 /// How coded bits are edited: the parameters of their samples, the limits, the number of samples,
 /// or `None` for all; and whether edits may be applied many at a time.
 #[derive(Clone, Copy)]
-struct Terms {
+struct EditTerms {
     params: Params,
     limits: Limits,
     count: Option<u64>,
@@ -179,7 +179,7 @@ struct Terms {
 fn edit_bits<C: Codec + Drop>(
     alloc: Global,
     codec: C,
-    terms: Terms,
+    terms: EditTerms,
     bits: &BitBuf,
     script: &[u8],
 ) -> Result<Carried<C>, EditFault>
@@ -219,7 +219,7 @@ fn deliver_code<C: Codec, W: Sink>(workspace: &Workspace<C>, sink: &mut W) -> Re
 fn edit_with<C: Codec + Drop, Q: Source, R: Source, W: Sink>(
     alloc: Global,
     codec: C,
-    terms: Terms,
+    terms: EditTerms,
     script_source: &mut Q,
     source: &mut R,
     sink: &mut W,
@@ -275,7 +275,7 @@ pub fn edit_over<C: Codec + Drop, Q: Source, R: Source, W: Sink>(
     ensures format { IfOk result (λ w. C.format w.codec ≡ interval_format params.now) }
     ensures limit { IfOk result (λ w. w.limit ≡ limits.samples) }
 {
-    let terms = Terms {
+    let terms = EditTerms {
         params: *params,
         limits,
         count,
@@ -313,7 +313,7 @@ pub fn edit_at_once<C: Codec + Drop, Q: Source, R: Source, W: Sink>(
     ensures format { IfOk result (λ w. C.format w.codec ≡ interval_format params.now) }
     ensures limit { IfOk result (λ w. w.limit ≡ limits.samples) }
 {
-    let terms = Terms {
+    let terms = EditTerms {
         params: *params,
         limits,
         count,
