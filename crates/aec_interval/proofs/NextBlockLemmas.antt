@@ -117,10 +117,7 @@ one_more_fits : (j r k a : ℕ) → a ≡ k * j → a < j * r → a + j ≤ j * 
 one_more_fits j r k a whole short = ⊎_elim below past (cases_lt k r)
   where
     below : k < r → a + j ≤ j * r
-    below h = omega (arith, mul-le-mul_right j (lt_suc h), mul_comm j r)
-      where
-        lt_suc : k < r → suc k ≤ r
-        lt_suc h = omega arith
+    below h = grind arith
 
     past : r ≤ k → a + j ≤ j * r
     past h = absurd (omega (arith, mul-le-mul_right j h))

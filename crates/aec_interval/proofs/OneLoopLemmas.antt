@@ -135,9 +135,6 @@ at-block s m l k n {o} {run} {next} {start} {old} {new} {newer} {whole} {rest} {
     before : take start new ++ (closed s (drop start new ++ bits_left s k run (b ∷ bs)) ++ stream_of s (drop n later)) ≡ whole
     before = rw (← blocks, ← behind) at.bits
 
-    rest_bits : List Bool
-    rest_bits = sets_bits s (drop m bs)
-
     moved : newer ++ bits_left s m next bs ≡ new ++ bits_left s k run (b ∷ bs)
     moved = rw (← append_assoc, written, append_assoc, is_k)
 
@@ -247,10 +244,7 @@ at-closed {s} {m} {l} {o} {run} {start} {old} {new} {middle} {newer} {whole} {re
     at-interval_end s 64 l o start old middle newer whole rest h (at-segment_end at (none_of_interval s m l o run rest h none) written) none all padded
 
 pub none_left : (j i p : ℕ) (xs : List ℤ) → i ≤ p → (take (j * (i - p)) xs ≡ []) × (drop (j * (i - p)) xs ≡ xs)
-none_left j i p xs past =
-    let spent : i - p ≡ 0 = omega arith in
-    let none : j * (i - p) ≡ 0 = grind arith in
-    (rw none, rw none)
+none_left j i p xs past = grind arith
 
 interval_some : (s : Settings) → 0 < s.block_size → 0 < s.interval → 0 < interval_len s
 interval_some s h some = omega (arith, mul-le 1 1 s.block_size s.interval (omega arith) (omega arith))

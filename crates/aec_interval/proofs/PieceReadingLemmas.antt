@@ -22,7 +22,7 @@ use Rattle.aec_bits.proofs.CodeLaws.{pieces_of-append}
 use Rattle.aec_interval.specs.Reached.{RefusesReading, no_memory, faulty}
 use Rattle.aec_interval.specs.Pieces.{Place, place_at, is_wanted_at, counted_from, ReadsPiece, ReadsInterval, ReadsIntervals, HasRead, RefusesAt}
 use Rattle.aec_interval.specs.PieceLaws.{AllStepsAreTheReading}
-use Rattle.aec_interval.proofs.CuttingLemmas.{div_ceil-bounds, div_ceil-times}
+use Rattle.aec_interval.proofs.CuttingLemmas.{div_ceil-times}
 use Rattle.aec_interval.proofs.BlockLemmas.{all-append, all_left}
 use Rattle.aec_interval.proofs.PlaceLemmas.{LeadsTo-append}
 use Rattle.aec_interval.proofs.RoundTripLemmas.{length-all_blocks_of}
@@ -96,12 +96,7 @@ FillBlocks-front s i samples bs cs a begins count filled = record {
 
 -- a block that is needed begins before the count
 pub before_count : (s : Settings) (count i : ℕ) → IsAllowed s → i < div_ceil count s.block_size → i * s.block_size < count
-before_count s count i a below =
-    let next : (i + 1) * s.block_size ≤ div_ceil count s.block_size * s.block_size = mul-le-mul_right s.block_size (omega arith) in
-    omega (arith, one_more i s.block_size, div_ceil-bounds count s.block_size (block_size-positive s a))
-  where
-    one_more : (i j : ℕ) → (i + 1) * j ≡ i * j + j
-    one_more i j = omega arith
+before_count s count i a below = grind arith
 
 counted-start : (s : Settings) (count : Option ℕ) (samples : List ℤ) → counted_from s count 0 samples ≡ counted_samples count samples
 counted-start s None samples = refl

@@ -79,7 +79,7 @@ pub no_reference-later : (s : Settings) (i k : ℕ) → 1 ≤ k → i % s.interv
 no_reference-later s i k some within = rw not_first tt
   where
     place : (i + k) % s.interval ≡ i % s.interval + k
-    place = ap (λ n. n % s.interval) (omega arith) ∙ mod-mul-add (i / s.interval) s.interval (i % s.interval + k) within
+    place = grind arith
 
     and_false : (b : Bool) → (b && false) ≡ false
     and_false true = refl
@@ -144,11 +144,7 @@ sample_of_zeros-plain s reference old is off = rw (is, off)
 
 -- a block has a reference only with preprocessing
 reference-on : (s : Settings) (p r : ℕ) → HasReference s (is_reference_block s p) (Some r) → s.preprocess ≡ true
-reference-on s p r due = by_preprocess s.preprocess refl due
-  where
-    by_preprocess : (b : Bool) → s.preprocess ≡ b → HasReference s (b && (p == 0)) (Some r) → s.preprocess ≡ true
-    by_preprocess true on due = on
-    by_preprocess false off due = absurd due
+reference-on s p r due = grind arith
 
 -- the sample of a pattern
 pub sample-of-pattern : (s : Settings) (m : ℕ) → IsAllowed s → m < 2 ^ s.bits → IsHeld s (pattern_value s m) × (sample_pattern s (pattern_value s m) ≡ m)
