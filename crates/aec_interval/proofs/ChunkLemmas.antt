@@ -49,7 +49,7 @@ filled_samples-append s front (y ∷ rest) h piece =
     rw (length-append, whole, up_to_multiple-add) in
     rw (missing, last, append_assoc, filled_samples-whole s front h 1 (whole ∙ sym (one-mul s.block_size)))
 
-last_or-replicate : (y : ℤ) (n : ℕ) → last_or (Some y) (replicate n y) ≡ Some y
+pub last_or-replicate : (y : ℤ) (n : ℕ) → last_or (Some y) (replicate n y) ≡ Some y
 last_or-replicate y zero = refl
 last_or-replicate y (suc n) = last_or-replicate y n
 

@@ -72,13 +72,7 @@ length-pieces_of n xs = length-first_chunks n (div_ceil (length xs) n) xs
 
 -- m, filled up to a multiple of n, is `div_ceil m n` times n
 pub up_to_multiple-fills : (n m : ℕ) → 0 < n → m + up_to_multiple n m ≡ div_ceil m n * n
-up_to_multiple-fills n m h = ⊎_elim part whole (cases_lt 0 (m % n))
-  where
-    whole : m % n ≤ 0 → m + up_to_multiple n m ≡ div_ceil m n * n
-    whole l = grind arith
-
-    part : 0 < m % n → m + up_to_multiple n m ≡ div_ceil m n * n
-    part l = grind arith
+up_to_multiple-fills n m h = ⊎_elim (λ part. grind arith) (λ whole. grind arith) (cases_lt 0 (m % n))
 
 pub div_ceil-times : (k n : ℕ) → 0 < n → div_ceil (k * n) n ≡ k
 div_ceil-times k n h = omega (arith, mul-div_cancel, mul-mod_left)

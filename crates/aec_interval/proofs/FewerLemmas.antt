@@ -49,23 +49,17 @@ blocks-front s k (suc m) xs a len =
     back : List ℤ
     back = drop n xs
 
-    one_more : (k m j : ℕ) → (k + suc m) * j ≡ (k + m) * j + j
-    one_more k m j = omega arith
-
-    within : (k m j : ℕ) → k * j ≤ (k + m) * j
-    within k m j = mul-le-mul_right j (omega arith)
-
     front-len : length front ≡ n
-    front-len = omega (arith, length-take n xs, one_more k m s.block_size)
+    front-len = grind (arith, length-take)
 
     back-len : length back ≡ s.block_size
-    back-len = omega (arith, length-drop n xs, one_more k m s.block_size)
+    back-len = grind (arith, length-drop)
 
     pushed : all_blocks_of s xs ≡ all_blocks_of s front ++ next_block_of s front back ∷ []
     pushed = cc (take-append-drop n xs, all_blocks_of-push s front back (k + m) (block_size-positive s a) (interval-positive s a) front-len back-len)
 
     fewer : take (k * s.block_size) xs ≡ take (k * s.block_size) front
-    fewer = sym (take-take (k * s.block_size) n xs (within k m s.block_size))
+    fewer = sym (take-take (k * s.block_size) n xs (mul-le-mul_right s.block_size (omega arith)))
 
 pub FillBlocks-fewer : (s : Settings) (k : ℕ) (xs : List ℤ) (blocks : List Block) → IsAllowed s → k ≤ length blocks → FillBlocks s xs blocks
     → FillBlocks s (take (k * s.block_size) xs) (take k blocks)

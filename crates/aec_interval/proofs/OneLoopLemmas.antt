@@ -180,12 +180,10 @@ pub at-interval_end : (s : Settings) (m l : ℕ) (o : Option ℤ) (start : ℕ) 
     → StreamAt s m l o no_run start old new whole rest → take l rest ≡ [] → drop l rest ≡ rest → newer ≡ take start new ++ closed s (drop start new)
     → newer ++ stream_of s rest ≡ whole
 at-interval_end s m l o start old new newer whole rest h at none all written =
-    rw written (append_assoc (take start new) (closed s (drop start new)) (stream_of s rest)
-    ∙ ap₂ (λ xs ys. take start new ++ (closed s xs ++ stream_of s ys)) (sym (ap (λ xs. drop start new ++ xs)
-    (none_of_interval s m l o no_run rest h none ∙ empty) ∙ append-nil (drop start new))) (sym all) ∙ at.bits)
-  where
-    empty : pending_bits s no_run [] ++ sets_bits s (blocks_after s o (take l rest)) ≡ []
-    empty = rw (none, blocks_after-nil)
+    let empty : blocks_after s o (take l rest) ≡ [] = rw (none, blocks_after-nil) in
+    let spent : drop start new ++ bits_left s m no_run (blocks_after s o (take l rest)) ≡ drop start new =
+    rw (empty, take-nil, drop-nil) (append-nil (drop start new)) in
+    rw (written, append_assoc) (rw (spent, all) at at.bits)
 
 -- the next interval begins
 stream_opened : (s : Settings) (rest : List ℤ) → 0 < s.block_size → 0 < interval_len s

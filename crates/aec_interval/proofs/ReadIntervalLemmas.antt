@@ -18,21 +18,17 @@ use Rattle.aec_interval.proofs.RefusalLemmas.{of_refusal}
 pub place-behind : (s : Settings) (first i : ℕ) → first % s.interval ≡ 0 → first ≤ i → i < first + s.interval → i % s.interval ≡ i - first
 place-behind s first i aligned after below = grind arith
 
+both_parts : (d e n j : ℕ) → d + e ≡ n → d * j + e * j ≡ n * j
+both_parts d e n j is = grind arith
+
 -- a capacity too small for the blocks up to the end of an interval is too small for a whole
 -- interval
 no_room : (s : Settings) (first i len capacity : ℕ) → first % s.interval ≡ 0 → first ≤ i → i < first + s.interval → len ≤ (i - first) * s.block_size
     → capacity < len + blocks_before_end s i * s.block_size → capacity < interval_len s
 no_room s first i len capacity aligned after below few full =
     let place = place-behind s first i aligned after below in
-    let both : (i - first) * s.block_size + (s.interval - i % s.interval) * s.block_size ≡ s.block_size * s.interval =
-    both_parts (i - first) (s.interval - i % s.interval) s.interval s.block_size (omega arith) in
+    let both = both_parts (i - first) (s.interval - i % s.interval) s.interval s.block_size (omega arith) in
     omega arith
-  where
-    both_parts : (d e r j : ℕ) → d + e ≡ r → d * j + e * j ≡ j * r
-    both_parts d e r j is = grind arith
-
-both_parts : (d e n j : ℕ) → d + e ≡ n → d * j + e * j ≡ n * j
-both_parts d e n j is = grind arith
 
 -- the interval of the blocks from `first` up to `end` was read or skipped up to block i at position
 -- b, where more is wanted

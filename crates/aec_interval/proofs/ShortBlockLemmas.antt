@@ -22,17 +22,14 @@ mapped-more s p q x xs i values whole new v within is_q is_x so_far is_v is_new 
     record {
       previous_held = cut_held.0;
       held = cut_held.1;
-      joined =
-          rw is_new (append_assoc values (v ∷ []) (mapped_after s x (drop (i + 1) xs))
-          ∙ ap (λ w. values ++ (w ∷ mapped_after s x (drop (i + 1) xs))) (rw (is_v, is_q)) ∙ ap (λ l. values ++ mapped_after s p l) (sym cut)
-          ∙ so_far.joined);
+      joined = rw (is_new, append_assoc, is_v, is_q) (rw cut at so_far.joined);
     }
   where
     next : i + 1 ≡ suc i
     next = omega arith
 
     cut : drop i xs ≡ x ∷ drop (i + 1) xs
-    cut = rw next (drop-cons xs i (pos 0) within) ∙ ap (λ y. y ∷ drop (i + 1) xs) (sym is_x)
+    cut = rw (next, is_x) (drop-cons xs i (pos 0) within)
 
     cut_held : AllByRecursion (IsHeld s) (x ∷ drop (i + 1) xs)
     cut_held = rw cut at so_far.held
