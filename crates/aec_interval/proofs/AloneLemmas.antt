@@ -28,7 +28,7 @@ FillBlocks-back : (s : Settings) (f : ℕ) (samples : List ℤ) (bs cs : List Bl
     → FillBlocks s samples (bs ++ cs) → FillBlocks s (drop (f * s.block_size) samples) cs
 FillBlocks-back s f samples bs cs a begins count filled = record {
   held = held-drop s (f * s.block_size) samples filled.held;
-  whole = rw length-drop (left f (length cs) s.block_size (rw (filled.whole, length-append, count)));
+  whole = rw (length-drop, filled.whole, length-append, count) (omega arith);
   mapped = rw (← (drop_at (all_blocks_of s front) (all_blocks_of s back) f (rw first.mapped count)), together, drop_at);
 }
   where
@@ -40,9 +40,6 @@ FillBlocks-back s f samples bs cs a begins count filled = record {
 
     first : FillBlocks s front bs
     first = FillBlocks-front s f samples bs cs a begins count filled
-
-    left : (f n j : ℕ) {t : ℕ} → t ≡ (f + n) * j → t - f * j ≡ n * j
-    left f n j e = omega arith
 
     together : all_blocks_of s front ++ all_blocks_of s back ≡ bs ++ cs
     together =

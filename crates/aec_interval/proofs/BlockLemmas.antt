@@ -1,11 +1,11 @@
 -- Blocks: each has J values below 2^n. It has a reference sample, and 0 in the reference place,
 -- exactly if one is due.
-use Rattle.std.proofs.Common.{◌≡◌, ℕ, zero, suc, ◌+◌, ◌-◌, ◌*◌, ◌^◌, ◌<◌, false, Some, ℤ, pos, List, [], ◌∷◌, ◌++◌, length, replicate, subst, arith, ⊎_elim, ◌≤◌, add-one, mod-eq_of_lt, lt_of_mul-lt-mul_right}
-use Rattle.std.specs.Prelude.{⊤, ◌==◌, unwrap_or}
+use Rattle.std.proofs.Common.{◌≡◌, ℕ, zero, suc, ◌+◌, ◌-◌, ◌*◌, ◌^◌, ◌<◌, Some, ℤ, pos, List, [], ◌∷◌, ◌++◌, length, replicate, subst, arith, ⊎_elim, ◌≤◌, add-one, mod-eq_of_lt, lt_of_mul-lt-mul_right}
+use Rattle.std.specs.Prelude.{⊤, unwrap_or}
 use Rattle.std.specs.List.{AllByRecursion, last_or}
 use Rattle.std.specs.Int.{div_ceil}
 use Rattle.std.proofs.lemmas.List.{length-append, length-replicate}
-use Rattle.std.proofs.lemmas.Bool.{cases_lt, cond_both, and_right, ne_eqb}
+use Rattle.std.proofs.lemmas.Bool.{cases_lt, cond_both}
 use Rattle.std.proofs.lemmas.Nat.{pow_pos}
 use Rattle.aec_params.specs.declared.settings.Settings.{Settings}
 use Rattle.aec_params.specs.Params.{IsAllowed, IsHeld, interval_len, sample_pattern}
@@ -13,7 +13,6 @@ use Rattle.aec_params.specs.Cutting.{pieces_of, up_to_multiple}
 use Rattle.aec_params.specs.Mapping.{mapped_after, mapped_values}
 use Rattle.aec_params.specs.Blocks.{Block, filled_samples, blocks_of}
 use Rattle.aec_params.specs.BlockShapes.{IsBlockAt, AreBlocksFrom}
-use Rattle.aec_params.specs.Places.{is_reference_block}
 use Rattle.aec_interval.proofs.CuttingLemmas.{IsPieceBefore, by_pieces, pieces_of-nil, pieces_of-cons, length-pieces_of, up_to_multiple-fills, div_ceil-times, div_ceil-bounds}
 pub use Rattle.aec_params.proofs.ListLaws.{all-append, all-front as all_left, all-back as all_right, all-replicate}
 pub use Rattle.aec_params.proofs.SampleLaws.{length-mapped_values}
@@ -73,9 +72,6 @@ abbrev pub AreDueFrom : Settings → ℕ → List Block → Type 0
 AreDueFrom s p [] = ⊤
 AreDueFrom s p (b ∷ blocks) = IsBlockAt s p b × AreDueFrom s (suc p) blocks
 
-pub later_reference : (s : Settings) (p : ℕ) → is_reference_block s (suc p) ≡ false
-later_reference s p = and_right s.preprocess (suc p == 0) (ne_eqb (suc p) 0 (λ e. omega arith))
-
 -- blocks of a stream, if they end within the first interval
 AreDueFrom-stream : (s : Settings) (p : ℕ) (blocks : List Block) → p + length blocks ≤ s.interval → AreBlocksFrom s p blocks → AreDueFrom s p blocks
 AreDueFrom-stream s p [] within h = tt
@@ -97,9 +93,6 @@ length-blocks_of s v a =
   where
     positive : 0 < s.block_size
     positive = block_size-positive s a
-
-    values : List ℕ
-    values = mapped_values s (filled_samples s v)
 
 -- no more blocks than an interval has
 pub blocks-few : (s : Settings) (v : List ℤ) → IsAllowed s → length v ≤ interval_len s → length (blocks_of s v) ≤ s.interval

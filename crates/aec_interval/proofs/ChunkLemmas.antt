@@ -1,5 +1,5 @@
 -- Samples cut at the end of a block: the block of the front, and the blocks of the rest.
-use Rattle.std.proofs.Common.{◌≡◌, ℕ, zero, suc, ◌+◌, ◌-◌, ◌*◌, ◌%◌, ◌<◌, ◌≤◌, Option, Some, None, ℤ, List, [], ◌∷◌, ◌++◌, length, map, replicate, refl, sym, ap, ◌∙◌, arith}
+use Rattle.std.proofs.Common.{◌≡◌, ℕ, zero, suc, ◌+◌, ◌*◌, ◌%◌, ◌<◌, ◌≤◌, Option, Some, None, ℤ, List, [], ◌∷◌, ◌++◌, length, map, replicate, refl, sym, ap, ◌∙◌, arith}
 use Rattle.std.specs.Prelude.{if◌then◌else◌}
 use Rattle.std.specs.List.{last_or}
 use Rattle.std.proofs.Math.Nat.{add-mod_right, mod_self, mul-mod_left, one-mul, sub-zero}
@@ -22,9 +22,7 @@ last_or-some x (y ∷ xs) = last_or-some y xs
 -- ---- filling
 
 pub filled_samples-nil : (s : Settings) → 0 < s.block_size → filled_samples s [] ≡ []
-filled_samples-nil s h =
-    let z : s.block_size - 0 % s.block_size ≡ s.block_size = omega arith in
-    rw (z, mod_self)
+filled_samples-nil s h = grind arith
 
 -- whole blocks get no filler
 pub filled_samples-whole : (s : Settings) (v : List ℤ) → 0 < s.block_size → (k : ℕ) → length v ≡ k * s.block_size → filled_samples s v ≡ v
@@ -51,7 +49,7 @@ filled_samples-append s front (y ∷ rest) h piece =
     rw (length-append, whole, up_to_multiple-add) in
     rw (missing, last, append_assoc, filled_samples-whole s front h 1 (whole ∙ sym (one-mul s.block_size)))
 
-last_or-replicate : (y : ℤ) (n : ℕ) → last_or (Some y) (replicate n y) ≡ Some y
+pub last_or-replicate : (y : ℤ) (n : ℕ) → last_or (Some y) (replicate n y) ≡ Some y
 last_or-replicate y zero = refl
 last_or-replicate y (suc n) = last_or-replicate y n
 

@@ -3,7 +3,6 @@ use Rattle.std.proofs.Common.{◌≡◌, ℕ, zero, suc, ◌+◌, ◌*◌, ◌%�
 use Rattle.std.specs.List.{AllByRecursion}
 use Rattle.std.specs.Int.{div_ceil}
 use Rattle.std.proofs.Math.Nat.{mod-lt, suc-mul}
-use Rattle.std.proofs.lemmas.Bool.{ltb-true}
 use Rattle.std.proofs.lemmas.List.{length-append, length-take-le, length-drop, take-append-drop, nil_from_length}
 use Rattle.aec_params.specs.declared.settings.Settings.{Settings}
 use Rattle.aec_params.specs.Params.{IsAllowed, IsHeld, interval_len}
@@ -165,10 +164,7 @@ passed-begin s limit samples rest i b a held passed =
     back = drop (i * interval_len s) samples
 
     needed : i * s.interval < div_ceil (length samples) s.block_size
-    needed = ltb-true (i * s.interval) (div_ceil (length samples) s.block_size) passed.wanted
-
-    regrouped : (i r j : ℕ) → i * r * j ≡ i * (j * r)
-    regrouped i r j = omega arith
+    needed = grind arith
 
     within : i * interval_len s ≤ length samples
     within = omega (arith, before_count s (length samples) (i * s.interval) a needed)

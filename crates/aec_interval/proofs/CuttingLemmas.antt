@@ -1,9 +1,8 @@
 -- Lists cut into pieces: one piece before the others, an induction over the pieces, and whole
 -- multiples.
-use Rattle.std.proofs.Common.{◌≡◌, ℕ, zero, suc, ◌+◌, ◌-◌, ◌*◌, ◌/◌, ◌%◌, ◌<◌, ◌≤◌, List, [], ◌∷◌, ◌++◌, length, take, drop, refl, append-nil, arith, ⊎_elim}
-use Rattle.std.proofs.Math.Nat.{mod-eq_of_lt, mod_self, mul-div_cancel, mul-mod_left}
+use Rattle.std.proofs.Common.{◌≡◌, ℕ, zero, suc, ◌+◌, ◌-◌, ◌*◌, ◌%◌, ◌<◌, ◌≤◌, List, [], ◌∷◌, ◌++◌, length, take, drop, refl, append-nil, arith, ⊎_elim}
+use Rattle.std.proofs.Math.Nat.{mul-div_cancel, mul-mod_left}
 use Rattle.std.proofs.lemmas.List.{take_at, drop_at, take-append-drop, length-take, length-drop, length-append, take_all, drop_all}
-use Rattle.std.proofs.lemmas.Nat.{mod_below}
 pub use Rattle.std.proofs.lemmas.Grind.{div_ceil_times as div_ceil-bounds}
 use Rattle.std.proofs.lemmas.Bool.{cases_lt}
 use Rattle.std.specs.Int.{div_ceil}
@@ -12,10 +11,7 @@ use Rattle.aec_params.specs.Cutting.{pieces_of, up_to_multiple}
 pub use Rattle.aec_params.proofs.CuttingLaws.{div_ceil-zero, div_ceil-step, pieces_of-nil, pieces_of-one}
 
 pub div_ceil-one : (m n : ℕ) → 0 < m → m ≤ n → div_ceil m n ≡ 1
-div_ceil-one m n h k =
-    let e : m - n ≡ 0 = omega arith in
-    let d : div_ceil (m - n) n ≡ 0 = rw e (div_ceil-zero n (omega arith)) in
-    omega (arith, div_ceil-step)
+div_ceil-one m n h k = grind arith
 
 pub div_ceil-positive : (m n : ℕ) → 0 < n → 0 < m → 0 < div_ceil m n
 div_ceil-positive m n h k = omega (arith, div_ceil-step)
@@ -76,21 +72,7 @@ length-pieces_of n xs = length-first_chunks n (div_ceil (length xs) n) xs
 
 -- m, filled up to a multiple of n, is `div_ceil m n` times n
 pub up_to_multiple-fills : (n m : ℕ) → 0 < n → m + up_to_multiple n m ≡ div_ceil m n * n
-up_to_multiple-fills n m h = ⊎_elim part whole (cases_lt 0 (m % n))
-  where
-    whole : m % n ≤ 0 → m + up_to_multiple n m ≡ div_ceil m n * n
-    whole l =
-        let z : n - m % n ≡ n = omega arith in
-        let e : up_to_multiple n m ≡ 0 = rw (z, mod_self) in
-        let c : div_ceil m n ≡ m / n = omega arith in
-        grind arith
-
-    part : 0 < m % n → m + up_to_multiple n m ≡ div_ceil m n * n
-    part l =
-        let below = mod_below m n h in
-        let e : up_to_multiple n m ≡ n - m % n = mod-eq_of_lt (omega arith) in
-        let c : div_ceil m n ≡ m / n + 1 = omega arith in
-        grind arith
+up_to_multiple-fills n m h = ⊎_elim (λ part. grind arith) (λ whole. grind arith) (cases_lt 0 (m % n))
 
 pub div_ceil-times : (k n : ℕ) → 0 < n → div_ceil (k * n) n ≡ k
 div_ceil-times k n h = omega (arith, mul-div_cancel, mul-mod_left)

@@ -18,15 +18,9 @@ use Rattle.aec_interval.specs.Offsets.{fault_from, RefusesDecodingAt}
 
 module _ (s : Settings) (count : Option ℕ) (limit : ℕ) (bits : List Bool) (start : ℕ)
     (within : start ≤ length bits) (whole : s.pad ≡ true → start % 8 ≡ 0) where
-  abbrev rest : List Bool
-  rest = drop start bits
-
   begin-dropped : (i b : ℕ) → begin_of s bits i (start + b) ≡ start + begin_of s (drop start bits) i b
   begin-dropped i b = ⊎_elim padded plain (cases_Bool (s.pad && (i % s.interval == 0)))
     where
-      test : Bool
-      test = s.pad && (i % s.interval == 0)
-
       here : ℕ
       here = min (next_multiple_of (start + b) 8) (length bits)
 

@@ -1,7 +1,7 @@
 -- Bits that are read with a count are read with a smaller count too: as a front of the samples.
 use Rattle.std.proofs.Common.{◌≡◌, ℕ, zero, suc, ◌+◌, ◌-◌, ◌*◌, ◌%◌, ◌<◌, ◌≤◌, Bool, Some, ℤ, List, [], ◌∷◌, ◌++◌, length, take, drop, refl, sym, ap, ◌∙◌, arith, ⊎_elim}
 use Rattle.std.specs.Int.{div_ceil}
-use Rattle.std.proofs.Math.Nat.{mod-lt, sub-zero, suc-mul, suc-sub-suc, mul-le-mul_right}
+use Rattle.std.proofs.Math.Nat.{mod-lt, sub-zero, suc-sub-suc, mul-le-mul_right}
 use Rattle.std.proofs.lemmas.Bool.{cases_lt, le-ltb, lt-ltb, ltb-false}
 use Rattle.std.proofs.lemmas.List.{length-take, length-take-le, length-drop, take_all, take-take, take-append-le, take-append-drop}
 use Rattle.aec_params.specs.declared.settings.Settings.{Settings}
@@ -49,23 +49,17 @@ blocks-front s k (suc m) xs a len =
     back : List ℤ
     back = drop n xs
 
-    one_more : (k m j : ℕ) → (k + suc m) * j ≡ (k + m) * j + j
-    one_more k m j = omega arith
-
-    within : (k m j : ℕ) → k * j ≤ (k + m) * j
-    within k m j = mul-le-mul_right j (omega arith)
-
     front-len : length front ≡ n
-    front-len = omega (arith, length-take n xs, one_more k m s.block_size)
+    front-len = grind (arith, length-take)
 
     back-len : length back ≡ s.block_size
-    back-len = omega (arith, length-drop n xs, one_more k m s.block_size)
+    back-len = grind (arith, length-drop)
 
     pushed : all_blocks_of s xs ≡ all_blocks_of s front ++ next_block_of s front back ∷ []
     pushed = cc (take-append-drop n xs, all_blocks_of-push s front back (k + m) (block_size-positive s a) (interval-positive s a) front-len back-len)
 
     fewer : take (k * s.block_size) xs ≡ take (k * s.block_size) front
-    fewer = sym (take-take (k * s.block_size) n xs (within k m s.block_size))
+    fewer = sym (take-take (k * s.block_size) n xs (mul-le-mul_right s.block_size (omega arith)))
 
 pub FillBlocks-fewer : (s : Settings) (k : ℕ) (xs : List ℤ) (blocks : List Block) → IsAllowed s → k ≤ length blocks → FillBlocks s xs blocks
     → FillBlocks s (take (k * s.block_size) xs) (take k blocks)
@@ -132,12 +126,7 @@ module _ (s : Settings) (a : IsAllowed s) (limit : ℕ) (bits : List Bool) (n k 
       ⊎_elim (λ below. one_more_set i b c sets j e below leads later) (no_more i b (c ∷ sets)) (cases_lt i needed)
 
 pub div_ceil-le : (k n j : ℕ) → 0 < j → k ≤ n → div_ceil k j ≤ div_ceil n j
-div_ceil-le k n j positive within = ⊎_elim (λ above. absurd (past above)) (λ le. le) (cases_lt (div_ceil n j) (div_ceil k j))
-  where
-    past : div_ceil n j < div_ceil k j → ⊥
-    past above =
-        let next : suc (div_ceil n j) * j ≤ div_ceil k j * j = mul-le-mul_right j (omega arith) in
-        omega (arith, suc-mul (div_ceil n j) j, div_ceil-bounds n j positive, div_ceil-bounds k j positive)
+div_ceil-le k n j positive within = grind arith
 
 pub IsReading-fewer : (s : Settings) (limit n k : ℕ) (bits : List Bool) (samples : List ℤ) → IsAllowed s → k ≤ n
     → IsReading s (Some n) limit bits samples → IsReading s (Some k) limit bits (take k samples)

@@ -2,7 +2,6 @@
 use Rattle.std.proofs.Common.{◌≡◌, ℕ, ◌+◌, ◌^◌, ◌<◌, Bool, true, false, if◌then◌else◌, Option, Some, None, ℤ, pos, List, [], ◌∷◌, ◌++◌, length, replicate, refl, sym, ap, ap₂, ◌∙◌, arith}
 use Rattle.std.specs.Prelude.{unwrap_or}
 use Rattle.std.specs.List.{AllByRecursion, last_or}
-use Rattle.std.proofs.lemmas.List.{length-append, length-replicate}
 use Rattle.std.proofs.lemmas.Bool.{cond_both}
 use Rattle.aec_params.specs.declared.settings.Settings.{Settings}
 use Rattle.aec_params.specs.Params.{IsAllowed, IsHeld, sample_pattern}
@@ -48,13 +47,7 @@ values-filled s o x last xs n size f =
     ∙ ap₂ (λ k y. values_after s o ((x ∷ xs) ++ replicate k y)) missing (cc)
   where
     filled : length (x ∷ xs) + up_to_multiple s.block_size (length (x ∷ xs)) ≡ s.block_size
-    filled =
-        omega (
-          arith,
-          length-filled_block s (x ∷ xs) (omega arith) (omega arith),
-          length-append (x ∷ xs) (replicate (up_to_multiple s.block_size (length (x ∷ xs))) (unwrap_or (last_or (Some x) xs) (pos 0))),
-          length-replicate (up_to_multiple s.block_size (length (x ∷ xs))) (unwrap_or (last_or (Some x) xs) (pos 0)),
-        )
+    filled = grind arith
 
     missing : n ≡ up_to_multiple s.block_size (length (x ∷ xs))
     missing = omega (arith, filled)

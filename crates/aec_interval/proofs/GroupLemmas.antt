@@ -1,5 +1,5 @@
 -- The groups of a segment stand for its blocks, in order.
-use Rattle.std.proofs.Common.{◌≡◌, ℕ, suc, ◌+◌, ◌-◌, ◌<◌, Bool, true, false, Option, Some, None, List, [], ◌∷◌, length, replicate, refl, subst, arith}
+use Rattle.std.proofs.Common.{◌≡◌, ℕ, suc, ◌+◌, ◌-◌, ◌<◌, Bool, true, Option, None, List, [], ◌∷◌, length, replicate, refl, subst, arith}
 use Rattle.std.specs.Prelude.{⊤, ◌==◌}
 use Rattle.std.specs.List.{flat_map, list_all}
 use Rattle.std.proofs.lemmas.List.{length-replicate}
@@ -9,7 +9,7 @@ use Rattle.aec_params.specs.Blocks.{Block, is_zero_block}
 use Rattle.aec_params.specs.CodedDataSets.{HasReference}
 use Rattle.aec_params.specs.Places.{is_reference_block, zero_block}
 use Rattle.aec_params.specs.Runs.{Group, zero_run, single_block, with_zero_block, groups_of}
-use Rattle.aec_interval.proofs.BlockLemmas.{AreDueFrom, later_reference}
+use Rattle.aec_interval.proofs.BlockLemmas.{AreDueFrom}
 use Rattle.aec_params.specs.BlockShapes.{IsBlockOf, IsBlockAt}
 
 -- the blocks that a group stands for, and their number
@@ -65,11 +65,7 @@ zero_block-is : (s : Settings) (t : Bool) (b : Block) → IsBlockOf s t b → is
 zero_block-is s t b h z = rw (zeros-are b.values, h.count)
 
 no_reference : (s : Settings) (p : ℕ) (reference : Option ℕ) → HasReference s (is_reference_block s (suc p)) reference → reference ≡ None
-no_reference s p reference h = none reference (rw later_reference at h)
-  where
-    none : (reference : Option ℕ) → HasReference s false reference → reference ≡ None
-    none None h = refl
-    none (Some r) h = absurd h
+no_reference s p reference h = grind arith
 
 blocks-with_zero_block : (s : Settings) (p : ℕ) (reference : Option ℕ) (groups : List Group) → AreGroupsFrom s (suc p) groups
     → flat_map (group_blocks s) (with_zero_block reference groups) ≡ zero_block s reference ∷ flat_map (group_blocks s) groups

@@ -2,10 +2,10 @@
 use Rattle.std.proofs.Common.{◌≡◌, ℕ, suc, ◌+◌, ◌-◌, ◌/◌, ◌≤◌, ◌<◌, min, Bool, true, false, Option, Some, None, unwrap_or, Result, Ok, Err, ℤ, List, [], ◌∷◌, ◌++◌, length, refl, arith, ⊎_elim}
 use Rattle.std.specs.Prelude.{nat_lt, if◌then◌else◌}
 use Rattle.std.specs.Result.{result_err}
-use Rattle.std.proofs.lemmas.Bool.{cases_lt, lt-ltb, le-ltb}
+use Rattle.std.proofs.lemmas.Bool.{cases_lt, lt-ltb}
 use Rattle.aec_params.specs.declared.settings.Settings.{Settings}
 use Rattle.aec_params.specs.declared.fault.Fault.{Fault}
-use Rattle.aec_params.specs.declared.fault.Fault.TheVariants.{SampleRange, TooManySamples}
+use Rattle.aec_params.specs.declared.fault.Fault.TheVariants.{TooManySamples}
 use Rattle.aec_params.specs.Params.{storage_len}
 use Rattle.aec_params.specs.Stored.{number_in, sample_of_number, sample_before, samples_of_groups, samples_of_bytes, byte_groups}
 use Rattle.aec_interval.specs.Taking.{TakenSamples, in_range, judged_sample, taken_before, taken_groups}
@@ -53,9 +53,7 @@ length_step s limit i j g gs ih = ⊎_elim below above (cases_lt i limit)
         (λ k e. bad_behind s (j + 1) k gs e) (ih (omega arith)))
 
     above : limit ≤ i → length (taken_groups s limit i (g ∷ gs)).samples ≡ min end (limit - i)
-    above l =
-        let none : 0 ≡ min end (limit - i) = omega arith in
-        rw le-ltb none
+    above l = grind arith
 
 pub length-taken_groups : (s : Settings) (limit i j : ℕ) (gs : List (List ℕ))
     → length (taken_groups s limit i gs).samples ≡ min (good_up_to (samples_of_groups s j gs) (j + length gs) - j) (limit - i)
@@ -109,10 +107,6 @@ length-front_taken s limit i [] hs most = refl
 length-front_taken s limit i (g ∷ gs) hs most =
     front_step (judged_sample s limit i g) (length gs) (taken_groups s limit (i + 1) (gs ++ hs)) (taken_groups s limit (i + 1) gs) most
     (λ m. length-front_taken s limit (i + 1) gs hs m)
-
--- the refusal of sample i; t says whether i is below the limit, which is judged first
-abbrev fault_at : Bool → ℕ → ℕ → Fault
-fault_at t limit i = if t then SampleRange i else TooManySamples limit
 
 refused_step : (t : Bool) (o : Option ℤ) (limit i n : ℕ) (later : TakenSamples) → t ≡ nat_lt i limit
     → length (taken_before (if t then in_range i o else Err (TooManySamples limit)) later).samples < suc n

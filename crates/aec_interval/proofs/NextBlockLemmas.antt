@@ -114,16 +114,7 @@ rest_whole : (j r k a b : ℕ) → a ≡ j * r → a + b ≡ k * j → b ≡ (k 
 rest_whole j r k a b is_full whole = omega (arith, mul-sub, mul_comm)
 
 one_more_fits : (j r k a : ℕ) → a ≡ k * j → a < j * r → a + j ≤ j * r
-one_more_fits j r k a whole short = ⊎_elim below past (cases_lt k r)
-  where
-    below : k < r → a + j ≤ j * r
-    below h = omega (arith, mul-le-mul_right j (lt_suc h), mul_comm j r)
-      where
-        lt_suc : k < r → suc k ≤ r
-        lt_suc h = omega arith
-
-    past : r ≤ k → a + j ≤ j * r
-    past h = absurd (omega (arith, mul-le-mul_right j h))
+one_more_fits j r k a whole short = ⊎_elim (λ below. grind arith) (λ past. absurd (omega (arith, mul-le-mul_right j past))) (cases_lt k r)
 
 -- one block more after whole blocks
 pub all_blocks_of-push : (s : Settings) (xs ys : List ℤ) (k : ℕ) → 0 < s.block_size → 0 < s.interval → length xs ≡ k * s.block_size → length ys ≡ s.block_size

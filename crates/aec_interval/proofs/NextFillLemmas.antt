@@ -72,13 +72,7 @@ fills_single s old new values allowed next unmaps blocks filled =
 next_reference : (s : Settings) (at_start : Bool) (r : ℕ) (x : ℤ) (more : List ℤ) (values : List ℕ) (p : ℤ) → HasReference s (s.preprocess && at_start) (Some r)
     → HasReferencePlace (Some r) values → sample_pattern s x ≡ r → mapped_after s x more ≡ drop 1 values
     → next_block_at s at_start p (x ∷ more) ≡ block_of (Some r) values
-next_reference s at_start r x more values p has placed pattern mapped = by_tests s.preprocess at_start refl has
-  where
-    by_tests : (preprocess at_start : Bool) → s.preprocess ≡ preprocess → HasReference s (preprocess && at_start) (Some r)
-        → next_block_at s at_start p (x ∷ more) ≡ block_of (Some r) values
-    by_tests false at_start is has = absurd has
-    by_tests true false is has = absurd has
-    by_tests true true is has = cc
+next_reference s at_start r x more values p has placed pattern mapped = grind arith
 
 pub fills_reference : (s : Settings) (old new : List ℤ) (r : ℕ) (values : List ℕ) (x : ℤ) → IsAllowed s
     → IsNextBlock s old (record { reference = Some r; values = values })

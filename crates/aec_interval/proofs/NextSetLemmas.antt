@@ -2,6 +2,7 @@
 use Rattle.std.proofs.Common.{◌≡◌, ℕ, zero, suc, ◌-◌, ◌%◌, ◌≤◌, true, Option, None, ℤ, List, [], ◌∷◌, take, replicate, refl, subst, sub-one, arith}
 use Rattle.std.proofs.Math.Nat.{mod-lt}
 use Rattle.std.proofs.lemmas.Bool.{le-leb}
+use Rattle.std.proofs.lemmas.List.{take-replicate}
 use Rattle.aec_params.specs.declared.settings.Settings.{Settings}
 use Rattle.aec_params.specs.Params.{IsAllowed}
 use Rattle.aec_params.specs.Blocks.{Block}
@@ -30,10 +31,4 @@ single_next s i samples reference body b allowed filled shape small one is =
 pub run_front : (s : Settings) (reference : Option ℕ) (z k : ℕ) → 1 ≤ k → k ≤ z
     → take k (zero_block s reference ∷ replicate (z - 1) (zero_block s None)) ≡ run_blocks s reference k
 run_front s reference z zero some within = absurd (omega arith)
-run_front s reference zero (suc k) some within = absurd (omega arith)
-run_front s reference (suc z) (suc k) some within = rw (sub-one, take-replicate z k (omega arith))
-  where
-    take-replicate : (n k : ℕ) → k ≤ n → take k (replicate n (zero_block s None)) ≡ replicate k (zero_block s None)
-    take-replicate n zero within = refl
-    take-replicate zero (suc k) within = absurd (omega arith)
-    take-replicate (suc n) (suc k) within = rw (take-replicate n k (omega arith))
+run_front s reference z (suc k) some within = rw (take-replicate k (z - 1) (zero_block s None) (omega arith))

@@ -112,12 +112,9 @@ module _ (s : Settings) (a : IsAllowed s) (count : Option ℕ) (limit : ℕ) (bi
         samples = noted.samples ++ ys;
         read = has_read_more (place_at s count limit bits i b) (place_at s count limit bits j e) noted.samples ys a noted.read step;
         number = one_more;
-        next = λ wanted. rw (step.to_end wanted, block-is, one_longer, length-append);
+        next = λ wanted. rw (step.to_end wanted, block-is, length-append) (omega arith);
         each = each_more;
       }
-        where
-          one_longer : (m r : ℕ) → m * r + r ≡ (m + 1) * r
-          one_longer m r = omega arith
 
   pub noted-more : (p q : Place) (len b : ℕ) (offsets pushed : List ℕ) → HasNoted s count limit bits p offsets → HasInterval p len q → b ≡ p.bit
       → pushed ≡ offsets ++ b ∷ [] → HasNoted s count limit bits q pushed

@@ -135,9 +135,6 @@ at-block s m l k n {o} {run} {next} {start} {old} {new} {newer} {whole} {rest} {
     before : take start new ++ (closed s (drop start new ++ bits_left s k run (b ∷ bs)) ++ stream_of s (drop n later)) ≡ whole
     before = rw (← blocks, ← behind) at.bits
 
-    rest_bits : List Bool
-    rest_bits = sets_bits s (drop m bs)
-
     moved : newer ++ bits_left s m next bs ≡ new ++ bits_left s k run (b ∷ bs)
     moved = rw (← append_assoc, written, append_assoc, is_k)
 
@@ -183,12 +180,10 @@ pub at-interval_end : (s : Settings) (m l : ℕ) (o : Option ℤ) (start : ℕ) 
     → StreamAt s m l o no_run start old new whole rest → take l rest ≡ [] → drop l rest ≡ rest → newer ≡ take start new ++ closed s (drop start new)
     → newer ++ stream_of s rest ≡ whole
 at-interval_end s m l o start old new newer whole rest h at none all written =
-    rw written (append_assoc (take start new) (closed s (drop start new)) (stream_of s rest)
-    ∙ ap₂ (λ xs ys. take start new ++ (closed s xs ++ stream_of s ys)) (sym (ap (λ xs. drop start new ++ xs)
-    (none_of_interval s m l o no_run rest h none ∙ empty) ∙ append-nil (drop start new))) (sym all) ∙ at.bits)
-  where
-    empty : pending_bits s no_run [] ++ sets_bits s (blocks_after s o (take l rest)) ≡ []
-    empty = rw (none, blocks_after-nil)
+    let empty : blocks_after s o (take l rest) ≡ [] = rw (none, blocks_after-nil) in
+    let spent : drop start new ++ bits_left s m no_run (blocks_after s o (take l rest)) ≡ drop start new =
+    rw (empty, take-nil, drop-nil) (append-nil (drop start new)) in
+    rw (written, append_assoc) (rw (spent, all) at at.bits)
 
 -- the next interval begins
 stream_opened : (s : Settings) (rest : List ℤ) → 0 < s.block_size → 0 < interval_len s
@@ -247,10 +242,7 @@ at-closed {s} {m} {l} {o} {run} {start} {old} {new} {middle} {newer} {whole} {re
     at-interval_end s 64 l o start old middle newer whole rest h (at-segment_end at (none_of_interval s m l o run rest h none) written) none all padded
 
 pub none_left : (j i p : ℕ) (xs : List ℤ) → i ≤ p → (take (j * (i - p)) xs ≡ []) × (drop (j * (i - p)) xs ≡ xs)
-none_left j i p xs past =
-    let spent : i - p ≡ 0 = omega arith in
-    let none : j * (i - p) ≡ 0 = grind arith in
-    (rw none, rw none)
+none_left j i p xs past = grind arith
 
 interval_some : (s : Settings) → 0 < s.block_size → 0 < s.interval → 0 < interval_len s
 interval_some s h some = omega (arith, mul-le 1 1 s.block_size s.interval (omega arith) (omega arith))

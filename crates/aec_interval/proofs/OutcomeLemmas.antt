@@ -1,10 +1,8 @@
 -- Bits always have a reading or a fault: the walk goes on until no coded data set is wanted or
 -- something is wrong.
-use Rattle.std.proofs.Common.{◌≡◌, ℕ, zero, suc, ◌+◌, ◌%◌, ◌<◌, ◌≤◌, min, Bool, true, false, Option, List, [], ◌∷◌, ◌++◌, length, drop, refl, arith, inl, inr, ◌⊎◌, ⊎_elim}
-use Rattle.std.specs.Prelude.{◌==◌, ◌&&◌}
-use Rattle.std.specs.Int.{next_multiple_of}
+use Rattle.std.proofs.Common.{◌≡◌, ℕ, zero, suc, ◌+◌, ◌%◌, ◌<◌, ◌≤◌, Bool, true, false, Option, List, [], ◌∷◌, ◌++◌, length, drop, refl, arith, inl, inr, ◌⊎◌, ⊎_elim}
 use Rattle.std.proofs.lemmas.List.{length-append, length-drop, drop_at, drop-drop}
-use Rattle.std.proofs.lemmas.Bool.{cases_Bool, cond_both}
+use Rattle.std.proofs.lemmas.Bool.{cases_Bool}
 use Rattle.aec_params.specs.declared.settings.Settings.{Settings}
 use Rattle.aec_params.specs.declared.fault.Fault.{Fault}
 use Rattle.aec_params.specs.declared.fault.Fault.TheVariants.{Truncated, ValueTooLarge, RunTooLong, TooManySamples}
@@ -43,8 +41,7 @@ stands-within s bits b c h =
     )
 
 begin_of-ahead : (s : Settings) (bits : List Bool) (i b : ℕ) → b ≤ length bits → b ≤ begin_of s bits i b
-begin_of-ahead s bits i b h =
-    cond_both (s.pad && (i % s.interval == 0)) (min (next_multiple_of b 8) (length bits)) b (λ e. b ≤ e) (λ _. omega arith) (λ _. omega arith)
+begin_of-ahead s bits i b h = grind arith
 
 pub next_begin-ahead : (s : Settings) (bits : List Bool) (i b : ℕ) (c : CodedDataSet) → StandsAt s bits b c
     → (b < next_begin s bits i b c) × (b < length bits)

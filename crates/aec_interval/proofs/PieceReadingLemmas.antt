@@ -4,6 +4,7 @@ use Rattle.std.proofs.Common.{◌≡◌, ℕ, ◌+◌, ◌-◌, ◌*◌, ◌/◌
 use Rattle.std.specs.Int.{div_ceil}
 use Rattle.std.specs.List.{AllByRecursion}
 use Rattle.std.proofs.Math.Nat.{mul-le-mul_right}
+use Rattle.std.proofs.lemmas.Nat.{div-add-mod'}
 use Rattle.std.proofs.lemmas.Bool.{ltb-true, cases_Bool}
 use Rattle.std.proofs.lemmas.List.{length-take, length-append, take_all, take_at, take-append-drop}
 use Rattle.std.proofs.lemmas.List.Concat.{flat_map-append}
@@ -22,7 +23,7 @@ use Rattle.aec_bits.proofs.CodeLaws.{pieces_of-append}
 use Rattle.aec_interval.specs.Reached.{RefusesReading, no_memory, faulty}
 use Rattle.aec_interval.specs.Pieces.{Place, place_at, is_wanted_at, counted_from, ReadsPiece, ReadsInterval, ReadsIntervals, HasRead, RefusesAt}
 use Rattle.aec_interval.specs.PieceLaws.{AllStepsAreTheReading}
-use Rattle.aec_interval.proofs.CuttingLemmas.{div_ceil-bounds, div_ceil-times}
+use Rattle.aec_interval.proofs.CuttingLemmas.{div_ceil-times}
 use Rattle.aec_interval.proofs.BlockLemmas.{all-append, all_left}
 use Rattle.aec_interval.proofs.PlaceLemmas.{LeadsTo-append}
 use Rattle.aec_interval.proofs.RoundTripLemmas.{length-all_blocks_of}
@@ -37,10 +38,8 @@ use Rattle.aec_interval.proofs.UpToLemmas.{up_to-reading}
 
 -- the samples of i blocks fill whole intervals, if i is a multiple of r
 pub whole_intervals : (s : Settings) (i len : ℕ) → i % s.interval ≡ 0 → len ≡ i * s.block_size → len ≡ i / s.interval * interval_len s
-whole_intervals s i len begins is = is ∙ ap (λ n. n * s.block_size) (omega arith) ∙ regrouped (i / s.interval) s.interval s.block_size
-  where
-    regrouped : (k r j : ℕ) → k * r * j ≡ k * (j * r)
-    regrouped k r j = omega arith
+whole_intervals s i len begins is =
+    let whole : i ≡ i / s.interval * s.interval = omega (arith, div-add-mod' i s.interval) in omega (arith, rw whole at is)
 
 pub all_blocks_of-append : (s : Settings) (k : ℕ) (front back : List ℤ) → IsAllowed s → length front ≡ k * interval_len s
     → all_blocks_of s (front ++ back) ≡ all_blocks_of s front ++ all_blocks_of s back
@@ -50,12 +49,9 @@ pub FillBlocks-append : (s : Settings) (k : ℕ) (front back : List ℤ) (bs cs 
     → FillBlocks s front bs → FillBlocks s back cs → FillBlocks s (front ++ back) (bs ++ cs)
 FillBlocks-append s k front back bs cs a whole first second = record {
   held = all-append (IsHeld s) front back first.held second.held;
-  whole = both (length bs) (length cs) s.block_size (length front) (length back) first.whole second.whole (length-append front back) (length-append bs cs);
+  whole = rw (length-append, length-append) (omega (arith, first.whole, second.whole));
   mapped = rw (all_blocks_of-append s k, first.mapped, second.mapped);
 }
-  where
-    both : (m n j x y : ℕ) {t u : ℕ} → x ≡ m * j → y ≡ n * j → t ≡ x + y → u ≡ m + n → t ≡ u * j
-    both m n j x y {t} {u} h k e f = grind arith
 
 -- samples that fill blocks, cut where an interval begins
 pub FillBlocks-front : (s : Settings) (i : ℕ) (samples : List ℤ) (bs cs : List Block) → IsAllowed s → i % s.interval ≡ 0 → length bs ≡ i
@@ -75,16 +71,10 @@ FillBlocks-front s i samples bs cs a begins count filled = record {
     cut : front ++ back ≡ samples
     cut = take-append-drop (i * s.block_size) samples
 
-    enough : (i n m j : ℕ) → m ≡ i + n → i * j ≤ m * j
-    enough i n m j e = mul-le-mul_right j (omega arith)
-
     len : length front ≡ i * s.block_size
     len =
-        omega (
-          arith,
-          length-take (i * s.block_size) samples,
-          enough i (length cs) (length (bs ++ cs)) s.block_size (length-append bs cs ∙ ap (λ n. n + length cs) count),
-        )
+        let both : length (bs ++ cs) ≡ i + length cs = rw (length-append, count) in
+        omega (arith, length-take (i * s.block_size) samples, rw both at filled.whole)
 
     blocks : length (all_blocks_of s front) ≡ i
     blocks = rw (length-all_blocks_of, len, div_ceil-times i s.block_size (block_size-positive s a))
@@ -96,12 +86,7 @@ FillBlocks-front s i samples bs cs a begins count filled = record {
 
 -- a block that is needed begins before the count
 pub before_count : (s : Settings) (count i : ℕ) → IsAllowed s → i < div_ceil count s.block_size → i * s.block_size < count
-before_count s count i a below =
-    let next : (i + 1) * s.block_size ≤ div_ceil count s.block_size * s.block_size = mul-le-mul_right s.block_size (omega arith) in
-    omega (arith, one_more i s.block_size, div_ceil-bounds count s.block_size (block_size-positive s a))
-  where
-    one_more : (i j : ℕ) → (i + 1) * j ≡ i * j + j
-    one_more i j = omega arith
+before_count s count i a below = grind arith
 
 counted-start : (s : Settings) (count : Option ℕ) (samples : List ℤ) → counted_from s count 0 samples ≡ counted_samples count samples
 counted-start s None samples = refl

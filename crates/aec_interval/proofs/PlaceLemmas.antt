@@ -1,16 +1,16 @@
 -- Places of coded data sets in a stream: those that cover an interval lead through it, and bits are
 -- skipped only at its end.
 use Rattle.std.proofs.Common.{◌≡◌, ℕ, ◌+◌, ◌*◌, ◌%◌, ◌<◌, ◌≤◌, Bool, true, Option, Some, List, [], ◌∷◌, ◌++◌, length, refl, sym, ap, ap₂, ◌∙◌, subst, arith}
-use Rattle.std.specs.Prelude.{◌==◌, nat_lt}
+use Rattle.std.specs.Prelude.{nat_lt}
 use Rattle.std.specs.List.{flat_map}
 use Rattle.std.specs.Int.{div_ceil}
 use Rattle.std.proofs.lemmas.List.{length-append, append_assoc, append-nil}
 use Rattle.std.proofs.Math.Seq.{drop-append_seam, drop-append-add}
 use Rattle.std.proofs.lemmas.Nat.{mod-mul-add}
-use Rattle.std.proofs.lemmas.Bool.{leb-true, lt-ltb, and_right, ne_eqb}
+use Rattle.std.proofs.lemmas.Bool.{leb-true, lt-ltb}
 use Rattle.aec_params.specs.declared.settings.Settings.{Settings}
 use Rattle.aec_params.specs.CodedDataSets.{Body, uncompressed_values, value_pairs, split_values, zero_blocks, CodedDataSet, cds_bits}
-use Rattle.aec_params.specs.Places.{block_count, body_blocks, segment_left, IsLawfulAt, cds_blocks}
+use Rattle.aec_params.specs.Places.{block_count, body_blocks, IsLawfulAt, cds_blocks}
 use Rattle.aec_params.specs.Reading.{Covers, covered_blocks, StandsAt, begin_of, next_block, next_begin, LeadsTo, stream_blocks}
 pub use Rattle.aec_params.proofs.StreamLaws.{length-cds_blocks, run_len-some}
 
@@ -28,7 +28,7 @@ block_count-positive s p c h = body_blocks-positive s p c.body h
 
 -- a lawful coded data set ends within its interval
 pub lawful-within : (s : Settings) (p : ℕ) (c : CodedDataSet) → IsLawfulAt s p c → p < s.interval → p + block_count s p c ≤ s.interval
-lawful-within s p c l h = let w = leb-true (block_count s p c) (segment_left s p) l.within in omega arith
+lawful-within s p c l h = grind arith
 
 -- the block after coded data sets
 abbrev pub end_of : Settings → ℕ → List CodedDataSet → ℕ
@@ -80,7 +80,7 @@ StandsAt-front s pre c rest = rw (drop-append_seam, drop-append-add, drop-append
 
 -- within an interval, no bits are skipped before a coded data set
 begin_of-inside : (s : Settings) (bits : List Bool) (i b : ℕ) → 0 < i % s.interval → begin_of s bits i b ≡ b
-begin_of-inside s bits i b h = rw (and_right s.pad (i % s.interval == 0) (ne_eqb (i % s.interval) 0 (λ e. omega arith)))
+begin_of-inside s bits i b h = grind arith
 
 -- the first coded data set of a walk: it is at block p of interval k, after the bits `pre`
 record IsFirstAt (s : Settings) (count p k i b : ℕ) (pre : List Bool) (c : CodedDataSet) (bits : List Bool) : Type 0 where

@@ -1,7 +1,6 @@
 -- Places that a reader reaches: coded data sets lead there from the first bit on.
-use Rattle.std.proofs.Common.{◌≡◌, ℕ, ◌+◌, ◌%◌, ◌<◌, ◌≤◌, min, Bool, true, false, ◌&&◌, ◌==◌, if◌then◌else◌, Option, List, [], ◌∷◌, ◌++◌, length, drop, arith}
+use Rattle.std.proofs.Common.{◌≡◌, ℕ, ◌+◌, ◌%◌, ◌<◌, ◌≤◌, Bool, true, Option, List, [], ◌∷◌, ◌++◌, length, drop, arith}
 use Rattle.std.proofs.lemmas.List.{length-append, length-drop}
-use Rattle.std.specs.Int.{next_multiple_of}
 use Rattle.aec_params.specs.declared.settings.Settings.{Settings}
 use Rattle.aec_params.specs.CodedDataSets.{CodedDataSet, cds_bits}
 use Rattle.aec_params.specs.Reading.{is_wanted, StandsAt, LeadsTo, begin_of, next_block, next_begin}
@@ -16,11 +15,7 @@ StandsAt-within s bits b c within stands =
     grind (arith, length-drop b bits, length-append (cds_bits s c) (drop (b + length (cds_bits s c)) bits), length-drop (b + length (cds_bits s c)) bits)
 
 begin_of-within : (s : Settings) (bits : List Bool) (i b : ℕ) → b ≤ length bits → begin_of s bits i b ≤ length bits
-begin_of-within s bits i b within = by_test (s.pad && (i % s.interval == 0))
-  where
-    by_test : (t : Bool) → (if t then min (next_multiple_of b 8) (length bits) else b) ≤ length bits
-    by_test true = omega arith
-    by_test false = within
+begin_of-within s bits i b within = grind arith
 
 pub LeadsTo-within : (s : Settings) (count : Option ℕ) (limit : ℕ) (bits : List Bool) (i b : ℕ) (sets : List CodedDataSet) (j e : ℕ) → b ≤ length bits
     → LeadsTo s count limit bits i b sets j e → e ≤ length bits

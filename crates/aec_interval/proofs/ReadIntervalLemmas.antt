@@ -1,7 +1,6 @@
 -- One interval read from its start: how far the reading comes, and how much room its samples take.
-use Rattle.std.proofs.Common.{max, ◌≡◌, ℕ, Bool, true, false, Option, ◌&&◌, nat_lt, List, refl, ◌+◌, ◌-◌, ◌*◌, ◌/◌, ◌%◌, ◌<◌, ◌≤◌, ap, ◌∙◌, arith, Result, IfErr}
+use Rattle.std.proofs.Common.{max, ◌≡◌, ℕ, Bool, true, false, Option, ◌&&◌, nat_lt, List, refl, ◌+◌, ◌-◌, ◌*◌, ◌%◌, ◌<◌, ◌≤◌, arith, Result, IfErr}
 use Rattle.std.proofs.Math.Nat.{mul-le-mul_right, add-mul-mod_self_right}
-use Rattle.std.proofs.lemmas.Nat.{mod-mul-add}
 use Rattle.std.proofs.lemmas.Bool.{ltb-false}
 use Rattle.std.specs.Result.{IsErrAnd}
 use Rattle.aec_params.specs.declared.settings.Settings.{Settings}
@@ -17,8 +16,10 @@ use Rattle.aec_interval.proofs.RefusalLemmas.{of_refusal}
 
 -- block i is at place i - first of the interval that begins at block `first`
 pub place-behind : (s : Settings) (first i : ℕ) → first % s.interval ≡ 0 → first ≤ i → i < first + s.interval → i % s.interval ≡ i - first
-place-behind s first i aligned after below =
-    ap (λ n. n % s.interval) (omega arith) ∙ mod-mul-add (first / s.interval) s.interval (i - first) (omega arith)
+place-behind s first i aligned after below = grind arith
+
+both_parts : (d e n j : ℕ) → d + e ≡ n → d * j + e * j ≡ n * j
+both_parts d e n j is = grind arith
 
 -- a capacity too small for the blocks up to the end of an interval is too small for a whole
 -- interval
@@ -26,15 +27,8 @@ no_room : (s : Settings) (first i len capacity : ℕ) → first % s.interval ≡
     → capacity < len + blocks_before_end s i * s.block_size → capacity < interval_len s
 no_room s first i len capacity aligned after below few full =
     let place = place-behind s first i aligned after below in
-    let both : (i - first) * s.block_size + (s.interval - i % s.interval) * s.block_size ≡ s.block_size * s.interval =
-    both_parts (i - first) (s.interval - i % s.interval) s.interval s.block_size (omega arith) in
+    let both = both_parts (i - first) (s.interval - i % s.interval) s.interval s.block_size (omega arith) in
     omega arith
-  where
-    both_parts : (d e r j : ℕ) → d + e ≡ r → d * j + e * j ≡ j * r
-    both_parts d e r j is = grind arith
-
-both_parts : (d e n j : ℕ) → d + e ≡ n → d * j + e * j ≡ n * j
-both_parts d e n j is = grind arith
 
 -- the interval of the blocks from `first` up to `end` was read or skipped up to block i at position
 -- b, where more is wanted
@@ -85,10 +79,7 @@ module _ (s : Settings) (count : Option ℕ) (limit : ℕ) (bits : List Bool) (f
 
     pub len-further : (old len new : ℕ) → len ≤ old + (behind - i) * s.block_size → new ≤ len + (next - behind) * s.block_size
         → new ≤ old + (next - i) * s.block_size
-    len-further old len new few more =
-        let both : (behind - i) * s.block_size + (next - behind) * s.block_size ≡ (next - i) * s.block_size =
-        both_parts (behind - i) (next - behind) (next - i) s.block_size (omega arith) in
-        omega arith
+    len-further old len new few more = grind arith
 
   -- a capacity too small for the blocks up to the end of an interval is too small for a whole
   -- interval

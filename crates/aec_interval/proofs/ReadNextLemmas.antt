@@ -100,7 +100,7 @@ module _ {s : Settings} {count : Option ℕ} {limit first start : ℕ} (old new 
     stand = may_stand s count limit i (run_count s (i % s.interval) len) bit next placed
 
     count-is : next - i ≡ block_count s (i % s.interval) c
-    count-is = omega (arith, next-is old new allowed led wanted due_is found_there bit next placed)
+    count-is = grind arith
 
     forward-next : i < next
     forward-next = forward old new allowed led wanted due_is found_there bit next placed

@@ -2,13 +2,12 @@
 use Rattle.std.proofs.Common.{◌≡◌, ℕ, ◌+◌, ◌-◌, ◌/◌, ◌%◌, ◌^◌, ◌<◌, ◌≤◌, Bool, true, false, Option, List, [], ◌∷◌, ◌++◌, length, arith}
 use Rattle.std.specs.List.{flat_map}
 use Rattle.std.proofs.lemmas.List.{length-append}
-use Rattle.std.proofs.lemmas.Bool.{cond_both}
 use Rattle.aec_params.specs.declared.settings.Settings.{Settings}
 use Rattle.aec_params.specs.Params.{IsAllowed, id_len}
 use Rattle.aec_params.specs.Codewords.{fs, binary}
 use Rattle.aec_params.specs.CodedDataSets.{uncompressed_values, value_pairs, split_values, zero_blocks, pair_number, pair_bits, reference_bits, cds_bits, written_count}
 use Rattle.aec_params.specs.Runs.{run_code}
-use Rattle.aec_params.proofs.SettingLaws.{at_least_one_bit, block_size-least}
+use Rattle.aec_params.proofs.SettingLaws.{at_least_one_bit}
 use Rattle.aec_params.proofs.CodewordLaws.{length-binary, length-fs}
 
 -- ---- runs
@@ -38,8 +37,7 @@ length-flat_map-least code [] h = omega arith
 length-flat_map-least code (x ∷ xs) h = omega (arith, length-append (code x) (flat_map code xs), length-flat_map-least code xs h)
 
 written_count-least : (s : Settings) (t : Bool) → IsAllowed s → 7 ≤ written_count s t
-written_count-least s t a =
-    cond_both t (s.block_size - 1) s.block_size (λ n. 7 ≤ n) (λ _. omega (arith, block_size-least)) (λ _. omega (arith, block_size-least))
+written_count-least s t a = grind arith
 
 -- a single block is never shorter than a run of one
 pub plain-longer : (s : Settings) (t : Bool) (reference : Option ℕ) (values : List ℕ) → IsAllowed s → length values ≡ written_count s t

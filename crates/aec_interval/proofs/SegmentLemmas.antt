@@ -8,6 +8,7 @@ use Rattle.aec_params.specs.Params.{IsHeld}
 use Rattle.aec_interval.specs.Chunks.{HoldsPrevious}
 use Rattle.aec_interval.specs.Pending.{IsKept}
 use Rattle.aec_interval.proofs.CuttingLemmas.{IsPieceBefore}
+use Rattle.aec_interval.proofs.FillingLemmas.{last_or-some}
 
 -- ---- pieces
 
@@ -23,11 +24,7 @@ piece_taken n whole front rest h e len some =
 
 pub last_taken : (o : Option ℤ) (xs : List ℤ) → 0 < length xs → slice_get xs (length xs - 1) ≡ last_or o xs
 last_taken o [] h = absurd (omega arith)
-last_taken o (x ∷ xs) h = ap (slice_get (x ∷ xs)) (omega arith) ∙ sym (read o x xs)
-  where
-    read : (o : Option ℤ) (x : ℤ) (xs : List ℤ) → last_or o (x ∷ xs) ≡ slice_get (x ∷ xs) (length xs)
-    read o x [] = refl
-    read o x (y ∷ xs) = read (Some x) y xs
+last_taken o (x ∷ xs) h = ap (slice_get (x ∷ xs)) (omega arith) ∙ sym (last_or-some o x xs)
 
 pub holds_last : (s : Settings) (o : Option ℤ) (xs : List ℤ) → HoldsPrevious s o → AllByRecursion (IsHeld s) xs → HoldsPrevious s (last_or o xs)
 holds_last s o [] h k = h

@@ -1,12 +1,11 @@
 -- The values of a short block, pushed one by one.
-use Rattle.std.proofs.Common.{◌≡◌, ℕ, suc, ◌+◌, ◌<◌, Bool, true, false, if◌then◌else◌, Option, Some, None, ℤ, pos, List, [], ◌∷◌, ◌++◌, length, drop, get_or, drop-cons, append_assoc, refl, sym, ap, ◌∙◌, arith}
+use Rattle.std.proofs.Common.{◌≡◌, ℕ, suc, ◌+◌, ◌<◌, Option, ℤ, pos, List, [], ◌∷◌, ◌++◌, length, drop, get_or, drop-cons, append_assoc, sym, ap, ◌∙◌, arith}
 use Rattle.std.specs.Prelude.{unwrap_or}
 use Rattle.std.specs.List.{AllByRecursion}
 use Rattle.aec_params.specs.declared.settings.Settings.{Settings}
-use Rattle.aec_params.specs.Params.{IsAllowed, IsHeld, sample_pattern}
-use Rattle.aec_params.specs.Mapping.{mapped_value, mapped_after, mapped_values}
+use Rattle.aec_params.specs.Params.{IsAllowed, IsHeld}
+use Rattle.aec_params.specs.Mapping.{mapped_value, mapped_after}
 use Rattle.aec_params.specs.Places.{placed_values}
-use Rattle.aec_block.proofs.ListMappingLemmas.{mapped_after-first}
 use Rattle.aec_interval.specs.Chunks.{values_after, reference_after}
 
 -- the values of the samples up to p were pushed; with those of the rest they are the whole list
@@ -23,40 +22,20 @@ mapped-more s p q x xs i values whole new v within is_q is_x so_far is_v is_new 
     record {
       previous_held = cut_held.0;
       held = cut_held.1;
-      joined =
-          rw is_new (append_assoc values (v ∷ []) (mapped_after s x (drop (i + 1) xs))
-          ∙ ap (λ w. values ++ (w ∷ mapped_after s x (drop (i + 1) xs))) (rw (is_v, is_q)) ∙ ap (λ l. values ++ mapped_after s p l) (sym cut)
-          ∙ so_far.joined);
+      joined = rw (is_new, append_assoc, is_v, is_q) (rw cut at so_far.joined);
     }
   where
     next : i + 1 ≡ suc i
     next = omega arith
 
     cut : drop i xs ≡ x ∷ drop (i + 1) xs
-    cut = rw next (drop-cons xs i (pos 0) within) ∙ ap (λ y. y ∷ drop (i + 1) xs) (sym is_x)
+    cut = rw (next, is_x) (drop-cons xs i (pos 0) within)
 
     cut_held : AllByRecursion (IsHeld s) (x ∷ drop (i + 1) xs)
     cut_held = rw cut at so_far.held
-
--- the start of an interval: the reference place, if there is one, and the values after it
-mapped-start : (s : Settings) (x : ℤ) (xs : List ℤ) (on : Bool) → s.preprocess ≡ on → IsAllowed s → AllByRecursion (IsHeld s) (x ∷ xs)
-    → placed_values (if on then Some (sample_pattern s x) else None) []
-    ++ mapped_after s x (drop (length (placed_values (if on then Some (sample_pattern s x) else None) [])) (x ∷ xs)) ≡ mapped_values s (x ∷ xs)
-mapped-start s x xs true on allowed held = rw on
-mapped-start s x xs false off allowed held = mapped_after-first s x (x ∷ xs) allowed (omega arith) refl held
-
--- the reference place, if there is one, and the values of the samples after it
-mapped-behind : (s : Settings) (o : Option ℤ) (v : List ℤ) (p : ℤ) (reference : Option ℕ) → IsAllowed s → 0 < length v
-    → p ≡ unwrap_or o (get_or v 0 (pos 0)) → AllByRecursion (IsHeld s) v → reference ≡ reference_after s o v
-    → placed_values reference [] ++ mapped_after s p (drop (length (placed_values reference [])) v) ≡ values_after s o v
-mapped-behind s o [] p reference allowed some is_p held is = absurd (omega arith)
-mapped-behind s None (x ∷ xs) p reference allowed some is_p held is =
-    rw (is, is_p) (mapped-start s x xs s.preprocess refl allowed held)
-mapped-behind s (Some q) (x ∷ xs) p reference allowed some is_p held is = rw (is, is_p) refl
 
 -- values pushed after the reference place are the whole list
 pub mapped-whole : (s : Settings) (o : Option ℤ) (v : List ℤ) (p : ℤ) (reference : Option ℕ) (values new : List ℕ) (n : ℕ) → IsAllowed s → 0 < length v
     → p ≡ unwrap_or o (get_or v 0 (pos 0)) → AllByRecursion (IsHeld s) v → reference ≡ reference_after s o v
     → values ≡ placed_values reference [] → n ≡ length values → new ≡ values ++ mapped_after s p (drop n v) → new ≡ values_after s o v
-mapped-whole s o v p reference values new n allowed some is_p held is placed count is_new =
-    cc (mapped-behind s o v p reference allowed some is_p held is)
+mapped-whole s o v p reference values new n allowed some is_p held is placed count is_new = grind arith

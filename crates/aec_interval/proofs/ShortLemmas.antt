@@ -286,9 +286,7 @@ rest_len first n j r len within same is =
     grind (arith, add-mul)
 
 pub part_fits : (at count most len interval total : ℕ) → at ≡ count * len → count < most → len ≡ interval → most * interval ≤ total → at + len ≤ total
-part_fits at count most len interval total place below same room =
-    let more : (count + 1) * len ≤ most * len = mul-le-mul_right len (omega arith) in
-    grind arith
+part_fits at count most len interval total place below same room = grind arith
 
 pub whole_within : (first n r j samples left len : ℕ) → 0 < n → 0 < len → len ≡ j * r → left ≡ samples - first * j → n ≤ left / len
     → (first + n * r) * j ≤ samples
@@ -296,14 +294,9 @@ whole_within first n r j samples left len some positive len_is left_is within =
     let most : n * len ≤ left / len * len = mul-le-mul_right len within in
     let least : 1 * len ≤ n * len = mul-le-mul_right len (omega arith) in
     grind arith
-  where
-    expanded : (first n r j : ℕ) → (first + n * r) * j ≡ first * j + n * (j * r)
-    expanded first n r j = omega arith
 
 pub parts_within : (k q total len interval most : ℕ) → k ≤ q → q ≡ total / len → len ≡ interval → total ≤ most → k * interval ≤ most
-parts_within k q total len interval most fewer is same within =
-    let all : k * len ≤ q * len = mul-le-mul_right len fewer in
-    grind arith
+parts_within k q total len interval most fewer is same within = grind arith
 
 pub within_few : (s : Settings) (count : Option ℕ) (limit first n : ℕ) → IsAllowed s → first < most_blocks
     → (0 < n → AreWithin s count limit (first + n * s.interval)) → first + n * s.interval < most_blocks

@@ -1,7 +1,7 @@
 -- Blocks that are skipped one after the other, of which none needs a test of its place, in one
 -- interval or in several.
 use Rattle.std.proofs.Common.{◌≡◌, ℕ, ◌+◌, ◌-◌, ◌*◌, ◌/◌, ◌%◌, ◌<◌, ◌≤◌, Bool, true, false, Option, IfSome, unwrap_or, refl, sym, ◌∙◌, arith, ⊎_elim}
-use Rattle.std.proofs.Math.Nat.{mod-lt, mod-eq_of_lt, mul-mod_left, mod-add-mod, mul-le-mul_right, le-mul_of_pos_right}
+use Rattle.std.proofs.Math.Nat.{mod-lt, mod-eq_of_lt, mul-mod_left, mod-add-mod, le-mul_of_pos_right}
 use Rattle.std.proofs.lemmas.Bool.{cases_lt}
 use Rattle.aec_params.specs.declared.settings.Settings.{Settings}
 use Rattle.aec_params.specs.Params.{IsAllowed}
@@ -71,7 +71,7 @@ module _ (s : Settings) (place most n at : ℕ) (old mid new : Cursor) (allowed 
     inside = omega (arith, mod-lt j (interval-positive s allowed))
 
     fewer : j * s.block_size ≤ unwrap_or count limit
-    fewer = let less : j * s.block_size ≤ (i + (n + 1)) * s.block_size = mul-le-mul_right s.block_size (omega arith) in omega arith
+    fewer = grind arith
 
     ends : IsUntestedEnd s count limit begin (j + 1)
     ends = untested-within s count limit begin (begin + s.interval) 0 (j + 1) allowed low counted refl (rw unpadded)
@@ -109,13 +109,11 @@ module _ (s : Settings) (place most n at : ℕ) (old mid new : Cursor) (allowed 
 -- n of u blocks that need no test, from block i on
 pub fewer_samples : (s : Settings) (count : Option ℕ) (limit i n u : ℕ) → n ≤ u → (0 < u → (i + u) * s.block_size ≤ unwrap_or count limit)
     → 0 < n → (i + n) * s.block_size ≤ unwrap_or count limit
-fewer_samples s count limit i n u few within some =
-    let less : (i + n) * s.block_size ≤ (i + u) * s.block_size = mul-le-mul_right s.block_size (omega arith) in
-    omega (arith, within (omega arith))
+fewer_samples s count limit i n u few within some = grind arith
 
 pub fewer_blocks : (s : Settings) (count : Option ℕ) (limit i n u : ℕ) → IsAllowed s → i < most_blocks → limit ≤ most_samples
     → IfSome count (λ m. m ≤ most_samples) → n ≤ u → (0 < u → (i + u) * s.block_size ≤ unwrap_or count limit) → i + n < most_blocks
-fewer_blocks s count limit i n u allowed low_block low counted few within = ⊎_elim more none (cases_lt 0 n)
+fewer_blocks s count limit i n u allowed low_block low counted few within = ⊎_elim more (λ none. omega arith) (cases_lt 0 n)
   where
     more : 0 < n → i + n < most_blocks
     more some =
@@ -125,6 +123,3 @@ fewer_blocks s count limit i n u allowed low_block low counted few within = ⊎_
           few_samples count limit low counted,
           le-mul_of_pos_right (i + n) (block_size-positive s allowed),
         )
-
-    none : n ≤ 0 → i + n < most_blocks
-    none zero = omega arith

@@ -11,7 +11,7 @@ use Rattle.aec_params.specs.declared.settings.Settings.{Settings}
 use Rattle.aec_params.specs.Params.{IsAllowed, IsHeld, interval_len}
 use Rattle.aec_params.specs.Cutting.{up_to_multiple}
 use Rattle.aec_params.specs.Blocks.{intervals_of, blocks_of, all_blocks_of}
-use Rattle.aec_params.specs.CodedDataSets.{CodedDataSet}
+use Rattle.aec_params.specs.CodedDataSets.{CodedDataSet, cds_bits}
 use Rattle.aec_params.specs.Intervals.{unpadded_bits, interval_bits}
 use Rattle.aec_params.specs.Streams.{stream_of}
 use Rattle.aec_params.specs.Reading.{covered_blocks, ReadsBlocks, begin_of, LeadsTo, stream_blocks}
@@ -162,7 +162,7 @@ part_of s count limit k i b pre code rest bits v a some few r e f spelled need =
     let len : n ≡ div_ceil (length v) s.block_size = length-blocks_of s v a in
     let within : n ≤ s.interval = blocks-few s v a few in
     let positive : 0 < n = omega (arith, div_ceil-positive (length v) s.block_size (block_size-positive s a) some) in
-    let cut = spelled ∙ ap (◌++◌ pre) (rw (append_assoc, r.spelled)) in
+    let cut : bits ≡ pre ++ (flat_map (cds_bits s) r.sets ++ (padding_of s code ++ rest)) = spelled ∙ ap (◌++◌ pre) (rw (append_assoc, r.spelled)) in
     record {
       sets = r.sets;
       leads = subst (λ x. LeadsTo s (Some count) limit bits i b r.sets (k * s.interval + end_of s 0 r.sets)

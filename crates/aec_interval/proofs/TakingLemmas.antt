@@ -80,15 +80,6 @@ abbrev pub judged_from : ℕ → ℕ → Result (List ℤ) ℕ → Option Fault
 judged_from limit i (Ok samples) = if nat_lt limit (i + length samples) then Some (TooManySamples limit) else None
 judged_from limit i (Err bad) = Some (if nat_lt bad limit then SampleRange bad else TooManySamples limit)
 
--- the refusal, if sample i is below the limit
-judged_below : (o : Option ℤ) (limit i : ℕ) (later : Result (List ℤ) ℕ) (taken : TakenSamples) → i < limit
-    → taken.refusal ≡ judged_from limit (i + 1) later
-    → (taken_before (in_range i o) taken).refusal ≡ judged_from limit i (sample_before o i later)
-judged_below None limit i later taken below ih = rw lt-ltb
-judged_below (Some x) limit i (Ok xs) taken below ih =
-    ih ∙ ap (λ n. if nat_lt limit n then Some (TooManySamples limit) else None) (omega arith)
-judged_below (Some x) limit i (Err k) taken below ih = ih
-
 -- the refusal, if sample i is at the limit
 judged_above : (o : Option ℤ) (limit i : ℕ) (later : Result (List ℤ) ℕ) → i ≡ limit → ((k : ℕ) → later ≡ Err k → i + 1 ≤ k)
     → Some (TooManySamples limit) ≡ judged_from limit i (sample_before o i later)
@@ -107,7 +98,7 @@ judged_step s limit i g gs ih h = ⊎_elim below above (cases_lt i limit)
     o = sample_of_number s (number_in s g)
 
     below : i < limit → (taken_groups s limit i (g ∷ gs)).refusal ≡ judged_from limit i (samples_of_groups s i (g ∷ gs))
-    below l = rw lt-ltb (judged_below o limit i (samples_of_groups s (i + 1) gs) (taken_groups s limit (i + 1) gs) l (ih (omega arith)))
+    below l = grind arith
 
     above : limit ≤ i → (taken_groups s limit i (g ∷ gs)).refusal ≡ judged_from limit i (samples_of_groups s i (g ∷ gs))
     above l = rw le-ltb (judged_above o limit i (samples_of_groups s (i + 1) gs) (omega arith) (λ k e. bad_behind s (i + 1) k gs e))
@@ -133,12 +124,7 @@ pub taken_within : (s : Settings) (limit : ℕ) (gs : List (List ℕ)) → (take
 taken_within s limit gs none = few (length (taken_groups s limit 0 gs).samples) (cc (taken_groups-all s limit 0 gs none, judged_all s limit gs))
   where
     few : (n : ℕ) → (if nat_lt limit n then Some (TooManySamples limit) else None) ≡ None → n ≤ limit
-    few n e = ⊎_elim (λ l. absurd (past n l e)) (λ l. l) (cases_lt limit n)
-      where
-        past : (n : ℕ) → limit < n → (if nat_lt limit n then Some (TooManySamples limit) else None) ≡ None → ⊥
-        past n l e =
-            let some : (if nat_lt limit n then Some (TooManySamples limit) else None) ≡ Some (TooManySamples limit) = rw lt-ltb in
-            absurd (cc)
+    few n e = grind arith
 
 -- ---- samples that are all taken
 

@@ -235,27 +235,18 @@ reads_kept s p n j from old new items more extended all filled kept b is same pl
 -- ---- how many samples
 
 pub few_places : (blocks size j : ℕ) → size ≡ j → j ≤ 64 → blocks ≤ 2 + 120 / j → blocks * size ≤ 256
-few_places blocks size j is small few =
-    let most : blocks * j ≤ (2 + 120 / j) * j = mul-le-mul_right j few in
-    let both : (2 + 120 / j) * j ≡ 2 * j + 120 / j * j = add-mul 2 (120 / j) j in
-    grind arith
+few_places blocks size j is small few = grind arith
 
 -- what is left has room for its blocks
 pub blocks_fit : (from at count most size all : ℕ) → at ≡ from + count * size → count ≤ most → from + most * size ≤ all → at + (most - count) * size ≤ all
-blocks_fit from at count most size all is within room =
-    let both : (count + (most - count)) * size ≡ count * size + (most - count) * size = add-mul count (most - count) size in
-    let all : count + (most - count) ≡ most = omega arith in
-    grind arith
+blocks_fit from at count most size all is within room = grind arith
 
 pub blocks_more : (from at count read size j : ℕ) → at ≡ from + count * size → j ≡ size → at + read * j ≡ from + (count + read) * size
-blocks_more from at count read size j is same =
-    let both : (count + read) * size ≡ count * size + read * size = add-mul count read size in grind arith
+blocks_more from at count read size j is same = grind arith
 
 pub len-joined : (old mid new block next read size : ℕ) → block ≤ next → mid ≤ old + (next - block) * size → new ≤ mid + read * size
     → new ≤ old + (next + read - block) * size
-len-joined old mid new block next read size forward front more =
-    let sum : next + read - block ≡ next - block + read = omega arith in
-    grind arith
+len-joined old mid new block next read size forward front more = grind arith
 
 -- a capacity too small for the next blocks is too small for all up to the end
 pub len-lacking : (old mid block next end asked size j capacity grown : ℕ) → size ≡ j → block ≤ next → mid ≤ old + (next - block) * j

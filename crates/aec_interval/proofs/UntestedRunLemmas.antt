@@ -1,6 +1,6 @@
 -- Runs of zero blocks that need no test of their places.
 use Rattle.std.proofs.Common.{◌≡◌, ℕ, ◌+◌, ◌-◌, ◌*◌, ◌%◌, ◌<◌, ◌≤◌, ◌&&◌, Bool, true, false, Option, Some, None, ℤ, List, [], ◌++◌, take, drop, length, replicate, refl, sym, ap, ◌∙◌, subst, arith}
-use Rattle.std.proofs.Math.Nat.{mul_comm, mul-le-mul_right}
+use Rattle.std.proofs.Math.Nat.{mul-le-mul_right}
 use Rattle.std.proofs.lemmas.List.{take_at, length-replicate, length-take, length-drop}
 use Rattle.std.proofs.lemmas.Slice.{take-put_mid}
 use borrow.Rule.Slice.PartMut.{put_mid}
@@ -134,7 +134,7 @@ run_in_front s z k all part x within size len part_is =
     rw (take_at part (drop k all) (z * s.block_size) (rw (repeated, length-replicate) size), repeated, size)
   where
     room : k ≤ length all
-    room = omega (arith, mul-le-mul_right s.block_size within, mul_comm s.interval s.block_size)
+    room = grind arith
 
     repeated : part ≡ replicate k x
     repeated = part_is ∙ ap (λ n. replicate n x) (omega (arith, length-take k all, room))

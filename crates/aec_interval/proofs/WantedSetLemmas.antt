@@ -1,6 +1,6 @@
 -- A coded data set that is wanted and was found: the block after it, or its fault.
 use Rattle.std.proofs.Common.{◌≡◌, ◌+◌, ◌*◌, ◌%◌, ◌<◌, ◌≤◌, ◌∷◌, ◌++◌, if◌then◌else◌}
-use Rattle.std.proofs.Common.{ℕ, lit≤, Bool, true, false, Option, Some, None, List, [], refl, sym, subst, arith, Ok, Err, IfSome, nat_lt}
+use Rattle.std.proofs.Common.{ℕ, Bool, true, false, Option, Some, None, List, [], refl, sym, subst, arith, Ok, Err, IfSome, nat_lt}
 use Rattle.std.proofs.Math.Nat.{mod-lt, le-mul_of_pos_right}
 use Rattle.std.proofs.lemmas.Grind.{div_ceil_times}
 use Rattle.std.proofs.lemmas.Bool.{le-leb, lt-leb, leb-true, ltb-true, ltb-false}
@@ -14,7 +14,6 @@ use Rattle.aec_params.specs.Places.{segment_left, body_blocks, block_count, is_r
 use Rattle.aec_params.specs.Reading.{next_block, next_begin, begin_of, is_wanted, keeps_limit, LeadsTo}
 use Rattle.aec_params.specs.Faults.{IsNotRead, IsWrongAt, not_read, too_long, too_many}
 use Rattle.aec_params.proofs.SettingLaws.{block_size-positive, block_size-most, interval-positive}
-use Rattle.aec_params.proofs.StreamLaws.{run_len-some}
 use Rattle.aec_params.specs.Limits.{most_blocks, most_samples}
 use Rattle.aec_bits.specs.BitReader.{Cursor}
 use Rattle.aec_block.specs.declared.cds.RunLen.{RunLen}
@@ -83,13 +82,7 @@ run_count-body_len s p (split_values k values) = refl
 run_count-body_len s p (zero_blocks m) = run_count-run_len_of s p m
 
 count-some : (s : Settings) (p : ℕ) (c : CodedDataSet) → p < s.interval → 1 ≤ block_count s p c
-count-some s p c within = of_body c.body
-  where
-    of_body : (body : Body) → 1 ≤ body_blocks s p body
-    of_body (uncompressed_values values) = lit≤ tt
-    of_body (value_pairs members) = lit≤ tt
-    of_body (split_values k values) = lit≤ tt
-    of_body (zero_blocks m) = run_len-some s p m within
+count-some s p c within = grind arith
 
 -- lawful coded data sets lead from block `first` to block i, where another is wanted
 module _ {s : Settings} {count : Option ℕ} {limit first start : ℕ} (old new : Cursor) {i : ℕ} (allowed : IsAllowed s)

@@ -22,6 +22,7 @@ use Rattle.aec_params.proofs.PatternLaws.{pattern-reaches}
 use Rattle.aec_block.specs.Unmapping.{Unmaps}
 use Rattle.aec_block.proofs.MappingLemmas.{mapped_value-pattern}
 use Rattle.aec_block.proofs.ListMappingLemmas.{last_or-append}
+use Rattle.aec_interval.proofs.ChunkLemmas.{last_or-replicate}
 use Rattle.aec_interval.proofs.MappedLemmas.{mapped_after-replicate}
 use Rattle.aec_interval.proofs.NextFillLemmas.{held-zero, held-last_sample, mapped_value-self, fills_single, fills_reference, reference-below}
 
@@ -79,7 +80,7 @@ pub no_reference-later : (s : Settings) (i k : ℕ) → 1 ≤ k → i % s.interv
 no_reference-later s i k some within = rw not_first tt
   where
     place : (i + k) % s.interval ≡ i % s.interval + k
-    place = ap (λ n. n % s.interval) (omega arith) ∙ mod-mul-add (i / s.interval) s.interval (i % s.interval + k) within
+    place = grind arith
 
     and_false : (b : Bool) → (b && false) ≡ false
     and_false true = refl
@@ -144,11 +145,7 @@ sample_of_zeros-plain s reference old is off = rw (is, off)
 
 -- a block has a reference only with preprocessing
 reference-on : (s : Settings) (p r : ℕ) → HasReference s (is_reference_block s p) (Some r) → s.preprocess ≡ true
-reference-on s p r due = by_preprocess s.preprocess refl due
-  where
-    by_preprocess : (b : Bool) → s.preprocess ≡ b → HasReference s (b && (p == 0)) (Some r) → s.preprocess ≡ true
-    by_preprocess true on due = on
-    by_preprocess false off due = absurd due
+reference-on s p r due = grind arith
 
 -- the sample of a pattern
 pub sample-of-pattern : (s : Settings) (m : ℕ) → IsAllowed s → m < 2 ^ s.bits → IsHeld s (pattern_value s m) × (sample_pattern s (pattern_value s m) ≡ m)
@@ -180,7 +177,7 @@ repeats-zeros s i old None x allowed filled due is = by_preprocess s.preprocess 
         record {
           held = held;
           later = itself;
-          begins = λ p none at. ap (λ (q : ℤ). mapped_value s q x) (at ∙ sym last) ∙ itself;
+          begins = λ p none is_p. rw (is_p, ← last) itself;
           pattern = λ r e. absurd (cc);
         }
     by_preprocess false off =
@@ -204,11 +201,7 @@ fills-one s old (Some r) x allowed next repeats =
 
 last_sample-repeated : (old : List ℤ) (n : ℕ) (x : ℤ) → 0 < n → last_sample (old ++ replicate n x) ≡ x
 last_sample-repeated old zero x some = absurd (omega arith)
-last_sample-repeated old (suc n) x some = rw (last_or-append, same n)
-  where
-    same : (n : ℕ) → last_or (Some x) (replicate n x) ≡ Some x
-    same zero = refl
-    same (suc n) = same n
+last_sample-repeated old (suc n) x some = rw (last_or-append, last_or-replicate x n)
 
 -- one more block of a run, after at least one
 fills-longer : (s : Settings) (i z : ℕ) (old : List ℤ) (reference : Option ℕ) (x : ℤ) → IsAllowed s → 1 ≤ z → i % s.interval + z < s.interval
@@ -228,8 +221,7 @@ fills-longer s i z old reference x allowed some within filled repeats before =
     again = record {
       held = repeats.held;
       later = repeats.later;
-      begins = λ p none at. ap (λ (q : ℤ). mapped_value s q x)
-          (at ∙ last_sample-repeated old (z * s.block_size) x (mul-pos some (block_size-positive s allowed))) ∙ repeats.later;
+      begins = λ p none is_p. rw (is_p, last_sample-repeated old (z * s.block_size) x (mul-pos some (block_size-positive s allowed))) repeats.later;
       pattern = λ r e. absurd (cc);
     }
 
