@@ -2,8 +2,8 @@
 """Tests the packages of `make dist`, installed where there is no kit and, if they need none, no Python or compiler: packages.py [--quick]
 
 Runs `make dist` here and in a copy of the checkout elsewhere, and compares the bytes. Installs each package into an empty root, runs
-README's commands there, removes the package, and looks for files that are left. Then tests the wheel in fresh environments, and the
-Rust crate over the packed archive. All versions must be that of the file VERSION.
+README's commands and debian/tests there, removes the package, and looks for files that are left. Then tests the wheel in fresh
+environments, and the Rust crate over the packed archive. All versions must be that of the file VERSION.
 
 A part that needs a missing program is skipped, with a line. MUST_RUN names programs (`lintian cargo`): if one of them is missing, the
 test fails. If MUST_RUN contains the word `proved`, the test also fails if a binary of bin/ isn't what a proving build has written at

@@ -1,39 +1,62 @@
-"""Tests the Debian packages by lintian and by apt, for packages.py."""
+"""Tests the Debian packages by lintian, by apt and by the tests of debian/tests, for packages.py."""
 
+import os
+import re
 import subprocess
 
-from lib.package_modules import version
+from lib.package_modules import TOP, version
 
-# For apt, which fetches the packages that ours need.
+# For apt, which fetches the packages that ours and their tests need.
 APT_SECONDS = 900
 # Commands in a root where all packages are installed.
 USE = """set -e
-cd /tmp
-printf '\\001\\000\\002\\000\\003\\000' > samples
 aecp --version
-aecp keep samples -n 16
-rm samples
-aecp back samples.aec
-od -An -tu1 samples
 python3 -c 'import aecp; print(aecp.decode_bytes(aecp.encode(bytes(8), aecp.Options(8)), 8, aecp.Options(8)))'
 test -e /usr/share/man/man1/aecp.1.gz -a -e /usr/share/bash-completion/completions/aecp
-rm samples samples.aec
+"""
+# What the tests of debian/tests read, and the one that can't be run in the root: it reads /proc/self.
+SOURCES = ("VERSION", "debian/tests", "docs/LIBRARY.md", "examples")
+LEFT_OUT = "module"
+# Runs such a test. It must print nothing to standard error, as autopkgtest demands.
+TEST = """cd /tmp/source
+AUTOPKGTEST_TMP=$(mktemp -d) debian/tests/{} 2> /tmp/errors
+status=$?
+! grep . /tmp/errors && exit $status
 """
 
 
+def tests_of_control():
+    """Returns the tests of debian/tests/control but LEFT_OUT, and the packages that they need."""
+    with open(os.path.join(TOP, "debian/tests/control"), encoding="utf-8") as file:
+        found = dict(re.findall(r"(?m)^Tests: (.*)\nDepends: (.*)$", file.read()))
+    del found[LEFT_OUT]
+    return list(found), sorted({name for names in found.values() for name in names.split(", ")})
+
+
+def try_tests(tests, root, tally):
+    """Runs tests of debian/tests on the installed packages."""
+    for name in SOURCES:
+        root.copy(os.path.join(TOP, name), f"/tmp/source/{name}")
+    for name in tests:
+        status, said = root.run(TEST.format(name))
+        tally.holds(status == 0, f"debian/tests/{name}: {said}")
+
+
 def try_apt(made, root, tally):
-    """Installs all Debian packages by apt, which fetches what they need, uses the command aecp, and removes them."""
+    """Installs all Debian packages by apt, which fetches what they need, runs the tests of debian/tests, and removes the packages."""
     if not root.is_debian:
         tally.skip("debootstrap", "apt install of the Debian packages")
         return
     debs = sorted(name for name in made if name.endswith(".deb"))
     for deb in debs:
         root.copy(made[deb], f"/tmp/apt/{deb}")
-    before = root.files()
-    status, said = root.run("apt-get update -q && apt-get install -qy --no-install-recommends /tmp/apt/*.deb", APT_SECONDS)
+    before, (tests, needed) = root.files(), tests_of_control()
+    words = f"apt-get install -qy --no-install-recommends /tmp/apt/*.deb {' '.join(needed)}"
+    status, said = root.run(f"apt-get update -q && {words}", APT_SECONDS)
     tally.holds(status == 0, f"apt-get install ./dist/*.deb: {said[-2000:]}")
     status, said = root.run(USE)
-    tally.holds(status == 0 and f"aecp {version()}" in said and "1   0   2   0   3   0" in said, f"aecp of the Debian package: {said}")
+    tally.holds(status == 0 and f"aecp {version()}" in said, f"aecp of the Debian package: {said}")
+    try_tests(tests, root, tally)
     names = " ".join(deb.partition("_")[0] for deb in debs)
     status, said = root.run(f"apt-get purge -qy {names}", APT_SECONDS)
     tally.holds(status == 0, f"apt-get purge: {said[-2000:]}")
