@@ -33,4 +33,6 @@ ld -r --gc-sections $roots -o "$work/all.o" --whole-archive "${ARCHIVE:-$archive
 objcopy --wildcard --keep-global-symbol='aecp_*' "$work/all.o" "$work/aecp.o"
 rm -f "$bin/libaecp.a"
 ar rcs "$bin/libaecp.a" "$work/aecp.o"
-${CC:-cc} -shared -o "$bin/libaecp.so" "$work/aecp.o" -Wl,-soname,libaecp.so.1 -Wl,--version-script=bindings/c/aecp.map -Wl,-z,defs
+# The shared library binds its calls of the C library when it is loaded; then their addresses are read-only.
+${CC:-cc} -shared -o "$bin/libaecp.so" "$work/aecp.o" -Wl,-soname,libaecp.so.1 -Wl,--version-script=bindings/c/aecp.map \
+    -Wl,-z,defs -Wl,-z,relro -Wl,-z,now

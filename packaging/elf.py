@@ -1,4 +1,4 @@
-"""Finds with `objdump` what a built file needs of the C library."""
+"""Finds with `objdump` what a built file needs of the C library, and how it is linked."""
 
 import re
 import subprocess
@@ -24,3 +24,9 @@ def glibc_needed(path):
 def libraries_needed(path):
     """Returns the names of the shared libraries that a file needs."""
     return sorted(re.findall(r"^ +NEEDED +(\S+)", headers(path), re.M))
+
+
+def is_bound_at_load(path):
+    """Returns whether a file is linked with `-z relro` and `-z now`."""
+    text = headers(path)
+    return bool(re.search(r"(?m)^ +RELRO ", text) and re.search(r"(?m)^ +FLAGS_1 +0x[0-9a-f]*[13579bdf]$", text))

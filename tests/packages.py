@@ -175,13 +175,14 @@ def try_wheel_libraries(made, tally):
 
 
 def try_symbols(made, tally):
-    """Checks that the binaries need no newer C library than the packages say, and no other library."""
+    """Checks that the binaries need no newer C library than the packages say, and no other library, and how they are linked."""
     paths = {name: os.path.join(TOP, "bin", name) for name in BINARIES if not name.endswith(".a")}
     needs = {name: elf.glibc_needed(path) for name, path in paths.items()}
     library, program = (max(it for name, it in needs.items() if name.endswith(end)) for end in ("libaecp.so", "aec"))
     tally.holds(library <= python.glibc_allowed(), f"the wheel is for {python.platform_tag()}, and the library needs glibc {library}")
     for path in paths.values():
         tally.holds(set(elf.libraries_needed(path)) <= {"libc.so.6"}, f"{path} needs {elf.libraries_needed(path)}")
+        tally.holds(elf.is_bound_at_load(path), f"{path} isn't linked with -z relro and -z now")
     told = subprocess.run(["dpkg-deb", "-f", made[f"aec-proved_{version()}_amd64.deb"], "Depends"], capture_output=True, text=True).stdout
     tally.check("what the package of the program needs", told.strip(), "libc6 (>= {}.{})".format(*program))
     print("glibc: the program needs {}.{}, the library {}.{}".format(*program, *library))
