@@ -58,18 +58,18 @@ pub record IsCutAt (f : Format) (s : List ℤ) (i : ℕ) (cut : Cut) : Type 0 wh
   pub interval : cut.interval ≡ i
   pub bit : cut.bit ≡ start_of f s i
 
--- starts of which those from number from up to number to are replaced by others, each moved on by
--- base, and those after them moved from old_end on to new_end on
-abbrev pub with_starts : List ℕ → ℕ → ℕ → List ℕ → ℕ → ℕ → ℕ → List ℕ
-with_starts starts from to with base old_end new_end =
-    take from starts ++ (map (λ x. base + x) with ++ map (λ x. x - old_end + new_end) (drop to starts))
+-- starts of which those between two cuts are replaced by others, each moved on by the first cut's
+-- bit, and those after them moved from the second cut's bit on to new_end on
+abbrev pub with_starts : List ℕ → Cut → Cut → List ℕ → ℕ → List ℕ
+with_starts starts from to with new_end =
+    take from.interval starts
+    ++ (map (λ x. from.bit + x) with ++ map (λ x. x - to.bit + new_end) (drop to.interval starts))
 
 -- other code was inserted between two cuts, and the starts after them were moved
 pub record IsReplaced (old new with : Coded) (from to : Cut) (count : ℕ) : Type 0 where
   pub bits : new.bits.list ≡ take from.bit old.bits.list ++ (with.bits.list ++ drop to.bit old.bits.list)
   pub starts : new.starts.items
-      ≡ with_starts old.starts.items from.interval to.interval with.starts.items from.bit to.bit
-      (from.bit + length with.bits.list)
+      ≡ with_starts old.starts.items from to with.starts.items (from.bit + length with.bits.list)
   pub count_is : new.count ≡ count
 
 -- starts that can be moved on by base
@@ -82,11 +82,11 @@ pub record CanShift (at old_end new_end : ℕ) (starts : List ℕ) : Type 0 wher
   pub end_few : new_end ≤ 2 ^ 63
   pub later : AreLater at old_end (2 ^ 62) starts
 
--- a list of starts in which others can replace those from number from up to number to
-pub record CanTakeStarts {Z : Type 0} (starts : Vec ℕ Z) (from to : ℕ) (with : List ℕ)
-    (base old_end new_end : ℕ) : Type 0 where
-  pub order : from ≤ to
-  pub within : to ≤ vec_len starts
-  pub room : vec_len starts + length with ≤ vec_capacity starts + (to - from)
-  pub moved : CanMoveOn base with
-  pub shifted : CanShift to old_end new_end starts.items
+-- a list of starts in which others can replace those between two cuts
+pub record CanTakeStarts {Z : Type 0} (starts : Vec ℕ Z) (from to : Cut) (with : List ℕ) (new_end : ℕ)
+    : Type 0 where
+  pub order : from.interval ≤ to.interval
+  pub within : to.interval ≤ vec_len starts
+  pub room : vec_len starts + length with ≤ vec_capacity starts + (to.interval - from.interval)
+  pub moved : CanMoveOn from.bit with
+  pub shifted : CanShift to.interval to.bit new_end starts.items

@@ -88,21 +88,13 @@ impl Coded {
     {
         prove!(to.bit <= self.bits.len());
         let gained = with.bits.len().saturating_sub(to.bit - from.bit);
-        let (first, last) = (from.interval as usize, to.interval as usize);
+        let dropped = (to.interval - from.interval) as usize;
         self.bits.reserve(gained)?;
         self.starts
-            .reserve(with.starts.len().saturating_sub(last - first))?;
+            .reserve(with.starts.len().saturating_sub(dropped))?;
         self.bits.splice(from.bit, to.bit, &with.bits).unwrap();
         let new_end = from.bit + with.bits.len();
-        replace_starts(
-            &mut self.starts,
-            first,
-            last,
-            &with.starts,
-            from.bit,
-            to.bit,
-            new_end,
-        );
+        replace_starts(&mut self.starts, from, to, &with.starts, new_end);
         self.count = count;
         Ok(())
     }

@@ -3,24 +3,20 @@
 ghost use Rattle.std.specs.Prelude.{◌≡◌, ◌+◌, ◌-◌, ◌^◌, ◌≤◌, ◌++◌, length, map, take, drop, replicate, vec_len, vec_capacity};
 ghost use Rattle.aec_edit.specs.CodedLists.{CanMoveOn, CanShift, with_starts, CanTakeStarts};
 
-/// Replaces the starts from number `from` up to number `to` by those in `with`, each plus `base`,
-/// and adds `new_end - old_end` to each start after them. There must be room for the new starts.
-pub(crate) fn replace_starts(
-    starts: &mut Vec<u64>,
-    from: usize,
-    to: usize,
-    with: &[u64],
-    base: u64,
-    old_end: u64,
-    new_end: u64,
-)
-    requires { CanTakeStarts starts.old from to with.now base old_end new_end }
-    ensures { starts.new.items
-        ≡ with_starts starts.old.items from to with.now base old_end new_end }
+use crate::coded::Cut;
+
+/// Replaces the starts of the intervals between two cuts by those in `with`, each plus the bit of
+/// the first cut, and adds `new_end` minus the bit of the second to each start after them. There
+/// must be room for the new starts.
+pub(crate) fn replace_starts(starts: &mut Vec<u64>, from: Cut, to: Cut, with: &[u64], new_end: u64)
+    requires { CanTakeStarts starts.old from to with.now new_end }
+    ensures { starts.new.items ≡ with_starts starts.old.items from to with.now new_end }
 {
-    move_later(starts, to, from + with.len());
-    write_starts(starts.as_mut_slice(), from, with, base);
-    shift_starts(starts.as_mut_slice(), from + with.len(), old_end, new_end);
+    let first = from.interval as usize;
+    let end = first + with.len();
+    move_later(starts, to.interval as usize, end);
+    write_starts(starts.as_mut_slice(), first, with, from.bit);
+    shift_starts(starts.as_mut_slice(), end, to.bit, new_end);
 }
 
 /// Moves the starts from number `from` on to number `to`, and makes the list longer or shorter by

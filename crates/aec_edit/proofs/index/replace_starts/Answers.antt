@@ -15,5 +15,5 @@ returns c =
     let last_len : length last ≡ count = omega (arith, ap length given) in
     let shifted = rw given at c.shift_starts.ensures in
     take_at last _ count last_len
-    ∙ replaced (λ x. c.args.base + x) (λ x. x - c.args.old_end + c.args.new_end) c.args.starts.now.items c.args.with.now moved first last c.args.from c.args.to
-    c.requires.order (omega (arith, c.args.starts.now.ok.0)) c.move_later.ensures.items written shifted
+    ∙ replaced (λ x. c.args.from.bit + x) (λ x. x - c.args.to.bit + c.args.new_end) c.args.starts.now.items c.args.with.now moved first last
+    c.args.from.interval c.args.to.interval c.requires.order (omega (arith, c.args.starts.now.ok.0)) c.move_later.ensures.items written shifted
