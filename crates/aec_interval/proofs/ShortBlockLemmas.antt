@@ -1,5 +1,5 @@
 -- The values of a short block, pushed one by one.
-use Rattle.std.proofs.Common.{◌≡◌, ℕ, suc, ◌+◌, ◌<◌, Option, ℤ, pos, List, [], ◌∷◌, ◌++◌, length, drop, get_or, drop-cons, append_assoc, sym, ap, ◌∙◌, arith}
+use Rattle.std.proofs.Common.{◌≡◌, ℕ, suc, ◌+◌, ◌<◌, Option, ℤ, pos, List, [], ◌∷◌, ◌++◌, length, drop, get_or, drop-cons, append_assoc, arith}
 use Rattle.std.specs.Prelude.{unwrap_or}
 use Rattle.std.specs.List.{AllByRecursion}
 use Rattle.aec_params.specs.declared.settings.Settings.{Settings}
