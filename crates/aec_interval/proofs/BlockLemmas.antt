@@ -31,7 +31,7 @@ whole_pieces n h = by_pieces (λ xs. (k : ℕ) → length xs ≡ k * n → AllBy
   where
     less : {X : Type 0} (front rest : List X) → length front ≡ n → (k : ℕ) → length (front ++ rest) ≡ k * n → length rest ≡ (k - 1) * n
     less front rest f zero e = omega (arith, length-append front rest)
-    less front rest f (suc k) e = let z : suc k - 1 ≡ k = omega arith in grind (arith, length-append)
+    less front rest f (suc k) e = grind (arith, length-append)
 
     full : {X : Type 0} (front rest : List X) → IsPieceBefore n front rest → (k : ℕ) → length (front ++ rest) ≡ k * n → length front ≡ n
     full front rest piece zero e = absurd (omega (arith, length-append front rest))

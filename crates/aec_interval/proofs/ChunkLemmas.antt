@@ -57,7 +57,6 @@ last_or-replicate y (suc n) = last_or-replicate y n
 last_or-filled : (s : Settings) (o : Option ℤ) (x : ℤ) (xs : List ℤ) → last_or o (filled_samples s (x ∷ xs)) ≡ last_or o (x ∷ xs)
 last_or-filled s o x xs =
     let last = last_or-some x xs in
-    let n = up_to_multiple s.block_size (length (x ∷ xs)) in
     rw (last_or-append, last.1, last_or-replicate)
 
 -- one block is filled up to J samples

@@ -55,7 +55,6 @@ pub groups_of-zeros : (s : Settings) (reference : Option ℕ) (k : ℕ) (blocks 
     → groups_of (zero_block s reference ∷ (replicate k (zero_block s None) ++ blocks)) ≡ with_zeros reference (suc k) (groups_of blocks)
 groups_of-zeros s reference zero blocks = rw (zeros-all, with_zeros-one)
 groups_of-zeros s reference (suc k) blocks =
-    let later = groups_of (zero_block s None ∷ (replicate k (zero_block s None) ++ blocks)) in
     cc (zeros-all s.block_size, groups_of-zeros s None k blocks, with_zeros-more reference k (groups_of blocks))
 
 abbrev pub run_set : Option ℕ → ℕ → CodedDataSet

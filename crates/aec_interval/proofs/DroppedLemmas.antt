@@ -157,7 +157,6 @@ count-from limit start (Some n) fault is = by_test (nat_lt limit n) is
 pub count-refuses-at : {X : Type 0} (r : Result X Fault) (fault : Fault) (s : Settings) (count : Option ℕ) (limit start : ℕ) (bits : List Bool)
     → r ≡ Err fault → Some fault ≡ count_refusal limit count → IfErr r (λ fault. RefusesDecodingAt s count limit bits start fault)
 count-refuses-at {X} r fault s count limit start bits is above =
-    let P : Result X Fault → Type 0 = λ r. IfErr r (λ fault. RefusesDecodingAt s count limit bits start fault) in
     rw is (record { alone = fault; refuses = above_limit fault (sym above); counted = count-from limit start count fault (sym above) })
 
 -- ---- by the result of the call

@@ -29,7 +29,7 @@ pub AreOfInterval-format : (s : Settings) (v : List ℤ) → IsInterval (interva
 AreOfInterval-format s v h = record { held = all-held s v h.held; some = h.some; fits = h.few }
 
 interval-most : (s : Settings) → IsAllowed s → s.interval ≤ 4096
-interval-most s allowed = let b = allowed.interval in grind arith
+interval-most s allowed = grind arith
 
 pub interval_len-most : (s : Settings) → IsAllowed s → interval_len s ≤ 262144
 interval_len-most s a = mul-le-mul (block_size-most s a) (interval-most s a)

@@ -33,7 +33,6 @@ pub with_reference-push : (reference : Option ℕ) (groups : List (List ℕ)) (v
 with_reference-push reference [] values some = absurd (omega arith)
 with_reference-push reference (first ∷ groups) values some =
     let block : List ℕ → Block = λ values. record { reference = None; values = values } in
-    let first_block : Block = record { reference = reference; values = first } in
     rw (map-append block groups)
 
 -- one piece more after whole pieces

@@ -101,7 +101,6 @@ unmaps-reference_place s x values old new allowed on held placed unmaps =
         → Unmaps s x (drop 1 values) (old ++ x ∷ []) new
     by_samples [] appended all mapped = absurd (cc)
     by_samples (y ∷ ys) appended all mapped =
-        let both : mapped_value s x y ∷ mapped_after s y ys ≡ 0 ∷ drop 1 values = mapped in
         let none : mapped_value s x y ≡ 0 = cc in
         let later : mapped_after s y ys ≡ drop 1 values = cc in
         let same : y ≡ x = mapped_value-one_to_one s x y x allowed held all.0 held (none ∙ sym (mapped_value-self s x allowed on held)) in

@@ -36,10 +36,7 @@ module _ (s : Settings) (a : IsAllowed s) (samples : List ℤ) (i : ℕ) (within
 
   rest-is : (rest : List Bool) → drop (interval_begin s i samples) (stream_of s samples ++ rest)
       ≡ stream_of s (drop (i * interval_len s) samples) ++ rest
-  rest-is rest =
-      let xs = drop (i * interval_len s) samples in
-      let first = stream_of s (take (i * interval_len s) samples) in
-      rw (cut_code, append_assoc, drop_at)
+  rest-is rest = rw (cut_code, append_assoc, drop_at)
 
   read_there : AllByRecursion (IsHeld s) samples → (rest : List Bool) (limit k : ℕ) → k ≤ length samples - i * interval_len s
       → IsReading s (Some k) limit (drop (interval_begin s i samples) (stream_of s samples ++ rest)) (take k (drop (i * interval_len s) samples))

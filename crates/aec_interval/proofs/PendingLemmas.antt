@@ -5,7 +5,7 @@ use Rattle.std.proofs.lemmas.List.{take_at}
 use Rattle.aec_params.specs.declared.settings.Settings.{Settings}
 use Rattle.aec_params.specs.Blocks.{Block, is_zero_block}
 use Rattle.aec_params.specs.CodedDataSets.{cds_bits}
-use Rattle.aec_params.specs.Runs.{Group, single_block, groups_of}
+use Rattle.aec_params.specs.Runs.{Group, single_block}
 use Rattle.aec_params.specs.Intervals.{group_sets}
 use Rattle.aec_block.specs.Written.{shortest_bits}
 use Rattle.aec_interval.specs.declared.interval.pending_run.Run.{Run}
@@ -28,10 +28,7 @@ bits-run_before s reference (suc z) b groups = refl
 pub pending-filled : (s : Settings) (run : Run) (b : Block) (rest : List Block) (old mid new : List Bool) → is_zero_block b ≡ false
     → mid ≡ old ++ bits_of_run s run.reference run.blocks false → new ≡ mid ++ shortest_bits s b
     → new ++ pending_bits s (record { reference = None; blocks = 0 }) rest ≡ old ++ pending_bits s run (b ∷ rest)
-pending-filled s run b rest old mid new filled is_mid is_new =
-    let before = bits_of_run s run.reference run.blocks false in
-    let more = flat_map (cds_bits s) (group_sets s (groups_of rest)) in
-    rw (is_new, is_mid, append_assoc, append_assoc, filled, bits-run_before)
+pending-filled s run b rest old mid new filled is_mid is_new = rw (is_new, is_mid, append_assoc, append_assoc, filled, bits-run_before)
 
 -- ---- bits that are kept
 

@@ -205,9 +205,7 @@ reached-start s count limit bits first start b samples begins none =
 
 pub counting-refuses : {X : Type 0} (r : Result X Fault) (fault : Fault) (s : Settings) (count : Option ℕ) (limit : ℕ) (bits : List Bool)
     → r ≡ Err fault → Some fault ≡ count_refusal limit count → IfErr r (λ fault. RefusesDecoding s count limit bits fault)
-counting-refuses {X} r fault s count limit bits is above =
-    let P : Result X Fault → Type 0 = λ r. IfErr r (λ fault. RefusesDecoding s count limit bits fault) in
-    rw is (above_limit fault (sym above))
+counting-refuses {X} r fault s count limit bits is above = rw is (above_limit fault (sym above))
 
 -- a refusal to read a list is a refusal to read equal bits
 pub reading-refuses : (s : Settings) (count : Option ℕ) (limit : ℕ) (bits list : List Bool) (first start : ℕ) (fault : Fault)

@@ -232,7 +232,6 @@ front_kept xs part at k within = take_at (take at xs) (part ++ drop k (drop at x
 front_and_part : (xs part : List ℤ) (at k q : ℕ) → at ≤ length xs → q ≤ length part → take (at + q) (put_mid at k xs part) ≡ take at xs ++ take q part
 front_and_part xs part at k q within few =
     let front : List ℤ = take at xs in
-    let tail : List ℤ = drop k (drop at xs) in
     let long : at + q ≡ length front + q = omega (arith, length-take-le at xs within) in
     rw (long, take-append-add, take-append-le)
 
@@ -281,9 +280,7 @@ module _ (s : Settings) (n most at len : ℕ) (samples : List ℤ) (place : at �
 
 -- the samples of the first blocks, and of the others
 pub rest_len : (first n j r len : ℕ) → first ≤ r → n ≡ j → len ≡ j * r → len ≡ first * n + (r - first) * j
-rest_len first n j r len within same is =
-    let all : first + (r - first) ≡ r = omega arith in
-    grind (arith, add-mul)
+rest_len first n j r len within same is = grind (arith, add-mul)
 
 pub part_fits : (at count most len interval total : ℕ) → at ≡ count * len → count < most → len ≡ interval → most * interval ≤ total → at + len ≤ total
 part_fits at count most len interval total place below same room = grind arith
@@ -292,7 +289,6 @@ pub whole_within : (first n r j samples left len : ℕ) → 0 < n → 0 < len �
     → (first + n * r) * j ≤ samples
 whole_within first n r j samples left len some positive len_is left_is within =
     let most : n * len ≤ left / len * len = mul-le-mul_right len within in
-    let least : 1 * len ≤ n * len = mul-le-mul_right len (omega arith) in
     grind arith
 
 pub parts_within : (k q total len interval most : ℕ) → k ≤ q → q ≡ total / len → len ≡ interval → total ≤ most → k * interval ≤ most
@@ -309,7 +305,7 @@ within_few s count limit first n allowed few within = ⊎_elim some none (cases_
         omega (arith, few_samples count limit is.low is.counted, le-mul_of_pos_right last (block_size-positive s allowed))
 
     none : n ≤ 0 → first + n * s.interval < most_blocks
-    none least = let nothing : n ≡ 0 = omega arith in grind arith
+    none least = grind arith
 
 -- ---- by places
 

@@ -64,7 +64,7 @@ asked_of f c k j n most = ⊎_elim fewer all (cases_lt (c - f) k)
         grind arith
 
     all : k ≤ c - f → min (n - f * j) (min (c - f) k * j) ≡ min (k * j) (n - f * j)
-    all h = let least : min (c - f) k ≡ k = omega arith in grind arith
+    all h = grind arith
 
 length-counted_from : (s : Settings) (count : Option ℕ) (limit : ℕ) (bits : List Bool) (first start : ℕ) (sets : List CodedDataSet) (i b : ℕ) (all : List ℤ)
     → IsAllowed s → LeadsTo s count limit bits first start sets i b → FillBlocks s all (kept_blocks s count first (stream_blocks s first sets))

@@ -3,7 +3,7 @@ use Rattle.std.proofs.Common.{◌≡◌, ℕ, ◌+◌, ◌-◌, ◌*◌, ◌/◌
 use Rattle.std.specs.Prelude.{ℤ, ◌==◌, if◌then◌else◌}
 use Rattle.std.specs.List.{AllByRecursion, flat_map}
 use Rattle.std.specs.Int.{div_ceil}
-use Rattle.std.proofs.Math.Nat.{add-mul-div_right, add-mul-mod_self_right, mul-mod_left}
+use Rattle.std.proofs.Math.Nat.{add-mul-div_right, mul-mod_left}
 use Rattle.std.proofs.lemmas.List.{length-append, length-replicate, append_assoc, append-nil, take_all}
 use Rattle.std.proofs.Math.Seq.{take-append-add}
 use Rattle.std.proofs.lemmas.Bool.{cases_Bool, and_from, and_left, eq-eqb}
@@ -32,7 +32,6 @@ pub div_ceil-add : (k m n : ℕ) → 0 < n → div_ceil (n * k + m) n ≡ k + di
 div_ceil-add k m n h =
     let e : n * k + m ≡ m + k * n = omega arith in
     let q = ap (λ x. x / n) e ∙ add-mul-div_right m k h in
-    let r = ap (λ x. x % n) e ∙ add-mul-mod_self_right m k n in
     grind arith
 
 pub stream_of-nil : (s : Settings) → IsAllowed s → stream_of s [] ≡ []

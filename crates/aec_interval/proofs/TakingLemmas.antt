@@ -65,9 +65,7 @@ bad_step None i k later ih e =
     let same : i ≡ k = cc in
     omega arith
 bad_step (Some x) i k (Ok xs) ih e = absurd (cc)
-bad_step (Some x) i k (Err m) ih e =
-    let same : m ≡ k = cc in
-    omega (arith, ih)
+bad_step (Some x) i k (Err m) ih e = omega (arith, ih)
 
 -- the number of a bad sample is not below that of the first sample
 pub bad_behind : (s : Settings) (i k : ℕ) (gs : List (List ℕ)) → samples_of_groups s i gs ≡ Err k → i ≤ k
@@ -129,7 +127,7 @@ taken_within s limit gs none = few (length (taken_groups s limit 0 gs).samples) 
 -- ---- samples that are all taken
 
 length-samples : (s : Settings) (i : ℕ) (groups : List (List ℕ)) (samples : List ℤ) → samples_of_groups s i groups ≡ Ok samples → length samples ≡ length groups
-length-samples s i [] samples e = let none : [] ≡ samples = cc in cc
+length-samples s i [] samples e = cc
 length-samples s i (group ∷ groups) samples e =
     by_first (sample_of_number s (number_in s group)) (samples_of_groups s (i + 1) groups) (λ xs is. length-samples s (i + 1) groups xs is) e
   where

@@ -1,6 +1,5 @@
 use Rattle.std.proofs.Common.{refl, arith, vec_len, vec_capacity}
 use Rattle.std.proofs.Math.Nat.{mul-le-mul_right}
-use Rattle.aec_block.specs.ReadCds.{as_cds}
 use Rattle.aec_interval.proofs.ReachedLemmas.{AreFilled-reached}
 use Rattle.aec_interval.proofs.RefusalLemmas.{of_refusal}
 use Rattle.aec_interval.proofs.WantedSetLemmas.{due_there, unread-wrong}
@@ -38,7 +37,6 @@ push_cds-requires-clause-some c =
 
 pub push_cds-requires-clause-next : goal.push_cds-requires-clause-next
 push_cds-requires-clause-next c =
-    let cds = as_cds c.in_ok-found.found c.read_into.new.block in
     rw c.reserve_blocks.ensures.items (next-cds c.args.reader.now c.read_into.new.reader c.has_reference.ensures.allowed c.requires.reached
     c.requires.wanted.wanted (due_there c.args.params.now _ _ _ c.has_reference.ensures.value c.requires.place) (c.stands_for.ensures _)
     c.in_ok-found.ensures.ok _ _ c.in_ok-next.ensures.value _ _ c.requires.wanted.aligned refl c.blocks_kept-kept.ensures)
@@ -53,7 +51,6 @@ returns-in_err-reserve_blocks-clause-refuses c =
 
 pub returns-clause-ok : goal.returns-clause-ok
 returns-clause-ok c =
-    let cds = as_cds c.in_ok-found.found c.read_into.new.block in
     reached-next c.args.reader.now c.read_into.new.reader c.has_reference.ensures.allowed c.requires.reached c.requires.wanted.wanted
     (due_there c.args.params.now _ _ _ c.has_reference.ensures.value c.requires.place)
     (c.stands_for.ensures _) c.in_ok-found.ensures.ok _ _ c.in_ok-next.ensures.value

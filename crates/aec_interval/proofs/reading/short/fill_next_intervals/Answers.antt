@@ -3,7 +3,6 @@ use Rattle.aec_interval.proofs.reading.short.fill_next_intervals.Goals as goal
 
 pub returns : goal.returns
 returns c =
-    let s = c.args.params.now in
     let mixed = c.fill_mixed_intervals-2 in
     let stays = c.fill_usual_intervals-zeros.ensures.stays (omega arith) in
     record {

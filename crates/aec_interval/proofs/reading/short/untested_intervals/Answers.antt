@@ -7,7 +7,6 @@ pub returns : goal.returns
 returns c =
     let s = c.args.params.now in
     let first = c.args.wanted.first in
-    let size : c.from.result ≡ s.block_size = search rules in
     let samples : c.unwrap_or-samples.result ≡ unwrap_or c.args.wanted.count c.args.wanted.limit = search rules in
     let len : c.interval_len.result ≡ interval_len s = c.interval_len.ensures.value in
     let left : c.saturating_sub.result ≡ unwrap_or c.args.wanted.count c.args.wanted.limit - first * s.block_size = grind arith in

@@ -10,7 +10,6 @@ fill_first_block-first-requires-clause-room g c =
 
 pub returns-clause-fills : goal.returns-clause-fills
 returns-clause-fills g c =
-    let s = c.args.params.now in
     let run = c.fill_first_run in
     let none : c.fill_first_block-first.result ≡ 0 = omega arith in
     let stays = c.fill_first_block-first.ensures.stays none in

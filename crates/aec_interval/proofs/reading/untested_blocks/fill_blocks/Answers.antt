@@ -36,7 +36,6 @@ returns-then-read-eq0-clause-fills g c =
     let inv = c.loop-count.invariant in
     let s = c.args.params.now in
     let fill = c.fill_next-read in
-    let none : fill.result ≡ 0 = c.if-read-eq0.true in
     let count : c.loop-count.count + fill.result ≡ c.loop-count.count = omega arith in
     let last : c.loop-count.at + fill.result * s.block_size ≡ c.args.from + c.loop-count.count * s.block_size = grind arith in
     record {

@@ -27,7 +27,6 @@ shared_ref_as_front-places c =
 
 pub overflow_add-from : goal.overflow_add-from
 overflow_add-from c =
-    let few : c.min-asked.result ≤ most_at_once c.args.params.now = search (rules, c.loop-next.invariant.few) in
     let more : c.fill_usual_blocks-read.result * c.block_size-size.result ≤ 256 =
     few_places _ _ _ c.block_size-size.ensures.value (block_size-most c.args.params.now c.block_size-size.ensures.allowed) (omega arith) in
     search (rules, more)
@@ -51,7 +50,6 @@ pub returns-in_err-extend_from_slice-clause-full : goal.returns-in_err-extend_fr
 returns-in_err-extend_from_slice-clause-full c =
     let inv = c.loop-next.invariant in
     let few : c.min-asked.result ≤ most_at_once c.args.params.now = search (rules, inv.few) in
-    let places = few_places _ _ _ c.block_size-size.ensures.value (block_size-most c.args.params.now c.block_size-size.ensures.allowed) few in
     on_refusal c.from_residual.result _ Memory c.from_residual.ensures.1
     (len-lacking (vec_len c.args.samples.now) (vec_len c.loop-next.samples) c.args.block c.loop-next.next c.args.end c.min-asked.result
     c.block_size-size.result c.args.params.now.block_size _ (vec_capacity c.loop-next.samples) c.block_size-size.ensures.value inv.forward inv.len
