@@ -7,8 +7,9 @@ program at PATH_OF_AEC
 - codes the samples, and decodes the stream;
 - cuts out two ranges: one of no samples, which checks the stream, and the last 1,000 samples;
 - edits the stream by scripts: one without lines, 100 lines that overwrite one sample each in the middle, 10,000 lines that
-  overwrite scattered samples in ascending order, 1,000 lines that do so in any order, 1,000 lines that append one value each, and
-  10,000 lines that insert one value each at scattered places;
+  overwrite scattered samples in ascending order, 1,000 lines that do so in any order, 1,000 lines that append one value each,
+  10,000 lines that insert one value each at scattered places; and a line that inserts a value, then 10,000 lines that overwrite
+  scattered samples in any order;
 - with J 16 r 128 also inserts a sample and removes 1,000 samples.
 
 The command-line client of libaec (named by the environment variable LIBAEC, else /usr/bin/aec) decodes the stream and codes it
@@ -39,6 +40,10 @@ SCRIPTS = [
     ("1,000 scattered samples in any order", [f"overwrite {place} {i}" for i, place in enumerate(SCATTERED[:1000])]),
     ("1,000 samples appended one by one", [f"append {i}" for i in range(1000)]),
     ("10,000 samples inserted at scattered places", [f"insert {place} {i}" for i, place in enumerate(SCATTERED)]),
+    (
+        "a sample inserted, then 10,000 scattered samples overwritten in any order",
+        ["insert 5 7", *(f"overwrite {place} {i}" for i, place in enumerate(SCATTERED))],
+    ),
 ]
 RANGES = [("none of its samples", 0, 0), ("the last 1,000 samples", SAMPLES - 1000, 1000)]
 # Scripts that move samples are run with one setting.
