@@ -14,7 +14,7 @@ from lib import script_model
 from hypothesis import strategies as st
 from hypothesis.stateful import RuleBasedStateMachine, initialize, invariant, precondition, rule
 from making import (
-    USUAL, keep, made, noise, numbers_of, options_of, parts_at, read, samples_at, settings_by_chance, sound_parts, walk,
+    USUAL, keep, made, noise, numbers_of, options_of, parts_at, read, samples_at, settings_by_chance, sound_parts, tree, walk,
     walks_for, words_of, write,
 )  # fmt: skip
 from plain_form import script_of
@@ -111,6 +111,17 @@ class Archive(RuleBasedStateMachine):
         before = read(self.path)
         refused(self.folder, "undo", "f.aec")
         assert read(self.path) == before
+
+    @rule()
+    def undo_all(self) -> None:
+        before = read(self.path)
+        ran = done(self.folder, "undo", "f.aec", "--all")
+        if not self.undone:
+            assert "there is no edit to undo" in ran.out and read(self.path) == before
+            return
+        self.entries += ["undo"] * len(self.undone)
+        (self.samples, stream), self.undone = self.undone[0], []
+        assert parts_at(self.path).stream == stream, "taken back, bit for bit"
 
     @rule(keep_count=st.integers(0, 4))
     def forget(self, keep_count: int) -> None:
@@ -296,6 +307,31 @@ def test_many_files_and_one_script(place: str) -> None:
     assert [command(place, "undo", it).status for it in names] == [1, 1, 1, 0, 0]
 
 
+def test_undo_all_of_a_folder(place: str) -> None:
+    """Each file gets the state in which it was kept, by as many entries as single undos make; a file without edits stays."""
+    for i in range(3):
+        keep(place, f"f{i}", walk(i, 500 + i))
+    first = [parts_at(os.path.join(place, f"f{i}.aec")).stream for i in range(3)]
+    for script, names in ((b"append 7 8 9\n", "f1 f2"), (b"overwrite 0 5\n", "f2"), (b"remove 3 400\n", "f2"), (b"insert 0 1\n", "f2")):
+        done(place, "edit", "-", *(f"{name}.aec" for name in names.split()), given=script)
+    done(place, "undo", "f2.aec")
+    untouched = read(place, "f0.aec")
+    ran = done(place, "undo", ".", "--all")
+    assert "f0.aec: there is no edit to undo" in ran.out and read(place, "f0.aec") == untouched
+    assert "f1.aec: the edit of 20" in ran.out and "f2.aec: 3 edits are undone, bit for bit: 502 samples" in ran.out, ran
+    for i in range(3):
+        path = os.path.join(place, f"f{i}.aec")
+        assert sound_parts(path).stream == first[i] and samples_at(path) == walk(i, 500 + i)
+    history = parts_at(os.path.join(place, "f2.aec")).history
+    assert [it.get("edit") for it in history if it["what"] == "undo"] == [4, 3, 2, 1]
+    assert not undoable(history)
+    before = tree(place)
+    ran = done(place, "undo", ".", "--all")
+    assert ran.out.count("there is no edit to undo") == 3 and tree(place) == before
+    ran = refused(place, "undo", "f0.aec", "none.aec", "--all")
+    assert "there is no such file" in ran.err and "f0.aec: there is no edit to undo" in ran.out
+
+
 def test_a_table_by_the_shape_of_the_file(place: str) -> None:
     samples = walk(1, 2 * 20 * 30)
     made(os.path.join(place, "f.aec"), samples, shape=(2, 20, 30))
@@ -314,6 +350,30 @@ def test_a_table_by_the_shape_of_the_file(place: str) -> None:
         write(place, "wrong.csv", b"row,column,value\n" + rows)
         refused(place, "edit", "flat.aec", "wrong.csv")
     assert read(place, "flat.aec") == before
+
+
+def test_a_table_without_frames_for_several(place: str) -> None:
+    """It would change the first frame only: nothing is changed, unless --frame says which one is meant."""
+    samples = walk(1, 6 * 20 * 30)
+    path = made(os.path.join(place, "f.aec"), samples, shape=(2, 3, 20, 30))
+    before = read(path)
+    for name, table in (("named.csv", b"row,column,value\n1,2,7\n"), ("bare.tsv", b"1\t2\t7\n"), ("bad.csv", b"x,y,new\n2,99,7\n")):
+        write(place, name, table)
+        ran = refused(place, "edit", "f.aec", name)
+        wanted = "f.aec: the shape has 6 frames, and the table doesn't say which one is meant: add a column frame, or give --frame K"
+        assert wanted in ran.err and read(path) == before, ran
+        assert "has 6 frames" in refused(place, "pixels", name, "--shape", "6x20x30").err
+    for number, words in enumerate((["--frame", "5"], ["--frame", "0"], ["--shape", "120x30"], ["--shape", "1x120x30"])):
+        done(place, "edit", "f.aec", "named.csv", *words)
+        wanted_samples = samples.copy()
+        wanted_samples[(5 * 20 * 30 if number == 0 else 0) + 32] = 7
+        assert samples_at(path) == wanted_samples, words
+        done(place, "undo", "f.aec")
+    write(place, "places.csv", b"place,value\n32,7\n")
+    done(place, "edit", "f.aec", "places.csv")
+    made(os.path.join(place, "one.aec"), walk(1, 600), shape=(1, 20, 30))
+    done(place, "edit", "one.aec", "named.csv")
+    assert samples_at(path)[32] == samples_at(os.path.join(place, "one.aec"))[32] == 7
 
 
 def test_a_table_given_for_a_script_is_explained(place: str) -> None:
