@@ -83,16 +83,7 @@ AreDueFrom-stream s p (b ∷ blocks) within h = (
 -- the number of blocks is the number of samples divided by J, rounded up
 pub length-blocks_of : (s : Settings) (v : List ℤ) → IsAllowed s → length (blocks_of s v) ≡ div_ceil (length v) s.block_size
 length-blocks_of s v a =
-    rw (
-      length-with_reference,
-      length-pieces_of,
-      length-mapped_values,
-      length-filled_samples s v positive,
-      div_ceil-times (div_ceil (length v) s.block_size) s.block_size positive,
-    )
-  where
-    positive : 0 < s.block_size
-    positive = block_size-positive s a
+    grind (arith, length-with_reference, length-pieces_of, length-mapped_values, length-filled_samples, div_ceil-times, block_size-positive)
 
 -- no more blocks than an interval has
 pub blocks-few : (s : Settings) (v : List ℤ) → IsAllowed s → length v ≤ interval_len s → length (blocks_of s v) ≤ s.interval

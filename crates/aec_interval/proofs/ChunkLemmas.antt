@@ -61,9 +61,7 @@ last_or-filled s o x xs =
 
 -- one block is filled up to J samples
 pub length-filled_block : (s : Settings) (v : List ℤ) → 0 < length v → length v ≤ s.block_size → length (filled_samples s v) ≡ s.block_size
-length-filled_block s v some few =
-    let one = div_ceil-one (length v) s.block_size some few in
-    length-filled_samples s v (omega arith) ∙ ap (λ k. k * s.block_size) one ∙ omega arith
+length-filled_block s v some few = grind (arith, div_ceil-one, length-filled_samples)
 
 -- ---- values
 

@@ -31,14 +31,7 @@ module _ (s : Settings) (a : IsAllowed s) (count : Option ℕ) (limit : ℕ) (bi
   -- a coded data set leads on
   leads-ahead : (i b : ℕ) (c : CodedDataSet) (sets : List CodedDataSet) (j e : ℕ) → LeadsTo s count limit bits i b (c ∷ sets) j e → i < j
   leads-ahead i b c sets j e leads =
-      let below = mod-lt i (interval-positive s a) in
-      omega (
-        arith,
-        length-stream_blocks s count limit bits i b (c ∷ sets) j e (interval-positive s a) leads,
-        length-append (cds_blocks s (i % s.interval) c) (stream_blocks s (next_block s i c) sets),
-        length-cds_blocks s (i % s.interval) c below,
-        block_count-positive s (i % s.interval) c below,
-      )
+      grind (arith, mod-lt, interval-positive, length-stream_blocks, length-append, length-cds_blocks, block_count-positive)
 
   same_bit : (i b : ℕ) (sets later : List CodedDataSet) (j e f : ℕ) → LeadsTo s count limit bits i b sets j e → LeadsTo s count limit bits i b later j f → e ≡ f
   same_bit i b [] [] j e f h t = h.1 ∙ sym t.1

@@ -119,24 +119,10 @@ run_step s p q reference m x some ends g = rw together (⊎_elim last inside end
 
     inside : k < segment_left s p → group_cost s (with_zeros reference k (groups_of x)) ≤ length (cds_bits s (run_set reference m)) + group_cost s
         (groups_of x)
-    inside l =
-        omega (
-          arith,
-          with_zeros-cost s q reference k (groups_of x) some g,
-          length-run s reference m,
-          length-run s reference (run_code k false),
-          run_code-inside s p m l,
-        )
+    inside l = grind (arith, with_zeros-cost, length-run, run_code-inside)
 
     last : x ≡ [] → group_cost s (with_zeros reference k (groups_of x)) ≤ length (cds_bits s (run_set reference m)) + group_cost s (groups_of x)
-    last e =
-        rw e (omega (
-          arith,
-          length-append (cds_bits s (run_set reference (run_code k true))) [],
-          length-run s reference (run_code k true),
-          length-run s reference m,
-          run_code-at_end s p m k some (omega arith),
-        ))
+    last e = grind (arith, length-append, length-run, run_code-at_end)
 
 pub body_step : (s : Settings) (p : ℕ) (reference : Option ℕ) (body : Body) (x : List Block) → IsAllowed s → p < s.interval
     → IsLawfulAt s p (record { reference = reference; body = body })

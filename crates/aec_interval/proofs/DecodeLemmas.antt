@@ -59,9 +59,7 @@ min_right : (a b : ℕ) → b ≤ a → min a b ≡ b
 min_right a b h = omega arith
 
 run_within : (s : Settings) (reference : Option ℕ) (z : ℕ) → 1 ≤ z → length (zero_block s reference ∷ replicate (z - 1) (zero_block s None)) ≤ z
-run_within s reference z some =
-    let later : length (replicate (z - 1) (zero_block s None)) ≡ z - 1 = length-replicate (z - 1) (zero_block s None) in
-    grind arith
+run_within s reference z some = grind (arith, length-replicate)
 
 kept_run : (s : Settings) (count : Option ℕ) (bits : List Bool) (i b : ℕ) (reference : Option ℕ) (z : ℕ) → 1 ≤ z → is_wanted s count bits i b ≡ true
     → run_blocks s reference (kept_count s count i z) ≡ kept_blocks s count i (zero_block s reference ∷ replicate (z - 1) (zero_block s None))

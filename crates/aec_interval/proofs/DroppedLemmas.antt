@@ -19,31 +19,14 @@ use Rattle.aec_interval.specs.Offsets.{fault_from, RefusesDecodingAt}
 module _ (s : Settings) (count : Option ℕ) (limit : ℕ) (bits : List Bool) (start : ℕ)
     (within : start ≤ length bits) (whole : s.pad ≡ true → start % 8 ≡ 0) where
   begin-dropped : (i b : ℕ) → begin_of s bits i (start + b) ≡ start + begin_of s (drop start bits) i b
-  begin-dropped i b = ⊎_elim padded plain (cases_Bool (s.pad && (i % s.interval == 0)))
-    where
-      here : ℕ
-      here = min (next_multiple_of (start + b) 8) (length bits)
-
-      there : ℕ
-      there = min (next_multiple_of b 8) (length (drop start bits))
-
-      padded : s.pad && (i % s.interval == 0) ≡ true → begin_of s bits i (start + b) ≡ start + begin_of s (drop start bits) i b
-      padded t =
-          let aligned = whole (and_parts s.pad (i % s.interval == 0) t).0 in
-          let same : here ≡ start + there = omega (arith, length-drop start bits) in
-          rw (t, same)
-
-      plain : s.pad && (i % s.interval == 0) ≡ false → begin_of s bits i (start + b) ≡ start + begin_of s (drop start bits) i b
-      plain t = rw t
+  begin-dropped i b = grind (arith, and_parts, length-drop)
 
   wanted-dropped : (count : Option ℕ) (i b : ℕ) → is_wanted s count bits i (start + b) ≡ is_wanted s count (drop start bits) i b
   wanted-dropped None i b = rw drop-drop
   wanted-dropped (Some n) i b = refl
 
   further : (b : ℕ) (c : CodedDataSet) → drop (start + b + length (cds_bits s c)) bits ≡ drop (b + length (cds_bits s c)) (drop start bits)
-  further b c =
-      let e : start + b + length (cds_bits s c) ≡ start + (b + length (cds_bits s c)) = omega arith in
-      rw (e, drop-drop)
+  further b c = grind (arith, drop-drop)
 
   stands-dropped : (b : ℕ) (c : CodedDataSet) → StandsAt s bits (start + b) c → StandsAt s (drop start bits) b c
   stands-dropped b c h = rw (drop-drop, h, further)

@@ -83,13 +83,7 @@ taken_of_first u p bytes n = length (taken_groups u.params u.limit p.count (byte
 
 pub few_of_first : (u : Terms) (p : Progress) (bytes : List ℕ) (w n taken : ℕ) → IsProgress u p → w ≡ storage_len u.params → n ≤ length bytes / w
     → taken ≡ taken_of_first u p bytes (n * w) → taken ≤ n
-few_of_first u p bytes w n taken h width few many =
-    let judged = take (n * w) bytes in
-    omega (
-      arith,
-      few_taken_groups u.params u.limit p.count (byte_groups u.params judged),
-      length-byte_groups u.params judged n h.held.allowed (length-judged u.params bytes n w width few),
-    )
+few_of_first u p bytes w n taken h width few many = grind (arith, few_taken_groups, length-byte_groups, length-judged)
 
 pub all_of_first : (u : Terms) (p : Progress) (bytes : List ℕ) (w interval held n taken : ℕ) → IsProgress u p → w ≡ storage_len u.params
     → interval ≡ interval_len u.params → held ≡ length p.held → 0 < n → n ≤ length bytes / w → IsFewOrWhole interval (held + n)

@@ -45,11 +45,7 @@ begin_of-ahead s bits i b h = grind arith
 
 pub next_begin-ahead : (s : Settings) (bits : List Bool) (i b : ℕ) (c : CodedDataSet) → StandsAt s bits b c
     → (b < next_begin s bits i b c) × (b < length bits)
-next_begin-ahead s bits i b c h =
-    let within = stands-within s bits b c h in
-    let some = length-cds_bits-positive s c in
-    let ahead = begin_of-ahead s bits (next_block s i c) (b + length (cds_bits s c)) within in
-    (omega arith, omega arith)
+next_begin-ahead s bits i b c h = grind (arith, stands-within, length-cds_bits-positive, begin_of-ahead)
 
 -- ---- whether a coded data set begins at a place
 

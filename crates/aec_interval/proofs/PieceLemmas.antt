@@ -27,10 +27,7 @@ left_behind-few n xs h = omega (arith, length-drop (length xs / n * n) xs, mod_b
 
 -- k whole pieces, and less than one piece
 whole_len : {X : Type 0} (n k : ℕ) (front back : List X) → length front ≡ k * n → length back < n → length front ≡ length (front ++ back) / n * n
-whole_len n k front back whole few =
-    let count : length (front ++ back) / n ≡ k =
-    ap (λ m. m / n) (omega (arith, length-append front back)) ∙ add-mul-div_right (length back) k (omega arith) ∙ omega (arith, div-eq_of_lt) in
-    rw (whole, count)
+whole_len n k front back whole few = grind (arith, length-append, add-mul-div_right, div-eq_of_lt)
 
 pub whole_front-cut : {X : Type 0} (n k : ℕ) (front back : List X) → length front ≡ k * n → length back < n → whole_front n (front ++ back) ≡ front
 whole_front-cut n k front back whole few =

@@ -72,9 +72,7 @@ FillBlocks-front s i samples bs cs a begins count filled = record {
     cut = take-append-drop (i * s.block_size) samples
 
     len : length front ≡ i * s.block_size
-    len =
-        let both : length (bs ++ cs) ≡ i + length cs = rw (length-append, count) in
-        omega (arith, length-take (i * s.block_size) samples, rw both at filled.whole)
+    len = grind (arith, length-append, length-take)
 
     blocks : length (all_blocks_of s front) ≡ i
     blocks = rw (length-all_blocks_of, len, div_ceil-times i s.block_size (block_size-positive s a))
@@ -310,26 +308,7 @@ has_read_front p xs samples a read begins whole =
 
 -- the samples so far are at most those of the blocks before the place
 pub has_read_few : (p : Place) (xs : List ℤ) → IsAllowed p.settings → HasRead p xs → length xs ≤ p.block * p.settings.block_size
-has_read_few p xs a read = omega (arith, asked p.count read.counted, most)
-  where
-    before : List Block
-    before = stream_blocks p.settings 0 read.sets
-
-    kept : (count : Option ℕ) → length (kept_blocks p.settings count 0 before) ≤ length before
-    kept None = omega arith
-    kept (Some n) = omega (arith, length-take (div_ceil n p.settings.block_size - 0) before)
-
-    most : length (kept_blocks p.settings p.count 0 before) * p.settings.block_size ≤ p.block * p.settings.block_size
-    most =
-        mul-le-mul_right p.settings.block_size (omega (
-          arith,
-          kept p.count,
-          length-stream_blocks p.settings p.count p.limit p.bits 0 0 read.sets p.block p.bit (interval-positive p.settings a) read.leads,
-        ))
-
-    asked : (count : Option ℕ) → xs ≡ counted_from p.settings count 0 read.all_samples → length xs ≤ length read.all_samples
-    asked None is = grind arith
-    asked (Some n) is = grind (arith, length-take)
+has_read_few p xs a read = grind (arith, length-take, mul-le-mul_right, length-stream_blocks, interval-positive)
 
 -- the samples of a step are samples of the settings
 pub piece_is_held : (p q : Place) (xs : List ℤ) → ReadsPiece p xs q → AllByRecursion (IsHeld p.settings) xs

@@ -53,14 +53,7 @@ module _ (s : Settings) (a : IsAllowed s) (count : Option ℕ) (limit other : �
       below = mod-lt (f + i) (interval-positive s a)
 
       needed : i < div_ceil m s.block_size
-      needed =
-          omega (
-            arith,
-            length-stream_blocks s count limit bits (f + i) b (c ∷ sets) j e (interval-positive s a) leads,
-            length-append (cds_blocks s p c) (stream_blocks s (next_block s (f + i) c) sets),
-            length-cds_blocks s p c below,
-            block_count-positive s p c below,
-          )
+      needed = grind (arith, length-stream_blocks, interval-positive, length-append, length-cds_blocks, block_count-positive)
 
       bit-is : next_begin s bits (f + i) b c ≡ next_begin s bits i b c
       bit-is = rw (next-at, begin-at)

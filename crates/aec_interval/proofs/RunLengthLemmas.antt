@@ -23,14 +23,7 @@ run_code-last z = grind arith
 -- the bits of a run
 pub length-run : (s : Settings) (reference : Option ℕ) (m : ℕ)
     → length (cds_bits s (record { reference = reference; body = zero_blocks m })) ≡ id_len s + length (reference_bits s reference) + m + 2
-length-run s reference m =
-    omega (
-      arith,
-      length-append (binary (id_len s + 1) 0) (reference_bits s reference ++ fs m),
-      length-append (reference_bits s reference) (fs m),
-      length-binary (id_len s + 1) 0,
-      length-fs m,
-    )
+length-run s reference m = grind (arith, length-append, length-binary, length-fs)
 
 length-flat_map-least : {X : Type 0} (code : X → List Bool) (xs : List X) → ((x : X) → 0 < length (code x)) → length xs ≤ length (flat_map code xs)
 length-flat_map-least code [] h = omega arith
@@ -42,35 +35,11 @@ written_count-least s t a = grind arith
 -- a single block is never shorter than a run of one
 pub plain-longer : (s : Settings) (t : Bool) (reference : Option ℕ) (values : List ℕ) → IsAllowed s → length values ≡ written_count s t
     → id_len s + length (reference_bits s reference) + 2 ≤ length (cds_bits s (record { reference = reference; body = uncompressed_values values }))
-plain-longer s t reference values a h =
-    let head = binary (id_len s) (2 ^ id_len s - 1) in
-    let r = reference_bits s reference in
-    let body = flat_map (binary s.bits) values in
-    omega (
-      arith,
-      length-append head (r ++ body),
-      length-append r body,
-      length-binary (id_len s) (2 ^ id_len s - 1),
-      written_count-least s t a,
-      length-flat_map-least (binary s.bits) values (λ v. omega (arith, length-binary, at_least_one_bit)),
-    )
+plain-longer s t reference values a h = grind (arith, length-append, length-binary, written_count-least, length-flat_map-least, at_least_one_bit)
 
 pub split-longer : (s : Settings) (t : Bool) (reference : Option ℕ) (k : ℕ) (values : List ℕ) → IsAllowed s → length values ≡ written_count s t
     → id_len s + length (reference_bits s reference) + 2 ≤ length (cds_bits s (record { reference = reference; body = split_values k values }))
-split-longer s t reference k values a h =
-    let head = binary (id_len s) (k + 1) in
-    let r = reference_bits s reference in
-    let high = flat_map (λ v. fs (v / 2 ^ k)) values in
-    let low = flat_map (λ v. binary k (v % 2 ^ k)) values in
-    omega (
-      arith,
-      length-append head (r ++ (high ++ low)),
-      length-append r (high ++ low),
-      length-append high low,
-      length-binary (id_len s) (k + 1),
-      written_count-least s t a,
-      length-flat_map-least (λ v. fs (v / 2 ^ k)) values (λ v. omega (arith, length-fs)),
-    )
+split-longer s t reference k values a h = grind (arith, length-append, length-binary, written_count-least, length-flat_map-least, length-fs)
 
 pub pairs-longer : (s : Settings) (reference : Option ℕ) (members : List ℕ) → 2 ≤ length members
     → id_len s + length (reference_bits s reference) + 2 ≤ length (cds_bits s (record { reference = reference; body = value_pairs members }))

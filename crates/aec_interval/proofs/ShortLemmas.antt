@@ -230,10 +230,7 @@ front_kept xs part at k within = take_at (take at xs) (part ++ drop k (drop at x
 
 -- the samples before a part, and the first q of the part
 front_and_part : (xs part : List ℤ) (at k q : ℕ) → at ≤ length xs → q ≤ length part → take (at + q) (put_mid at k xs part) ≡ take at xs ++ take q part
-front_and_part xs part at k q within few =
-    let front : List ℤ = take at xs in
-    let long : at + q ≡ length front + q = omega (arith, length-take-le at xs within) in
-    rw (long, take-append-add, take-append-le)
+front_and_part xs part at k q within few = grind (arith, length-take-le, take-append-add, take-append-le)
 
 -- after n intervals of at most `most`, the rest of the samples has room for the others
 module _ (s : Settings) (n most at len : ℕ) (samples : List ℤ) (place : at ≡ n * len) (size : len ≡ interval_len s) (order : n ≤ most)
@@ -287,9 +284,7 @@ part_fits at count most len interval total place below same room = grind arith
 
 pub whole_within : (first n r j samples left len : ℕ) → 0 < n → 0 < len → len ≡ j * r → left ≡ samples - first * j → n ≤ left / len
     → (first + n * r) * j ≤ samples
-whole_within first n r j samples left len some positive len_is left_is within =
-    let most : n * len ≤ left / len * len = mul-le-mul_right len within in
-    grind arith
+whole_within first n r j samples left len some positive len_is left_is within = grind (arith, mul-le-mul_right)
 
 pub parts_within : (k q total len interval most : ℕ) → k ≤ q → q ≡ total / len → len ≡ interval → total ≤ most → k * interval ≤ most
 parts_within k q total len interval most fewer is same within = grind arith
@@ -299,10 +294,7 @@ pub within_few : (s : Settings) (count : Option ℕ) (limit first n : ℕ) → I
 within_few s count limit first n allowed few within = ⊎_elim some none (cases_lt 0 n)
   where
     some : 0 < n → first + n * s.interval < most_blocks
-    some there =
-        let last : ℕ = first + n * s.interval in
-        let is = within there in
-        omega (arith, few_samples count limit is.low is.counted, le-mul_of_pos_right last (block_size-positive s allowed))
+    some there = grind (arith, few_samples, le-mul_of_pos_right, block_size-positive)
 
     none : n ≤ 0 → first + n * s.interval < most_blocks
     none least = grind arith

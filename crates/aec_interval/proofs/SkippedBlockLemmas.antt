@@ -113,13 +113,5 @@ fewer_samples s count limit i n u few within some = grind arith
 
 pub fewer_blocks : (s : Settings) (count : Option ℕ) (limit i n u : ℕ) → IsAllowed s → i < most_blocks → limit ≤ most_samples
     → IfSome count (λ m. m ≤ most_samples) → n ≤ u → (0 < u → (i + u) * s.block_size ≤ unwrap_or count limit) → i + n < most_blocks
-fewer_blocks s count limit i n u allowed low_block low counted few within = ⊎_elim more (λ none. omega arith) (cases_lt 0 n)
-  where
-    more : 0 < n → i + n < most_blocks
-    more some =
-        omega (
-          arith,
-          fewer_samples s count limit i n u few within some,
-          few_samples count limit low counted,
-          le-mul_of_pos_right (i + n) (block_size-positive s allowed),
-        )
+fewer_blocks s count limit i n u allowed low_block low counted few within =
+    grind (arith, fewer_samples, few_samples, le-mul_of_pos_right, block_size-positive)

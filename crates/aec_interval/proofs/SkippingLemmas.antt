@@ -54,17 +54,7 @@ led-start s count limit bits first start b begins = record { sets = []; leads = 
 
 -- the count asks for the same number of samples of the kept blocks as of all blocks
 asked_of : (f c k j n : ℕ) → n ≤ c * j → min (n - f * j) (min (c - f) k * j) ≡ min (k * j) (n - f * j)
-asked_of f c k j n most = ⊎_elim fewer all (cases_lt (c - f) k)
-  where
-    fewer : c - f < k → min (n - f * j) (min (c - f) k * j) ≡ min (k * j) (n - f * j)
-    fewer h =
-        let least : min (c - f) k ≡ c - f = omega arith in
-        let enough : (c - f) * j ≤ k * j = mul-le-mul_right j (omega arith) in
-        let cut : (c - f) * j ≡ c * j - f * j = omega (arith, mul-sub, mul_comm) in
-        grind arith
-
-    all : k ≤ c - f → min (n - f * j) (min (c - f) k * j) ≡ min (k * j) (n - f * j)
-    all h = grind arith
+asked_of f c k j n most = grind (arith, mul-le-mul_right, mul-sub, mul_comm)
 
 length-counted_from : (s : Settings) (count : Option ℕ) (limit : ℕ) (bits : List Bool) (first start : ℕ) (sets : List CodedDataSet) (i b : ℕ) (all : List ℤ)
     → IsAllowed s → LeadsTo s count limit bits first start sets i b → FillBlocks s all (kept_blocks s count first (stream_blocks s first sets))

@@ -119,10 +119,7 @@ judged_all s limit gs = judged_groups s limit 0 gs (omega arith) ∙ judged_at_s
 -- if none is refused, at most `limit` samples are taken
 pub taken_within : (s : Settings) (limit : ℕ) (gs : List (List ℕ)) → (taken_groups s limit 0 gs).refusal ≡ None
     → length (taken_groups s limit 0 gs).samples ≤ limit
-taken_within s limit gs none = few (length (taken_groups s limit 0 gs).samples) (cc (taken_groups-all s limit 0 gs none, judged_all s limit gs))
-  where
-    few : (n : ℕ) → (if nat_lt limit n then Some (TooManySamples limit) else None) ≡ None → n ≤ limit
-    few n e = grind arith
+taken_within s limit gs none = grind (arith, taken_groups-all, judged_all)
 
 -- ---- samples that are all taken
 

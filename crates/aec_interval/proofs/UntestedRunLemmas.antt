@@ -130,11 +130,4 @@ first_run s old new reference len z x allowed short read one count_is within x_i
 -- its samples are written to the front of those of the interval
 pub run_in_front : (s : Settings) (z k : ℕ) (all part : List ℤ) (x : ℤ) → z ≤ s.interval → k ≡ z * s.block_size → length all ≡ interval_len s
     → part ≡ replicate (length (take k all)) x → take (z * s.block_size) (part ++ drop k all) ≡ replicate (z * s.block_size) x
-run_in_front s z k all part x within size len part_is =
-    rw (take_at part (drop k all) (z * s.block_size) (rw (repeated, length-replicate) size), repeated, size)
-  where
-    room : k ≤ length all
-    room = grind arith
-
-    repeated : part ≡ replicate k x
-    repeated = part_is ∙ ap (λ n. replicate n x) (omega (arith, length-take k all, room))
+run_in_front s z k all part x within size len part_is = grind (arith, take_at, length-replicate, length-take)
