@@ -8,10 +8,10 @@ use Rattle.aec_params.specs.declared.settings.Settings.{Settings}
 use Rattle.aec_params.specs.Params.{IsAllowed, IsHeld, interval_len}
 use Rattle.aec_params.specs.Blocks.{blocks_of}
 use Rattle.aec_params.specs.CodedDataSets.{CodedDataSet}
-use Rattle.aec_params.specs.Places.{cds_blocks, is_reference_block}
+use Rattle.aec_params.specs.Places.{is_reference_block}
 use Rattle.aec_params.specs.Intervals.{unpadded_bits}
 use Rattle.aec_params.specs.Streams.{stream_of}
-use Rattle.aec_params.specs.Reading.{begin_of, next_block, next_begin, LeadsTo, stream_blocks}
+use Rattle.aec_params.specs.Reading.{begin_of, next_block, next_begin, LeadsTo}
 use Rattle.aec_params.proofs.SettingLaws.{interval-positive}
 use Rattle.aec_params.proofs.SampleLaws.{interval_len-positive, held-take, held-drop}
 use Rattle.aec_params.proofs.StreamLaws.{length-cds_blocks}

@@ -7,7 +7,6 @@ use Rattle.std.proofs.lemmas.List.{length-append}
 use Rattle.aec_params.specs.declared.settings.Settings.{Settings}
 use Rattle.aec_params.specs.Params.{IsAllowed}
 use Rattle.aec_params.specs.CodedDataSets.{CodedDataSet}
-use Rattle.aec_params.specs.Places.{cds_blocks}
 use Rattle.aec_params.specs.Reading.{begin_of, next_block, next_begin, LeadsTo, stream_blocks}
 use Rattle.aec_params.proofs.SettingLaws.{interval-positive}
 use Rattle.aec_params.proofs.StreamLaws.{length-cds_blocks}

@@ -1,8 +1,7 @@
 -- Blocks that are skipped one after the other, of which none needs a test of its place, in one
 -- interval or in several.
-use Rattle.std.proofs.Common.{◌≡◌, ℕ, ◌+◌, ◌-◌, ◌*◌, ◌/◌, ◌%◌, ◌<◌, ◌≤◌, Bool, true, false, Option, IfSome, unwrap_or, refl, sym, ◌∙◌, arith, ⊎_elim}
+use Rattle.std.proofs.Common.{◌≡◌, ℕ, ◌+◌, ◌-◌, ◌*◌, ◌/◌, ◌%◌, ◌<◌, ◌≤◌, Bool, true, false, Option, IfSome, unwrap_or, refl, sym, ◌∙◌, arith}
 use Rattle.std.proofs.Math.Nat.{mod-lt, mod-eq_of_lt, mul-mod_left, mod-add-mod, le-mul_of_pos_right}
-use Rattle.std.proofs.lemmas.Bool.{cases_lt}
 use Rattle.aec_params.specs.declared.settings.Settings.{Settings}
 use Rattle.aec_params.specs.Params.{IsAllowed}
 use Rattle.aec_params.specs.CodedDataSets.{CodedDataSet}
