@@ -342,7 +342,7 @@ def try_debs(made, root, folder, tally):
 
 def try_link(root, deb, last, tally):
     """Installs the program's package on processors of both levels, last on one of the level `last`. Checks which program the command is,
-    and that one chosen by hand stays."""
+    that one chosen by hand stays, and that `--auto` leads back."""
     for level in (PLAIN, V3, last):
         root.set_processor(FLAGS[level])
         status, said = root.run(f"dpkg -i {deb}")
@@ -353,7 +353,10 @@ def try_link(root, deb, last, tally):
     status, said = root.run(f"update-alternatives --set aec-proved {chosen} && dpkg -i {deb}")
     tally.holds(status == 0, f"dpkg -i after a choice: {said}")
     tally.check("the command aec-proved after a choice", root.run("readlink -f /usr/bin/aec-proved"), (0, f"{chosen}\n"))
-    root.run("update-alternatives --auto aec-proved")
+    status, said = root.run("update-alternatives --auto aec-proved")
+    tally.holds(status == 0, f"update-alternatives --auto: {said}")
+    wanted = f"/usr/lib/aec-proved/{last}/aec-proved\n"
+    tally.check("the command aec-proved after --auto", root.run("readlink -f /usr/bin/aec-proved"), (0, wanted))
 
 
 def try_versions(made, tally):
