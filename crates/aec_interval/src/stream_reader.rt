@@ -193,9 +193,9 @@ impl<'a> StreamReader<'a> {
     }
 
     /// Replaces the vector's items by the samples of the next interval, as `next` does, or of
-    /// several next intervals: then at most `most` samples. How many intervals it reads is
-    /// unspecified: several only if they are short, and at most `MAX_SAMPLES_AT_ONCE` samples, into
-    /// room that the vector has (`reading::short`). All else is as with `next`.
+    /// several next intervals: then at most `most` samples. No clause says how many intervals it
+    /// reads. Now it reads several only if they are short, and at most `MAX_SAMPLES_AT_ONCE`
+    /// samples, into room that the vector has (`reading::short`). All else is as with `next`.
     pub fn next_few(&mut self, most: u64, samples: &mut Vec<i64>) -> Result<bool, Fault>
         ensures more { IfOk result (λ more. more ≡ is_wanted_at self.old) }
         ensures read { IfOk result

@@ -131,7 +131,8 @@ fn carry_early<C: Codec>(
 }
 
 /// Appends the samples of coded bits to an empty workspace over a codec that has coded nothing, and
-/// meanwhile applies edits of a script. The edits that are left are then ahead.
+/// meanwhile applies edits of a script, if they are to be applied early. The edits that are left
+/// are then ahead.
 ///
 /// No clause of this call relies on `room`. It makes each caller prove that it has reserved the
 /// room before the first append.
