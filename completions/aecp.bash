@@ -89,7 +89,7 @@ _aecp() {
                     return
                     ;;
             esac
-            [[ $word == -* ]] && COMPREPLY=($(compgen -W "-h --help --limit -q --quiet" -- "$word")) && return
+            [[ $word == -* ]] && COMPREPLY=($(compgen -W "-h --help --all --limit -q --quiet" -- "$word")) && return
             ;;
         log)
             case $before in

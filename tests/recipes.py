@@ -24,6 +24,7 @@ PAGE = os.path.join(TOP, "docs", "RECIPES.md")
 LIBRARY = os.path.join(TOP, "bin", "libaecp.so")
 SAMPLES = "/usr/share/eccodes/ifs_samples/grib1_mlgrib2_ccsds"
 MODULES = ("eccodes", "gribapi", "h5py", "numpy")
+NUMPY = "import aecp, numpy"  # in a block whose python3 must have numpy
 
 
 def interpreter_with(module, environment=None):
@@ -84,6 +85,7 @@ def missing_for(block):
         "hdf5-tools": ("h5diff", shutil.which("h5diff")),
         "parallel": ("parallel", shutil.which("parallel")),
         "libaecp.so": ("aecp ", os.path.exists(LIBRARY)),
+        "python3-numpy": (NUMPY, interpreter_with("numpy")),
         "libaecp.so to preload": ("examples/preload", os.path.exists(LIBRARY)),
         "libaec-dev": ("examples/preload", os.path.exists("/usr/include/libaec.h")),
     }
@@ -103,8 +105,10 @@ def prepare_page(aec):
     os.mkdir(bin_folder)
     os.symlink(aec.path, os.path.join(bin_folder, "aec"))
     os.symlink(EXAMPLES, aec.file("examples"))
-    aec.write("bin/aecp", f'#!/bin/sh\nexec "{sys.executable}" -m aecp "$@"\n'.encode())
-    os.chmod(aec.file("bin/aecp"), 0o755)
+    write_program(aec, "bin/aecp", f'"{sys.executable}" -m aecp')
+    if python := interpreter_with("numpy"):
+        os.mkdir(aec.file("numpy"))
+        write_program(aec, "numpy/python3", f'"{python}"')
     for name in ("libaecp.so", "libaecp.so.1"):
         os.symlink(LIBRARY, os.path.join(bin_folder, name))
     return {
@@ -117,8 +121,17 @@ def prepare_page(aec):
     }
 
 
+def write_program(aec, name, words):
+    """Writes a program that runs these words of a shell with the program's arguments."""
+    aec.write(name, f'#!/bin/sh\nexec {words} "$@"\n'.encode())
+    os.chmod(aec.file(name), 0o755)
+
+
 def try_block(block, aec, environment, tally):
-    """Runs a block of commands, and checks that they print what its remarks say."""
+    """Runs a block of commands, and checks that they print what its remarks say. If the block needs
+    numpy, `python3` is a Python that has it."""
+    if NUMPY in block:
+        environment = {**environment, "PATH": f"{aec.file('numpy')}:{environment['PATH']}"}
     more = {"env": environment, "capture_output": True, "text": True}
     ended = subprocess.run(["sh", "-euc", block], cwd=aec.folder, check=False, **more)
     said = f"{ended.stdout[-300:]} {ended.stderr[-300:]}"

@@ -14,7 +14,7 @@ from lib import script_model
 from hypothesis import strategies as st
 from hypothesis.stateful import RuleBasedStateMachine, initialize, invariant, precondition, rule
 from making import (
-    USUAL, keep, made, noise, numbers_of, options_of, parts_at, read, samples_at, settings_by_chance, sound_parts, walk,
+    USUAL, keep, made, noise, numbers_of, options_of, parts_at, read, samples_at, settings_by_chance, sound_parts, tree, walk,
     walks_for, words_of, write,
 )  # fmt: skip
 from plain_form import script_of
@@ -111,6 +111,17 @@ class Archive(RuleBasedStateMachine):
         before = read(self.path)
         refused(self.folder, "undo", "f.aec")
         assert read(self.path) == before
+
+    @rule()
+    def undo_all(self) -> None:
+        before = read(self.path)
+        ran = done(self.folder, "undo", "f.aec", "--all")
+        if not self.undone:
+            assert "there is no edit to undo" in ran.out and read(self.path) == before
+            return
+        self.entries += ["undo"] * len(self.undone)
+        (self.samples, stream), self.undone = self.undone[0], []
+        assert parts_at(self.path).stream == stream, "taken back, bit for bit"
 
     @rule(keep_count=st.integers(0, 4))
     def forget(self, keep_count: int) -> None:
@@ -296,47 +307,29 @@ def test_many_files_and_one_script(place: str) -> None:
     assert [command(place, "undo", it).status for it in names] == [1, 1, 1, 0, 0]
 
 
-def test_a_table_by_the_shape_of_the_file(place: str) -> None:
-    samples = walk(1, 2 * 20 * 30)
-    made(os.path.join(place, "f.aec"), samples, shape=(2, 20, 30))
-    made(os.path.join(place, "flat.aec"), walk(1, 600), shape=(20, 30))
-    write(place, "bad.csv", b"row,column,value\n1,2,7\n0,3,5\n")
-    done(place, "edit", "flat.aec", "bad.csv")
-    flat = walk(1, 600)
-    flat[32], flat[3] = 7, 5
-    assert samples_at(os.path.join(place, "flat.aec")) == flat
-    write(place, "stack.csv", b"frame,row,column,value\n1,1,2,7\n0,0,3,5\n")
-    done(place, "edit", "f.aec", "stack.csv")
-    samples[632], samples[3] = 7, 5
-    assert samples_at(os.path.join(place, "f.aec")) == samples
-    before = read(place, "flat.aec")
-    for rows in (b"20,0,1\n", b"0,30,1\n", b"-1,0,1\n", b"0,-1,1\n", b"0,0,70000\n", b"0,0,x\n"):
-        write(place, "wrong.csv", b"row,column,value\n" + rows)
-        refused(place, "edit", "flat.aec", "wrong.csv")
-    assert read(place, "flat.aec") == before
-
-
-def test_a_table_given_for_a_script_is_explained(place: str) -> None:
-    keep(place, "f", walk(1, 600))
-    write(place, "bad.csv", b"row,column,value\n1,2,7\n0,3,5\n")
-    ran = refused(place, "edit", "f.aec", "bad.csv")
-    assert "shape" in ran.err, ran
-
-
-def test_pixels(place: str) -> None:
-    write(place, "table.csv", b"row,column,value\n1,2,7\n0,3,5\n1,2,7\n")
-    write(place, "table.tsv", b"1\t2\t7\n0\t3\t5\n")
-    for table in ("table.csv", "table.tsv"):
-        assert done(place, "pixels", "--shape", "10x20", table).out == "overwrite 3 5\noverwrite 22 7\n"
-    assert done(place, "pixels", "--shape", "10x20", "--frame", "2", "table.csv").out == "overwrite 403 5\noverwrite 422 7\n"
-    refused(place, "pixels", "--shape", "1x20", "table.csv")
-    for row in (b"0,20,1", b"10,0,1", b"-1,0,1", b"0,-1,1", b"3,20,1"):
-        refused(place, "pixels", "--shape", "10x20", "-", given=row + b"\n")
-    refused(place, "pixels", "--shape", "9x9", "-", given=b"1," + b"x" * 200000)
-    assert done(place, "pixels", "--shape", "9x9", "-", given=b"0,1,5\r0,2,6\r\n").out == "overwrite 1 5\noverwrite 2 6\n"
-    assert command(place, "pixels", "--shape", "1", "table.csv").status == 2
-    ran = refused(place, "pixels", "--shape", "10x20", "-", given=b"0,2,7\n0,2,8\n1,x,2\n")
-    assert "line 2" in ran.err and "line 3" in ran.err
+def test_undo_all_of_a_folder(place: str) -> None:
+    """Each file gets the state in which it was kept, by as many entries as single undos make; a file without edits stays."""
+    for i in range(3):
+        keep(place, f"f{i}", walk(i, 500 + i))
+    first = [parts_at(os.path.join(place, f"f{i}.aec")).stream for i in range(3)]
+    for script, names in ((b"append 7 8 9\n", "f1 f2"), (b"overwrite 0 5\n", "f2"), (b"remove 3 400\n", "f2"), (b"insert 0 1\n", "f2")):
+        done(place, "edit", "-", *(f"{name}.aec" for name in names.split()), given=script)
+    done(place, "undo", "f2.aec")
+    untouched = read(place, "f0.aec")
+    ran = done(place, "undo", ".", "--all")
+    assert "f0.aec: there is no edit to undo" in ran.out and read(place, "f0.aec") == untouched
+    assert "f1.aec: the edit of 20" in ran.out and "f2.aec: 3 edits are undone, bit for bit: 502 samples" in ran.out, ran
+    for i in range(3):
+        path = os.path.join(place, f"f{i}.aec")
+        assert sound_parts(path).stream == first[i] and samples_at(path) == walk(i, 500 + i)
+    history = parts_at(os.path.join(place, "f2.aec")).history
+    assert [it.get("edit") for it in history if it["what"] == "undo"] == [4, 3, 2, 1]
+    assert not undoable(history)
+    before = tree(place)
+    ran = done(place, "undo", ".", "--all")
+    assert ran.out.count("there is no edit to undo") == 3 and tree(place) == before
+    ran = refused(place, "undo", "f0.aec", "none.aec", "--all")
+    assert "there is no such file" in ran.err and "f0.aec: there is no edit to undo" in ran.out
 
 
 def test_numbers_of_is_the_model(place: str) -> None:

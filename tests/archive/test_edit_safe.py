@@ -41,6 +41,11 @@ def test_undo_compares_sums(place: str, how: str) -> None:
     before = read(path)
     refused(place, "undo", "f.aec")
     assert read(path) == before and leftovers(place) == []
+    if how in ("inverse", "stream"):
+        done(place, "edit", "f.aec", "-", given=b"append 7\n")
+        before = read(path)
+        assert "nothing is changed" in refused(place, "undo", "f.aec", "--all").err
+        assert read(path) == before, "all edits are undone, or none"
 
 
 def test_an_edit_of_a_damaged_stream(place: str) -> None:

@@ -133,6 +133,17 @@ def test_repair_keeps_nothing(place: str) -> None:
     assert samples_at(path) == walk(1, 3000)
 
 
+@pytest.mark.parametrize("more", [[], words_of(USUAL)], ids=["without options", "with options"])
+def test_repair_leaves_an_empty_kept_file(place: str, more: list[str]) -> None:
+    """It isn't removed, and the original isn't kept anew."""
+    write(place, "a", USUAL.stored(walk(1, 3000)))
+    write(place, "a.aec", b"")
+    before = tree(place)
+    ran = refused(place, "keep", "a", *more, "--repair")
+    assert "there is no kept file a.aec to repair: the file of this name is empty" in ran.err, ran
+    assert "1 refused" in ran.out and tree(place) == before
+
+
 def test_damage_is_not_counted_as_kept(place: str) -> None:
     """With the original at hand, `keep` of a folder doesn't call a file kept whose end is gone."""
     path = keep(place, "a", walk(1, 3000))

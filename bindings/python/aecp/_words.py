@@ -52,14 +52,17 @@ VERBS = {
         "Applies SCRIPT to each kept file. All lines apply, or none. SCRIPT is the argument that\n"
         "doesn't end in .aec. A table has a name ending in .csv or .tsv, and columns such as row,\n"
         "column, value. Frames, rows, columns and places count from 0: subtract 1 from those of\n"
-        "ds9 and FITS. A column named x means column, y means row.",
+        "ds9 and FITS. A column named x means column, y means row. For a file of several frames,\n"
+        "a table of rows and columns needs a column frame, or --frame K.",
         "echo 'overwrite 20 1 2 3' | aecp edit scan.raw.aec -\n"
         "aecp edit data/*.aec bad_pixels.csv",
     ),
     "undo": (
         "undoes the last edit",
-        "Undoes the last edit of each kept file, bit for bit.",
-        "aecp undo scan.raw.aec",
+        "Undoes the last edit of each kept file, bit for bit. Fails for a file without an edit to\n"
+        "undo, except with --all.",
+        "aecp undo scan.raw.aec\n"
+        "aecp undo data --all                      all edits of every file in the folder data",
     ),
     "log": ("lists what was done", "", "aecp log scan.raw.aec\naecp log scan.raw.aec --script 3"),
     "forget": (
@@ -249,6 +252,14 @@ def add_edit(edit: Parser) -> None:
     )
 
 
+def add_undo(undo: Parser) -> None:
+    add_kept(undo)
+    undo.add_argument(
+        "--all", action="store_true",
+        help="undo all edits in the history of each file; a file without edits is no error",
+    )
+
+
 def add_log(log: Parser) -> None:
     add_kept(log, many=False)
     log.add_argument(
@@ -346,7 +357,7 @@ RUNNING = {
 }  # fmt: skip
 ADD: dict[str, Callable[[Parser], None]] = {
     "keep": add_keep, "back": add_back, "check": add_kept, "info": add_kept, "export": add_export,
-    "edit": add_edit, "undo": add_kept, "log": add_log, "forget": add_forget, "diff": add_diff,
+    "edit": add_edit, "undo": add_undo, "log": add_log, "forget": add_forget, "diff": add_diff,
     "pixels": add_pixels, "fit": add_fit, "view": add_view, "rescue": add_rescue,
 }  # fmt: skip
 

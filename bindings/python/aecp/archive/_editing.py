@@ -38,6 +38,7 @@ from aecp.faults import Fault
 from aecp.options import Options
 
 WRONG = "the new stream doesn't decode to its samples"
+NOTHING = "there is no edit to undo"
 
 
 @dataclass(frozen=True)
@@ -246,39 +247,61 @@ def replace(
         writer.finish(history, facts.source, shape, facts.dtype, state.samples)
 
 
-def undo(limit: Optional[int], found: Found) -> Outcome:
-    """Undoes the last edit of a kept file."""
+class Version(NamedTuple):
+    """What a kept file contains, or contained before edits."""
+
+    stream: bytes
+    state: State
+    shape: Optional[tuple[int, ...]]
+    history: Sequence[_history.Entry]
+
+
+def undo(every: bool, limit: Optional[int], found: Found) -> Outcome:
+    """Undoes the last edit of a kept file. With `every` undoes all edits, or none; then a file
+    without edits to undo stays as it is, instead of raising Refused."""
     with held(found.path, limit) as it:
-        history = it.kept.history()
-        place = _history.last_edit(history)
-        if place is None:
-            raise Refused("there is no edit to undo")
-        entry = history[place]
-        wanted, stream = entry.before, it.stream()
-        if wanted is None:
-            raise Refused("the history has nothing that undoes the last edit")
-        earlier = earlier_stream(it.facts, stream, entry)
-        if Sum.of(earlier) != wanted.stream:
-            raise Refused("the earlier stream can't be restored bit for bit: nothing is changed")
-        entries = _history.with_undo(history, place, it.facts.state)
-        replace(it, earlier, wanted, entries, entry.shape)
-        text = f"the edit of {entry.when} is undone, bit for bit: {wanted.count} samples"
-        return Outcome("undone", text)
+        facts, history = it.facts, it.kept.history()
+        place = last = _history.last_edit(history)
+        if last is None:
+            if every:
+                return Outcome("unchanged", NOTHING)
+            raise Refused(NOTHING)
+        version, number = Version(it.stream(), facts.state, facts.shape, history), 0
+        while place is not None and (every or number == 0):
+            version, number = before_edit(version, place, facts.options), number + 1
+            place = _history.last_edit(version.history)
+        replace(it, version.stream, version.state, version.history, version.shape)
+        what = f"the edit of {history[last].when} is" if number == 1 else f"{number} edits are"
+        return Outcome("undone", f"{what} undone, bit for bit: {version.state.count} samples")
 
 
-def earlier_stream(facts: Facts, stream: bytes, entry: _history.Entry) -> bytes:
-    """Returns the stream before an edit, as its inverse makes it."""
+def before_edit(version: Version, place: int, options: Options) -> Version:
+    """Returns what a file contained before the edit with this place in its history, and the history
+    with an entry more: now this edit was undone. Raises Refused if the stream isn't the recorded
+    one."""
+    entry = version.history[place]
+    wanted = entry.before
+    if wanted is None:
+        raise Refused("the history has nothing that undoes the last edit")
+    earlier = earlier_stream(options, version.stream, version.state.count, entry)
+    if Sum.of(earlier) != wanted.stream:
+        raise Refused("the earlier stream can't be restored bit for bit: nothing is changed")
+    entries = _history.with_undo(version.history, place, version.state)
+    return Version(earlier, wanted, entry.shape, entries)
+
+
+def earlier_stream(options: Options, stream: bytes, count: int, entry: _history.Entry) -> bytes:
+    """Returns the stream before an edit, as its inverse makes it of a stream of `count` samples."""
     inverse, wanted = entry.inverse, entry.before
     assert inverse is not None and wanted is not None
     if isinstance(inverse, Difference):
         return apply_difference(inverse, stream, wanted.stream.bytes)
-    options = facts.options
     if isinstance(inverse, Values):
         script = b"".join(inverse.lines(overwritten(entry, wanted.count, options), options))
     else:
         script = inverse.text(options)
     try:
-        return streams.edit(stream, facts.count, script, options)[0]
+        return streams.edit(stream, count, script, options)[0]
     except Fault as fault:
         raise Refused(f"what undoes the edit doesn't fit: {fault}") from None
 

@@ -65,12 +65,12 @@ class Plan:
 
 def keep(how: Keeping, found: Found) -> Outcome:
     """Keeps a file, or returns why it can't. Raises what reading and writing raise; with `repair`,
-    Refused for a file that isn't kept."""
+    Refused for a file that has no FILE.aec, or an empty one."""
     if how.repair:
         require_kept(found, how.to)
     target = made_target(found, how.to)
     clean(os.path.dirname(target) or ".")
-    text = _saving.remove_empty(target)
+    text = "" if how.repair else _saving.remove_empty(target)
     # The folder is made, and leftovers and an empty FILE.aec are removed, before keep decides.
     if not os.path.lexists(target):
         try:

@@ -208,12 +208,20 @@ def made_target(found: Found, to: Optional[str]) -> str:
 
 
 def require_kept(found: Found, to: Optional[str]) -> None:
-    """Raises Refused if an original has no FILE.aec that can be repaired."""
+    """Raises Refused if an original has no FILE.aec that can be repaired. An empty one can't be."""
     path = target_path(found, to)
+    name = shown(found.name + STREAM if to is None else path)
     if not os.path.lexists(path):
-        name = found.name + STREAM if to is None else path
         hint = "" if to is None else ": give the same PATH and DIR as when it was kept"
-        raise Refused(f"there is no kept file {shown(name)} to repair{hint}")
+        raise Refused(f"there is no kept file {name} to repair{hint}")
+    if is_empty_file(path):
+        raise Refused(f"there is no kept file {name} to repair: the file of this name is empty")
+
+
+def is_empty_file(path: str) -> bool:
+    """Returns whether a path is that of an empty regular file."""
+    status = os.lstat(path)
+    return stat.S_ISREG(status.st_mode) and status.st_size == 0
 
 
 def place_below(folder: str, below: str) -> str:

@@ -126,7 +126,8 @@ class Table:
             raise BadLine(f"{where(found)} has two values, {self.values[place]} and {value}")
 
     def place(self, found: dict[str, int]) -> int:
-        """Returns the place that a line names. Raises BadLine if there is none."""
+        """Returns the place that a line names. Raises BadLine if there is none; Refused if the
+        table lacks a shape, or a frame for a shape of several."""
         if "place" in found:
             if found["place"] < 0:
                 raise BadLine(f"place {found['place']} is negative")
@@ -135,8 +136,11 @@ class Table:
             raise BadLine("the table has neither row and column nor place")
         if self.grid is None:
             raise Refused("rows and columns need a shape: give --shape ROWSxCOLS")
-        frame, row, column = found.get("frame", self.frame or 0), found["row"], found["column"]
         frames, rows, columns = self.grid
+        if "frame" not in found and self.frame is None and frames not in (None, 1):
+            text = f"the shape has {frames} frames, and the table doesn't say which one is meant"
+            raise Refused(f"{text}: add a column frame, or give --frame K")
+        frame, row, column = found.get("frame", self.frame or 0), found["row"], found["column"]
         is_frame = 0 <= frame and (frames is None or frame < frames)
         if not (is_frame and 0 <= row < rows and 0 <= column < columns):
             shape = f"{rows}x{columns}" if frames in (None, 1) else f"{frames}x{rows}x{columns}"

@@ -259,7 +259,7 @@ def do_edit(asked: argparse.Namespace, console: Console) -> int:
 
 
 def do_undo(asked: argparse.Namespace, console: Console) -> int:
-    return changed(asked, console, asked.paths, partial(_editing.undo, asked.limit))
+    return changed(asked, console, asked.paths, partial(_editing.undo, asked.all, asked.limit))
 
 
 def do_forget(asked: argparse.Namespace, console: Console) -> int:
