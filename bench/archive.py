@@ -8,10 +8,12 @@ FOLDER contains libaecp.so. Prints a table for each of
     large    keep, check and back of one file of 256 MiB and one of 4 GiB, beside flac and zstd
     growth   the history: 100 edits of 3,000 samples in 256 KiB: one script, the same places, and
              others
-Times are seconds of the clock, of one run each (of `ends` the least of 50), and seconds of
-processors, user and system. A rate is MB of samples for each second of a processor: so it hardly
-depends on what else runs, and is that of one core. Without --full the numbers of files and samples
-are an eighth, and of `large` only the smaller file is measured.
+Times are of the clock, of one run each; those of `ends` are the least of 50 runs. `files`, `edits`
+and `large` also print seconds of processors, user and system. `files` and `edits` print files for
+each second of the clock. `large` prints MB of samples for each second of a processor: the rate of
+one core, which hardly depends on what else runs. Without --full, `ends`, `files` and `edits` use
+about an eighth of the files and samples, `growth` makes a quarter of the edits, and `large` measures
+only the smaller file.
 """
 
 from __future__ import annotations
@@ -235,7 +237,7 @@ TABLES = {"ends": ends, "files": files, "edits": edits, "large": large, "growth"
 def main() -> None:
     asked = argparse.ArgumentParser(description=__doc__, allow_abbrev=False)
     asked.add_argument("library", metavar="FOLDER")
-    asked.add_argument("--place", help="the folder for the files, which needs thrice the bytes of the largest")
+    asked.add_argument("--place", help="the folder for the files, which needs three times the bytes of the largest")
     asked.add_argument("--full", action="store_true")
     asked.add_argument("--only", choices=TABLES)
     words = asked.parse_args()

@@ -31,7 +31,8 @@ which point that is.
 
 `--within DEGREES` sets another limit for the distance to the nearest point. Without it, a point
 that is farther than one step of the grid is refused: farther than the largest distance between the
-nearest point and those next to it.
+nearest point and those next to it. `values` takes it with `--at`, and `set` with a TABLE of
+latitudes and longitudes.
 
 SCRIPT has the edits that `aec --edit` takes.
 
@@ -53,7 +54,7 @@ from aec_runs import (
 )
 from grib_grid import grid_of
 from grib_messages import coding_of, message_of, packing_of, with_stream
-from grib_tables import Change, changes_of, nearest_point, value_of
+from grib_tables import Change, changes_of, point_of, value_of
 
 
 def judge_fit(coding, aec, stream):
@@ -130,18 +131,25 @@ def values(aec, file, part=None, *, message="1", at=None, within=None):
     """Prints a table of the values of FIRST:LEN, of the point nearest to `at`, or of all."""
     if part is not None and at is not None:
         raise WrongWords("FIRST:LEN and --at exclude each other")
+    if within is not None and at is None:
+        raise WrongWords("--within needs --at")
     limit = None if within is None else degrees_of(within)
+    wanted = None if at is None else coordinates_of(at)
+    chosen = None if part is None else part_of(part)
     read = message_of(file, message)
     packing, count = packing_of(read), coding_of(read).count
-    first, length = (0, count) if part is None else part_of(part)
-    if at is not None:
-        first, length = place_at(grid_of(read, count), at, limit), 1
+    first, length = chosen or (0, count)
+    if wanted is None:
+        grid = known_grid(read, count)
+    else:
+        grid = grid_of(read, count)
+        first, length = grid.nearest(*wanted, limit)[0], 1
     numbers = numbers_of(read, stored_in(read, aec, first, length))
-    points = known_points(read, count)
+    points = None if grid is None else grid.located(first, length)
     print("place value" if points is None else "place latitude longitude value")
-    for place, value in enumerate(packing.values(numbers), first):
-        where = "" if points is None else "{:.6f} {:.6f} ".format(*points[place])
-        print(f"{place} {where}{value}")
+    for index, value in enumerate(packing.values(numbers)):
+        where = "" if points is None else "{:.6f} {:.6f} ".format(*points[index])
+        print(f"{first + index} {where}{value}")
 
 
 def part_of(part):
@@ -152,20 +160,21 @@ def part_of(part):
     return whole_number(first, "place"), whole_number(length, "number of values")
 
 
-def place_at(grid, at, within):
-    """Returns the place of the point that is nearest to the text LAT,LON."""
+def coordinates_of(at):
+    """Returns the point of the text LAT,LON."""
     latitude, comma, longitude = at.partition(",")
     if not comma:
         raise WrongWords(f"{at} is no LAT,LON")
-    return nearest_point(grid, latitude, longitude, within)[0]
+    return point_of(latitude, longitude)
 
 
-def known_points(read, count):
-    """Returns the points of a message by place, or None if they aren't known."""
+def known_grid(read, count):
+    """Returns the grid of a message, or None if its points aren't known."""
     try:
-        return grid_of(read, count).located()
+        grid = grid_of(read, count)
     except Refused:
         return None
+    return None if grid.points is None else grid
 
 
 def put_values(aec, file, *words, message="1", within=None):
@@ -174,6 +183,8 @@ def put_values(aec, file, *words, message="1", within=None):
     if len(words) not in (2, 3):
         raise WrongUse
     is_table, inputs = len(words) == 2, [file]
+    if within is not None and not is_table:
+        raise WrongWords("--within needs a TABLE")
     limit = None if within is None else degrees_of(within)
     wanted = None if is_table else value_of(words[1], WrongWords)
     place = None if is_table else whole_number(words[0], "place")

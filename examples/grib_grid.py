@@ -5,7 +5,7 @@ library, which is enough for latitude/longitude grids and Gaussian grids of the 
 import math
 from collections.abc import Mapping
 from dataclasses import dataclass
-from itertools import accumulate
+from itertools import accumulate, islice
 
 from aec_runs import Refused
 from grib_nearest import Point, Points, Rows, Scattered, degrees_between
@@ -25,11 +25,12 @@ class Grid:
     points: Points | None  # None if they aren't known
     places: Mapping[int, int] | range  # by the number of a point that has a value
 
-    def located(self):
-        """Returns the points that have a value, by place."""
+    def located(self, first, length):
+        """Returns the points of `length` values, from place `first` on."""
         self.require_points()
-        points = list(self.points)
-        return [points[number] for number in self.places]
+        is_most = length > len(self.places) // 2
+        points = list(self.points) if is_most else self.points  # a list is faster for many
+        return [points[number] for number in islice(self.places, first, first + length)]
 
     def require_points(self):
         """Refuses a grid whose points aren't known."""

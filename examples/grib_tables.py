@@ -9,6 +9,9 @@ from typing import NamedTuple
 from aec_runs import Refused, WrongWords, read_file, whole_number
 from grib_nearest import Point
 
+# The columns that say what place a line means. If a table has several, the first of them count.
+WAYS = ("place",), ("row", "column"), ("latitude", "longitude")
+
 
 class Change(NamedTuple):
     """A value that a line of a table wants."""
@@ -32,7 +35,11 @@ def changes_of(table, count, find_grid, within=None):
     this number if the table has no places. Refuses a line that is wrong, two for one place, and a
     point that is farther than `within` degrees, or than a step of the grid."""
     rows, changes, lines = rows_of_table(table), [], {}
-    grid = None if not rows or "place" in rows[0][1] else find_grid(count)
+    way = way_of(rows[0][1]) if rows else "place"
+    if within is not None and rows and way != "latitude":
+        given = "places" if way == "place" else "rows and columns"
+        raise Refused(f"--within is for latitudes and longitudes, but {table} gives {given}")
+    grid = None if way == "place" else find_grid(count)
     for line, row in rows:
         name = f"line {line} of {table}: "
         try:
@@ -69,33 +76,37 @@ def rows_of_table(table):
 
 def judged_names(table, names):
     """Returns the names of a table's columns. Refuses names that don't say where a value is."""
-    ways = ({"place"}, {"row", "column"}, {"latitude", "longitude"})
-    if "value" not in names or not any(way <= set(names) for way in ways):
+    if "value" not in names or way_of(names) is None:
         wanted = "value and place, or row and column, or latitude and longitude"
         raise Refused(f"the first line of {table} must name the columns: {wanted}")
     return names
 
 
+def way_of(names):
+    """Returns which columns say what place a line of a table means, by the name of the first of
+    them. Returns None if no columns do."""
+    return next((way[0] for way in WAYS if {*way} <= {*names}), None)
+
+
 def place_in(row, count, grid, within):
     """Returns the place that a row of a table means, and the point if the row has coordinates."""
-    point = None
-    if "place" in row:
+    point, way = None, way_of(row)
+    if way == "place":
         place = whole_number(row["place"], "place")
-    elif "row" in row:
+    elif way == "row":
         numbers = (whole_number(row[it], it) for it in ("row", "column"))
         place = grid.place_in_row(*numbers)
     else:
-        place, point = nearest_point(grid, row["latitude"], row["longitude"], within)
+        place, point = grid.nearest(*point_of(row["latitude"], row["longitude"]), within)
     if place >= count:
         raise Refused(f"position outside the {count} samples")
     return place, point
 
 
-def nearest_point(grid, latitude, longitude, within=None):
-    """Returns the place of the point of a grid that is nearest to a latitude and a longitude, which
-    are texts, and the point. Refuses a point that is farther than `within` degrees, or than a step
-    of the grid."""
-    north, east = (float(value_of(it, Refused)) for it in (latitude, longitude))
+def point_of(latitude, longitude):
+    """Returns the point of two texts. Raises WrongWords for other texts than numbers, and for
+    numbers out of range."""
+    north, east = (value_of(it, WrongWords) for it in (latitude, longitude))
     if not -90 <= north <= 90 or not -360 <= east <= 360:
-        raise Refused(f"{latitude} {longitude} is no place of the earth")
-    return grid.nearest(north, east, within)
+        raise WrongWords(f"{latitude} {longitude} is no place of the earth")
+    return Point(float(north), float(east))

@@ -342,18 +342,20 @@ def try_debs(made, root, folder, tally):
 
 def try_link(root, deb, last, tally):
     """Installs the program's package on processors of both levels, last on one of the level `last`. Checks which program the command is,
-    and that one chosen by hand stays."""
+    that one chosen by hand stays, and that `--auto` leads back."""
+
+    def try_step(command, level):
+        status, said = root.run(command)
+        tally.holds(status == 0, f"{command} ({level}): {said}")
+        wanted = f"/usr/lib/aec-proved/{level}/aec-proved\n"
+        tally.check(f"the command aec-proved after {command}", root.run("readlink -f /usr/bin/aec-proved"), (0, wanted))
+
     for level in (PLAIN, V3, last):
         root.set_processor(FLAGS[level])
-        status, said = root.run(f"dpkg -i {deb}")
-        tally.holds(status == 0, f"dpkg -i on {level}: {said}")
-        wanted = f"/usr/lib/aec-proved/{level}/aec-proved\n"
-        tally.check(f"the command aec-proved on {level}", root.run("readlink -f /usr/bin/aec-proved"), (0, wanted))
-    chosen = f"/usr/lib/aec-proved/{PLAIN if last == V3 else V3}/aec-proved"
-    status, said = root.run(f"update-alternatives --set aec-proved {chosen} && dpkg -i {deb}")
-    tally.holds(status == 0, f"dpkg -i after a choice: {said}")
-    tally.check("the command aec-proved after a choice", root.run("readlink -f /usr/bin/aec-proved"), (0, f"{chosen}\n"))
-    root.run("update-alternatives --auto aec-proved")
+        try_step(f"dpkg -i {deb}", level)
+    other = PLAIN if last == V3 else V3
+    try_step(f"update-alternatives --set aec-proved /usr/lib/aec-proved/{other}/aec-proved && dpkg -i {deb}", other)
+    try_step("update-alternatives --auto aec-proved", last)
 
 
 def try_versions(made, tally):

@@ -203,7 +203,15 @@ def try_at(what, read, place, paths, more, tally):
     tally.holds(wanted[0] == 0 and f"\n{place} " in wanted[1], f"{what}: one value: {wanted}")
     answer = called(grib_ccsds.values, *paths, at="-80,200", **more)
     tally.holds(answer[0] == 1 and "degrees away" in answer[1], f"{what}: --at far away: {answer}")
-    for words, named in ((("0:1",), {"at": at}), ((), {"at": "48.2"}), ((), {"at": at, "within": "-1"})):
+    for words, named in (
+        (("0:1",), {"at": at}),
+        (("0:1",), {"within": "1"}),
+        ((), {"within": "1"}),
+        ((), {"at": "48.2"}),
+        ((), {"at": "48.2,x"}),
+        ((), {"at": "91,0"}),
+        ((), {"at": at, "within": "-1"}),
+    ):
         answer = called(grib_ccsds.values, *paths, *words, **named, **more)
         tally.check(f"{what}: {words} {named}: {answer[1]}", answer[0], 2)
 

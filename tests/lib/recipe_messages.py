@@ -181,12 +181,20 @@ def try_words(aec, script, tally):
         (["values", aec.path, "m", "7:2"], 1, "aec: position outside the 8 samples"),
         (["values", aec.path, "m", "0:1", "--at", "48.2,16.4"], 2, "FIRST:LEN and --at exclude each other"),
         (["values", aec.path, "m", "--at", "48.2"], 2, "48.2 is no LAT,LON"),
-        (["values", aec.path, "m", "--at=48.2,x"], 1, "x is no value"),
+        (["values", aec.path, "none", "--at=48.2,x"], 2, "x is no value"),
+        (["values", aec.path, "none", "--at=x,16.4"], 2, "x is no value"),
+        (["values", aec.path, "none", "--at=48.2,361"], 2, "48.2 361 is no place of the earth"),
+        (["values", aec.path, "none", "--at=-91,16.4"], 2, "-91 16.4 is no place of the earth"),
+        (["values", aec.path, "none", "--at=48.2,1e400"], 2, "48.2 1e400 is no place of the earth"),
+        (["values", aec.path, "none", "--within", "1"], 2, "--within needs --at"),
+        (["values", aec.path, "none", "0:1", "--within=1"], 2, "--within needs --at"),
+        (["values", aec.path, "none", "3"], 2, "3 is no FIRST:LEN"),
         (["values", aec.path, "m", "--at", "-48.2,16.4"], 1, "where the points lie isn't known for this grid"),
         (["set", aec.path, "m", "o"], 2, "set takes the words AEC FILE TABLE OUT, or AEC FILE PLACE VALUE OUT [--"),
         (["set", aec.path, "m", "o"], 2, "OUT [--message N] [--within DEGREES]; see --help"),
         (["set", aec.path, "m", "t", "o", "--within", "x"], 2, "x is no value"),
         (["set", aec.path, "m", "t", "o", "--within", "-1"], 2, "-1 is no distance in degrees"),
+        (["set", aec.path, "none", "0", "250", "o", "--within", "1"], 2, "--within needs a TABLE"),
         (["set", aec.path, "m", "none", "o"], 1, "none: No such file or directory"),
         (["set", aec.path, "m", "-1", "1", "o"], 2, "-1 is no place"),
         (["set", aec.path, "m", "0", "x", "o"], 2, "x is no value"),
@@ -243,6 +251,7 @@ def try_tables(aec, tally):
         (good, b"# spikes\n\nrow,column,value\n1,2,250\n", changed(6)),
         (good, b"Latitude;Longitude;Value\n41;-346;250\n", changed(5, ", latitude 40.000000, longitude 15.000000")),
         (good, b"place latitude longitude value\n5 0 0 250\n", changed(5)),
+        (good, b"row latitude longitude value\n9 41 -346 250\n", changed(5, ", latitude 40.000000, longitude 15.000000")),
         (masked, b"row\tcolumn\tvalue\r\n1\t2\t250\r\n", changed(5)),
         (masked, b"latitude longitude value\n59 24 250\n", changed(2, ", latitude 50.000000, longitude 25.000000")),
         (plain, b"value place\n250 7\n", changed(7)),
@@ -286,6 +295,10 @@ def try_tables(aec, tally):
         status, said = called(grib_ccsds.put_values, aec.path, aec.file("m"), table, out, within=within)
         is_so = status == wanted and (aec.read("o") == b"old") == (status == 1)
         tally.holds(is_so, f"within {within}: {status} {said}")
+    for text, given in ((b"place latitude longitude value\n5 0 0 250\n", "places"), (b"row column value\n1 2 250\n", "rows and columns")):
+        aec.write("t", text)
+        answer = called(grib_ccsds.put_values, aec.path, aec.file("m"), table, out, within="1")
+        tally.check(f"within, for {given}", answer, (1, f"--within is for latitudes and longitudes, but {table} gives {given}"))
     answer = called(grib_ccsds.put_values, aec.path, aec.file("m"), table, table)
     tally.check("a table as OUT: status", answer[0], 1)
     aec.write("m", masked)
@@ -295,13 +308,17 @@ def try_tables(aec, tally):
     )))
     answer = called(grib_ccsds.values, aec.path, aec.file("m"))
     tally.check("values with a bitmap", answer, (0, f"place latitude longitude value\n{wanted}"))
+    for first in range(6):
+        answer = called(grib_ccsds.values, aec.path, aec.file("m"), f"{first}:2")
+        lines = "".join(f"{line}\n" for line in wanted.splitlines()[first : first + 2])
+        is_so = answer[0] == 1 if first == 5 else answer == (0, f"place latitude longitude value\n{lines}")
+        tally.holds(is_so, f"2 values with a bitmap, from place {first}: {answer}")
     for at, within, place, text in (
         ("49,-336", None, 2, ""),
         ("39.9,19.9", "0.2", 5, ""),
         ("50,15", None, None, "the bitmap says that this point has no value"),
         ("60.1,10", None, None, far),
         ("60.1,10", "10.2", 0, ""),
-        ("91,0", None, None, "91 0 is no place of the earth"),
     ):
         answer = called(grib_ccsds.values, aec.path, aec.file("m"), at=at, within=within)
         line = "" if place is None else f"{wanted.splitlines()[place]}\n"
