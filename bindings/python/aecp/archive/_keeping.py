@@ -238,6 +238,8 @@ def kept_outcome(how: Keeping, found: Found, target: str) -> Outcome:
     if how.repair:
         with _saving.locked(target) as status:
             outcome = repaired(how, found, target, status)
+    elif how.remove and is_removed(found, target):
+        return Outcome("skipped", note, more={"removed": True})
     else:
         outcome = compared(how, found, target, note)
     if not how.remove or outcome.kind == "changed":
@@ -250,6 +252,16 @@ def kept_outcome(how: Keeping, found: Found, target: str) -> Outcome:
             return replace(outcome, kind="refused", said=why)
         _saving.sync(target)  # it may be a copy that isn't on the disk yet
         return removed(found.path, file, before, outcome)
+
+
+def is_removed(found: Found, target: str) -> bool:
+    """Returns whether an original was there when the run began, isn't any more, and its size is
+    that of the file that was kept: a process of this run may have removed it, and died."""
+    if not found.inode or os.path.lexists(found.path):
+        return False
+    with opened(target) as kept:
+        source = kept.facts.source
+    return source is not None and source.bytes == found.size
 
 
 def is_old(target: str) -> bool:
