@@ -17,12 +17,12 @@ from aecp.archive._file import ArchiveFile, opened
 from aecp.archive._form import MOST_SIDE, Damaged, Exists, Facts, Refused, Source
 from aecp.archive._headers import Layout, layout_of, options_of
 from aecp.archive._history import Entry, keep_entry
-from aecp.archive._originals import Reading, original, read_all, same, sha256_of
+from aecp.archive._originals import Reading, original, same, sha256_of
 from aecp.archive._outcomes import Outcome, damage_named, shape_text, words_of
 from aecp.archive._pairs import converted, note_at
 from aecp.archive._paths import STREAM, Found, place_below
 from aecp.archive._stored import Scripted
-from aecp.archive._whole import judge, sides, sound_pieces
+from aecp.archive._whole import is_restored, judge
 from aecp.archive._writer import Writer
 from aecp.calls import encode
 from aecp.faults import Fault, SampleRefused
@@ -315,19 +315,6 @@ def other_options(how: Keeping, facts: Facts) -> str:
     if how.shape not in (None, facts.shape) or how.dtype not in (None, facts.dtype):
         return f"it is kept already, as {shape_text(facts)}"
     return ""
-
-
-def is_restored(kept: ArchiveFile, file: BinaryIO, size: int) -> bool:
-    """Returns whether a kept file restores exactly an original of so many bytes."""
-    head, tail = sides(kept)
-    if size != len(head) + kept.facts.samples.bytes + len(tail):
-        return False
-    file.seek(0)
-    if read_all(file, len(head)) != head:
-        return False
-    if any(read_all(file, len(piece)) != piece for piece in sound_pieces(kept)):
-        return False
-    return read_all(file, len(tail) + 1) == tail
 
 
 def repaired(how: Keeping, found: Found, target: str, status: os.stat_result) -> Outcome:
