@@ -109,19 +109,29 @@ def test_dask_that_fails(place: str, error: BaseException, where: str) -> None:
     assert ran.status == 1 and f"aecp: the dask cluster failed: {type(error).__name__}: {error}" in ran.err, ran
 
 
-def test_dask_with_a_killed_worker(place: str) -> None:
-    """A worker that dies has its files dealt again."""
+@pytest.mark.parametrize("verb", ["keep", "back", "remove"])
+def test_dask_with_a_killed_worker(place: str, verb: str) -> None:
+    """A worker that dies has its files dealt again, those too that it had written, and nothing of it is left."""
     distributed = pytest.importorskip("distributed", reason="no distributed: python3-distributed")
     for i in range(12):
         write(place, f"f{i:03}", FAST.stored(noise(i, 1 << 16)) * 8)
+    words = {"keep": ["keep", ".", "-n", "16"], "back": ["back", "."], "remove": ["keep", ".", "-n", "16", "--remove"]}[verb]
+    if verb == "back":
+        done(place, "keep", ".", "-n", "16", "--anyway", "--remove")
+    before = len(os.listdir(place))
+
+    def has_begun() -> bool:
+        names = [it for it in os.listdir(place) if not it.startswith(".")]
+        return len(names) > before or (verb == "remove" and any(it.endswith(".aec") for it in names))
+
     preload = os.environ.pop("LD_PRELOAD", None)
     try:
         with distributed.LocalCluster(n_workers=3, threads_per_worker=1, dashboard_address=None, processes=True) as own:
             environment = dict(os.environ)
-            words = [sys.executable, "-m", "aecp", "keep", ".", "-n", "16", "--anyway", "--dask", own.scheduler_address]
-            running = subprocess.Popen(words, cwd=place, env=environment, stdout=subprocess.PIPE, stderr=subprocess.PIPE, text=True)
+            line = [sys.executable, "-m", "aecp", *words, *([] if verb == "back" else ["--anyway"]), "--dask", own.scheduler_address]
+            running = subprocess.Popen(line, cwd=place, env=environment, stdout=subprocess.PIPE, stderr=subprocess.PIPE, text=True)
             end = time.monotonic() + 30
-            while not any(it.endswith(".aec") for it in os.listdir(place)) and time.monotonic() < end and running.poll() is None:
+            while not has_begun() and time.monotonic() < end and running.poll() is None:
                 time.sleep(0.005)
             worker = next(iter(own.workers.values()))
             os.kill(worker.process.process.pid, signal.SIGKILL)
@@ -129,10 +139,10 @@ def test_dask_with_a_killed_worker(place: str) -> None:
     finally:
         if preload:
             os.environ["LD_PRELOAD"] = preload
-    assert running.returncode == 0 and kept_in(out) == 12, (running.returncode, out, err)
+    number = int(out.split()[0]) if verb == "back" else kept_in(out)
+    assert running.returncode == 0 and number == 12 and not err, (running.returncode, out, err)
     assert "12 checked, 12 sound, 0 damaged" in done(place, "check", ".").out
-    done(place, "keep", ".", "-n", "16")
-    assert not [it for it in os.listdir(place) if it.startswith(".")]
+    assert len(os.listdir(place)) == (12 if verb == "remove" else 24), sorted(os.listdir(place))
 
 
 def test_dask_arrays_read_chunks(tmp_path: Any) -> None:

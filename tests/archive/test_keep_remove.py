@@ -122,18 +122,20 @@ def patch_calls(number: int, action: Any) -> None:
 
 
 def test_remove_beside_an_appending_writer(place: str, times: int) -> None:
-    """As an instrument does it: appends at random moments of the run."""
+    """As an instrument does it: appends at random moments of the run. On a busy machine all may come before the file is read: then later
+    ones are tried."""
     import random
 
     chance, samples = random.Random(5), FAST.stored(walk(1, 60000))
-    kept = 0
-    for _ in range(15 * times):
+    kept = number = 0
+    while number < 15 * times or (not kept and number < 150):
+        number += 1
         for name in os.listdir(place):
             os.unlink(os.path.join(place, name))
         path = write(place, "a", samples)
         file = open(path, "ab", buffering=0)
         running = start(place, "keep", "a", "-n", "16", "--jobs", "1", "--remove")
-        time.sleep(chance.random() * 0.06)
+        time.sleep(chance.random() * 0.004 * (15 + number))
         file.write(b"\1\2")
         linked = os.fstat(file.fileno()).st_nlink
         file.close()
@@ -222,9 +224,9 @@ def test_a_large_file_that_changes_while_it_is_compared(place: str) -> None:
     other = bytes(99)
 
     def changing() -> None:
-        from aecp.archive import _keeping
+        from aecp.archive import _whole
 
-        real, calls = _keeping.read_all, [0]
+        real, calls = _whole.read_all, [0]
 
         def read_all(file: Any, length: int) -> bytes:
             calls[0] += 1
@@ -234,7 +236,7 @@ def test_a_large_file_that_changes_while_it_is_compared(place: str) -> None:
                     another.write(other)
             return data
 
-        _keeping.read_all = read_all  # type: ignore[attr-defined]
+        _whole.read_all = read_all  # type: ignore[attr-defined]
 
     ran = command(place, "keep", "a", "-n", "16", "--remove", how=How(before=changing))
     assert ran.status == 1 and read(path).startswith(other), ran

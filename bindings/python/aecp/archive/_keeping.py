@@ -17,12 +17,12 @@ from aecp.archive._file import ArchiveFile, opened
 from aecp.archive._form import MOST_SIDE, Damaged, Exists, Facts, Refused, Source
 from aecp.archive._headers import Layout, layout_of, options_of
 from aecp.archive._history import Entry, keep_entry
-from aecp.archive._originals import Reading, original, read_all, same, sha256_of
+from aecp.archive._originals import Reading, original, same, sha256_of
 from aecp.archive._outcomes import Outcome, damage_named, shape_text, words_of
 from aecp.archive._pairs import converted, note_at
 from aecp.archive._paths import Found, made_target, require_kept
 from aecp.archive._stored import Scripted
-from aecp.archive._whole import judge, sides, sound_pieces
+from aecp.archive._whole import is_restored, judge
 from aecp.archive._writer import Writer
 from aecp.calls import encode
 from aecp.faults import Fault, SampleRefused
@@ -235,6 +235,8 @@ def kept_outcome(how: Keeping, found: Found, target: str) -> Outcome:
     if how.repair:
         with _saving.locked(target) as status:
             outcome = repaired(how, found, target, status)
+    elif how.remove and is_removed(found, target):
+        return Outcome("skipped", note, more={"removed": True})
     else:
         outcome = compared(how, found, target, note)
     if not how.remove or outcome.kind == "changed":
@@ -247,6 +249,16 @@ def kept_outcome(how: Keeping, found: Found, target: str) -> Outcome:
             return replace(outcome, kind="refused", said=why)
         _saving.sync(target)  # it may be a copy that isn't on the disk yet
         return removed(found.path, file, before, outcome)
+
+
+def is_removed(found: Found, target: str) -> bool:
+    """Returns whether an original was there when the run began, isn't any more, and its size is
+    that of the file that was kept: a process of this run may have removed it, and died."""
+    if not found.inode or os.path.lexists(found.path):
+        return False
+    with opened(target) as kept:
+        source = kept.facts.source
+    return source is not None and source.bytes == found.size
 
 
 def is_old(target: str) -> bool:
@@ -300,19 +312,6 @@ def other_options(how: Keeping, facts: Facts) -> str:
     if how.shape not in (None, facts.shape) or how.dtype not in (None, facts.dtype):
         return f"it is kept already, as {shape_text(facts)}"
     return ""
-
-
-def is_restored(kept: ArchiveFile, file: BinaryIO, size: int) -> bool:
-    """Returns whether a kept file restores exactly an original of so many bytes."""
-    head, tail = sides(kept)
-    if size != len(head) + kept.facts.samples.bytes + len(tail):
-        return False
-    file.seek(0)
-    if read_all(file, len(head)) != head:
-        return False
-    if any(read_all(file, len(piece)) != piece for piece in sound_pieces(kept)):
-        return False
-    return read_all(file, len(tail) + 1) == tail
 
 
 def repaired(how: Keeping, found: Found, target: str, status: os.stat_result) -> Outcome:

@@ -30,6 +30,7 @@ class Found(NamedTuple):
     size      its bytes when it was found
     is_named  it was named itself, instead of found in a folder
     inode     its number in the file system when it was found, 0 if that isn't known
+    is_new    whether nothing had the name of its result when the run began, as far as that is known
     """
 
     path: str
@@ -38,6 +39,7 @@ class Found(NamedTuple):
     size: int
     is_named: bool
     inode: int = 0
+    is_new: bool = False
 
 
 class Passed(NamedTuple):

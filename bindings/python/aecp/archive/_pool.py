@@ -215,15 +215,16 @@ FAULTS = (Exception, asyncio.CancelledError)
 
 
 class Cluster:
-    """The workers of a dask cluster. Dask deals the lots of a worker that died to others."""
+    """The workers of a dask cluster. Dask deals the lots of a worker that died to others. `clean`
+    removes what such a worker has left of work on lots."""
 
-    def __init__(self, address: str) -> None:
+    def __init__(self, address: str, clean: Callable[[Any], None]) -> None:
         try:
             import distributed
         except ImportError:
             raise Failed("--dask needs the Python module distributed") from None
-        for name in ("asyncio", "distributed"):  # each failure is told by a line of our own
-            logging.getLogger(name).setLevel(logging.CRITICAL)
+        self.clean = clean
+        no_logs()
         try:
             connect: Any = distributed.Client
             self.client: Any = connect(address, timeout=20, set_as_default=False)
@@ -231,20 +232,30 @@ class Cluster:
             why = str(error) or type(error).__name__
             raise Failed(f"no dask scheduler at {address}: {why}") from None
         with cluster_faults():
-            self.workers = max(1, sum(self.client.ncores().values()))
+            cores: dict[str, int] = self.client.ncores()
+        self.addresses, self.workers = set(cores), max(1, sum(cores.values()))
 
     def results(self, work: Callable[[Any], Any], lots: list[Any]) -> Iterator[Any]:
         futures: list[Any] = []
         try:
             with cluster_faults():
                 futures.extend(self.client.submit(work, lot, pure=False) for lot in lots)
-            for future in futures:
-                yield self.result(future)
+            for number, future in enumerate(futures, 1):
+                result = self.result(future)
+                if number == len(futures):  # the caller needs no more, and may end the generator
+                    self.clean_after_deaths(lots)
+                yield result
         finally:
             left = [it for it in futures if not it.done()]
             if left:
                 with contextlib.suppress(*FAULTS):
                     self.client.cancel(left)
+
+    def clean_after_deaths(self, lots: list[Any]) -> None:
+        """Removes what workers have left that died since the run began."""
+        with contextlib.suppress(*FAULTS):
+            if not self.addresses <= set(self.client.ncores()):
+                self.clean([item for lot in lots for item in lot])
 
     def result(self, future: Any) -> Any:
         """Returns the result of a future, or None if the workers that worked on it died. Raises
@@ -261,6 +272,14 @@ class Cluster:
         """Leaves the cluster."""
         with contextlib.suppress(*FAULTS):
             self.client.close()
+
+
+def no_logs() -> None:
+    """Makes dask print nothing: each failure is told by a line of our own."""
+    ours = ("asyncio", "distributed")
+    for name in [*ours, *logging.root.manager.loggerDict]:
+        if name.partition(".")[0] in ours:
+            logging.getLogger(name).setLevel(logging.CRITICAL)
 
 
 @contextlib.contextmanager
@@ -280,7 +299,7 @@ def pool_of(
     """Yields the pool for so many items. `clean` removes what a killed process has left of work on
     a lot. Raises Failed if the pool can't be had."""
     if dask is not None:
-        cluster = Cluster(dask)
+        cluster = Cluster(dask, clean)
         try:
             yield cluster
         finally:

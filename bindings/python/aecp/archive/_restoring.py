@@ -7,7 +7,7 @@ import hashlib
 import os
 import stat
 import sys
-from collections.abc import Iterator
+from collections.abc import Iterable, Iterator
 from dataclasses import dataclass
 from typing import Any, BinaryIO, NamedTuple, Optional
 
@@ -15,6 +15,7 @@ from aecp._console import shown
 from aecp.archive import _saving
 from aecp.archive._file import ArchiveFile, opened
 from aecp.archive._form import Damaged, Exists, Range, Refused
+from aecp.archive._originals import original, read_all
 from aecp.archive._outcomes import Outcome, ranges_json, ranges_text
 from aecp.archive._paths import STREAM, Found, place_below
 from aecp.archive._scripts import Store
@@ -81,19 +82,48 @@ def output_or_none(path: Optional[str]) -> Iterator[Optional[BinaryIO]]:
 
 
 def back(how: Restoring, found: Found) -> Outcome:
-    """Restores the original of a kept file, or writes a part of its samples."""
+    """Restores the original of a kept file, or writes a part of its samples. A process of this run
+    may have died after it wrote the file: then compares its bytes."""
     with opened(found.path, how.limit) as kept:
         path = how.out or out_of(how, found)
-        if how.out is None and os.path.lexists(path):  # a pipe or a device there is no output
-            raise Exists(f"{shown(path)} exists, and nothing is written over it")
-        mode = kept.status.st_mode & 0o666 if kept.status else 0o666
-        with output(path, mode) as file:
-            if how.part is not None:
-                first, length = in_range(how.part, kept.facts.count)
-                size = write_pieces(kept, file, first, length)
-            else:
-                size = write_original(kept, file)
+        try:
+            size = write_new(how, kept, path)
+        except Exists:
+            if not (found.is_new and has_contents(path, contents(kept, how.part))):
+                raise
+            size = os.path.getsize(path)
     return Outcome("restored", "", size, found.size)
+
+
+def write_new(how: Restoring, kept: ArchiveFile, path: str) -> int:
+    """Writes the original of a kept file, or a part of its samples. Returns its number of bytes.
+    Raises Exists."""
+    if how.out is None and os.path.lexists(path):  # a pipe or a device there is no output
+        raise Exists(f"{shown(path)} exists, and nothing is written over it")
+    mode = kept.status.st_mode & 0o666 if kept.status else 0o666
+    size = 0
+    with output(path, mode) as file:
+        for piece in contents(kept, how.part):
+            file.write(piece)
+            size += len(piece)
+        if how.part is None and file is not sys.stdout.buffer:
+            give_time(kept, file)
+    return size
+
+
+def has_contents(path: str, pieces: Iterable[bytes | bytearray]) -> bool:
+    """Returns whether a path is that of a regular file that consists of these pieces. Raises what
+    reading them raises; OSError, Refused."""
+    with original(path) as file:
+        return all(read_all(file, len(it)) == it for it in pieces) and not file.read(1)
+
+
+def is_free(how: Restoring, found: Found) -> bool:
+    """Returns whether nothing has the name of the restored file yet. Makes no folder."""
+    if how.out is not None:
+        return False
+    below = os.path.join(how.to, found.below) if how.to is not None else found.path
+    return not os.path.lexists(below.removesuffix(STREAM))
 
 
 def out_of(how: Restoring, found: Found) -> str:
@@ -110,31 +140,28 @@ def in_range(part: tuple[int, int], count: int) -> tuple[int, int]:
     return part
 
 
-def write_pieces(kept: ArchiveFile, file: BinaryIO, first: int, length: int) -> int:
-    """Writes a part of the samples. Returns its number of bytes."""
-    size = 0
-    for piece in kept.pieces(first, length) if length else ():
-        file.write(piece)
-        size += len(piece)
-    return size
-
-
-def write_original(kept: ArchiveFile, file: BinaryIO) -> int:
-    """Writes head, samples and tail. Returns the number of bytes. Raises Damaged if a recorded sum
-    is another."""
+def contents(
+    kept: ArchiveFile, part: Optional[tuple[int, int]]
+) -> Iterator[bytes | bytearray]:
+    """Yields a part of the samples; without one head, samples and tail. Raises Refused if the part
+    is outside the samples; Damaged, after the last piece too, if a recorded sum is another."""
+    if part is not None:
+        first, length = in_range(part, kept.facts.count)
+        yield from kept.pieces(first, length) if length else ()
+        return
     head, tail = sides(kept)
-    file.write(head)
-    size = len(head) + len(tail)
-    for piece in sound_pieces(kept):
-        file.write(piece)
-        size += len(piece)
-    file.write(tail)
+    yield head
+    yield from sound_pieces(kept)
+    yield tail
+
+
+def give_time(kept: ArchiveFile, file: BinaryIO) -> None:
+    """Gives a restored file the time of the original, if the samples are still those."""
     source = kept.facts.source
-    if source is not None and is_as_kept(kept) and file is not sys.stdout.buffer:
+    if source is not None and is_as_kept(kept):
         file.flush()
         with contextlib.suppress(OSError):
             os.utime(file.fileno(), ns=(source.mtime_ns, source.mtime_ns))
-    return size
 
 
 def export(path: str, out: str, limit: Optional[int]) -> None:

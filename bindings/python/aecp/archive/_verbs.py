@@ -182,6 +182,7 @@ def do_back(asked: argparse.Namespace, console: Console) -> int:
     out = asked.out if asked.out in (None, "-") else os.path.abspath(asked.out)
     to = asked.to and os.path.abspath(asked.to)
     how = _restoring.Restoring(to, out, part, asked.limit)
+    found = [it._replace(is_new=_restoring.is_free(how, it)) for it in found]
     status, counts = say_passed(console, passed), Counts()
     for it, outcome in dealt(asked, console, partial(_restoring.back, how), found):
         counts.add(it, outcome)

@@ -4,10 +4,11 @@ from __future__ import annotations
 
 import hashlib
 from collections.abc import Iterator
-from typing import Any
+from typing import Any, BinaryIO
 
 from aecp.archive._file import ArchiveFile, Progress
 from aecp.archive._form import Damaged
+from aecp.archive._originals import read_all
 
 
 def sides(kept: ArchiveFile) -> tuple[bytes, bytes]:
@@ -54,6 +55,19 @@ def is_as_kept(kept: ArchiveFile) -> bool:
     history = kept.history()
     first = history[0].after if history and history[0].what == "keep" else None
     return first is not None and first.samples == kept.facts.samples
+
+
+def is_restored(kept: ArchiveFile, file: BinaryIO, size: int) -> bool:
+    """Returns whether a kept file restores exactly an original of so many bytes."""
+    head, tail = sides(kept)
+    if size != len(head) + kept.facts.samples.bytes + len(tail):
+        return False
+    file.seek(0)
+    if read_all(file, len(head)) != head:
+        return False
+    if any(read_all(file, len(piece)) != piece for piece in sound_pieces(kept)):
+        return False
+    return read_all(file, len(tail) + 1) == tail
 
 
 def judge(kept: ArchiveFile, progress: Progress = None) -> None:
