@@ -8,12 +8,10 @@ FOLDER contains libaecp.so. Prints a table for each of
     large    keep, check and back of one file of 256 MiB and one of 4 GiB, beside flac and zstd
     growth   the history: 100 edits of 3,000 samples in 256 KiB: one script, the same places, and
              others
-Times are of the clock, of one run each; those of `ends` are the least of 50 runs. `files`, `edits`
-and `large` also print seconds of processors, user and system. `files` and `edits` print files for
-each second of the clock. `large` prints MB of samples for each second of a processor: the rate of
-one core, which hardly depends on what else runs. Without --full, `ends`, `files` and `edits` use
-about an eighth of the files and samples, `growth` makes a quarter of the edits, and `large` measures
-only the smaller file.
+Times are seconds of the clock, of one run each (of `ends` the least of 50), and core seconds: those
+of the processors, user and system, of all processes of a run. Core seconds, and MB of samples for
+each of them, depend little on what else runs. Without --full the numbers of files and samples are
+an eighth, and of `large` only the smaller file is measured.
 """
 
 from __future__ import annotations
@@ -126,7 +124,7 @@ def files(place: str, full: bool) -> None:
     os.mkdir(folder)
     for number in range(many):
         Path(folder, f"f{number:05}.raw").write_bytes(detector(number % 50, 4096))
-    head(f"{many} files of 8 KiB", "seconds", "of processors", "files a second")
+    head(f"{many} files of 8 KiB", "seconds", "core seconds", "files a second")
 
     def measured(name: str, *words: Any) -> None:
         took = spent(lambda: run(*words, where=place))
@@ -152,7 +150,7 @@ def edits(place: str, full: bool) -> None:
     for number, name in enumerate(names):
         Path(place, "sky", name).write_bytes(detector(number % 50, MIB // 8))
     Path(place, "table.csv").write_text("row,column,value\n9,4,1\n9,5,2\n", encoding="ascii")
-    head(f"{many} files of 256 KiB", "seconds", "of processors", "files a second")
+    head(f"{many} files of 256 KiB", "seconds", "core seconds", "files a second")
 
     def measured(name: str, number: int, *words: Any) -> None:
         took = spent(lambda: run(*aecp_words(*words), where=place))
@@ -185,7 +183,7 @@ def large(place: str, full: bool) -> None:
 
 def large_file(place: str, size: int) -> None:
     """The file `raw`, of so many bytes."""
-    head(f"{size // MIB} MiB", "seconds", "of processors", "MB a second of one core", "bytes")
+    head(f"{size // MIB} MiB", "seconds", "core seconds", "MB for each core second", "bytes")
 
     def measured(name: str, result: str, *words: Any) -> None:
         took = spent(lambda: run(*words, where=place))
