@@ -1,7 +1,6 @@
 -- The blocks from where an interval begins, counted from 0.
 use Rattle.std.proofs.Common.{◌≡◌, ℕ, ◌+◌, ◌%◌, ◌<◌, ◌≤◌, Bool, Option, Some, List, [], ◌∷◌, refl, sym, arith}
 use Rattle.std.specs.Int.{div_ceil}
-use Rattle.std.proofs.Math.Nat.{mod-lt}
 use Rattle.std.proofs.lemmas.Bool.{lt-ltb}
 use Rattle.std.proofs.lemmas.List.{length-append}
 use Rattle.aec_params.specs.declared.settings.Settings.{Settings}
@@ -45,12 +44,6 @@ module _ (s : Settings) (a : IsAllowed s) (count : Option ℕ) (limit other : �
         ),
       )
     where
-      p : ℕ
-      p = (f + i) % s.interval
-
-      below : p < s.interval
-      below = mod-lt (f + i) (interval-positive s a)
-
       needed : i < div_ceil m s.block_size
       needed = grind (arith, length-stream_blocks, interval-positive, length-append, length-cds_blocks, block_count-positive)
 
