@@ -14,7 +14,9 @@ import sys
 
 TOP = os.path.join(os.path.dirname(os.path.abspath(__file__)), "..")
 
-# The files with a copy, and the text around each copy. POINTS stands for 1.2.3, and NUMBER for 10203.
+# The files with a copy, and the text around each copy. POINTS stands for 1.2.3, and NUMBER for 10203. A text that begins with FIRST is at
+# the file's start: debian/changelog also has the versions of earlier releases, and a packager may add to the first one.
+FIRST = r"\A"
 PLACES = [
     ("crates/aec_cli/src/words.rt", 'const VERSION: &str = "POINTS";'),
     ("crates/aec_tests/src/words.rt", 'b"aec POINTS\\n"'),
@@ -28,7 +30,7 @@ PLACES = [
     ("bindings/rust/aecp/Cargo.toml", 'path = "../aecp-sys", version = "POINTS"'),
     ("bindings/rust/aecp-sys/Cargo.toml", '\nversion = "POINTS"\n'),
     ("bindings/rust/aecp-sys/src/lib.rs", "pub const AECP_VERSION: u32 = NUMBER;\n"),
-    ("debian/changelog", "aec-proved (POINTS) unstable; urgency=medium\n"),
+    ("debian/changelog", FIRST + "aec-proved (POINTS"),
     ("CITATION.cff", "\nversion: POINTS\n"),
     ("bindings/c/aecp.3", '.TH AECP 3 "" "aecp POINTS"\n'),
 ]
@@ -51,18 +53,19 @@ def number_of(points):
 
 def filled(around, points):
     """Returns the text of a place with a version in it."""
-    return around.replace("POINTS", points).replace("NUMBER", str(number_of(points)))
+    return around.removeprefix(FIRST).replace("POINTS", points).replace("NUMBER", str(number_of(points)))
 
 
 def pattern_of(around):
     """Returns a pattern for the text of a place with any version in it."""
-    return re.escape(around).replace("POINTS", r"\d+\.\d+\.\d+").replace("NUMBER", r"\d+")
+    start = FIRST if around.startswith(FIRST) else ""
+    return start + re.escape(around.removeprefix(FIRST)).replace("POINTS", r"\d+\.\d+\.\d+").replace("NUMBER", r"\d+")
 
 
 def updated(text, around, points):
     """Returns a file's text with the version in one of its places. None if the place isn't there exactly once."""
     found = re.findall(pattern_of(around), text)
-    return text.replace(found[0], filled(around, points)) if len(found) == 1 else None
+    return text.replace(found[0], filled(around, points), 1) if len(found) == 1 else None
 
 
 def differences(is_written):

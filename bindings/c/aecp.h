@@ -28,11 +28,11 @@ extern "C" {
 #define AECP_UINT32(n) ((uint32_t)(n))
 #endif
 
-/* The version of this header, 1.0.0: 10,000 times its first number, plus 100 times its second, plus its third. aecp_version returns that of
- * the library, which may differ; it allocates nothing. The structs and calls below change only with the first number, and then the soname
- * changes too (now libaecp.so.1). A greater second number means that calls were added. */
-#define AECP_VERSION 10000
-#define AECP_VERSION_STRING "1.0.0"
+/* The version of this header, 1.1.0: 10,000 times its first number, plus 100 times its second, plus its third. aecp_version returns that of
+ * the library, which may differ; it allocates nothing. From 1.1.0 on, the structs and calls below change only with the first number, and
+ * then the soname changes too (now libaecp.so.1). A greater second number means that calls were added. */
+#define AECP_VERSION 10100
+#define AECP_VERSION_STRING "1.1.0"
 uint32_t aecp_version(void);
 
 /* How samples are stored and coded. A stored sample of 1 to 8 bits takes one byte, of 9 to 16 two, else four (but see three_byte). */

@@ -19,7 +19,7 @@ return numpy arrays. The library is loaded at the first call, which raises Impor
 Several threads may call at once, and their calls run in parallel. While a call runs, no thread may change the memory passed to it.
 """
 
-__version__ = "1.0.0"
+__version__ = "1.1.0"
 
 from aecp.archive import create, open, pack, unpack
 from aecp.calls import decode, decode_at, decode_bytes, decode_bytes_at, decode_range, decode_range_bytes, encode, offsets

@@ -27,9 +27,10 @@ VERBS = {
         "aecp keep data --to /mnt/disk --repair    kept with --to: give the same PATH and DIR",
     ),
     "back": (
-        "restores originals",
-        "Writes the original of each kept file, and compares its checksum.\n"
-        "Never writes over a file. After FILE.aec, OUT may name the new file.",
+        "restores files",
+        "Writes the samples of each kept file again, with its edits, and compares their checksum.\n"
+        "For the original, run `aecp undo --all` first. Never writes over a file. After FILE.aec,\n"
+        "OUT may name the new file.",
         "aecp back scan.raw.aec                    writes scan.raw\n"
         "aecp back data --to restored              writes restored/data/..\n"
         "aecp back scan.raw.aec -o -               to standard output\n"

@@ -20,9 +20,9 @@ use std::alloc::Global;
 /// plus its third.
 #[unsafe(no_mangle)]
 pub extern "C" fn aecp_version() -> u32
-    ensures { result ≡ 10000 }
+    ensures { result ≡ 10100 }
 {
-    10000
+    10100
 }
 
 /// Codes stored samples. Replies how many bytes the code takes.

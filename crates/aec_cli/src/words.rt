@@ -16,7 +16,7 @@ use clap::{Arg, ArgAction, ArgMatches, Command, Error};
 use std::alloc::{AllocError, Global};
 
 /// What `--version` prints after the name.
-const VERSION: &str = "1.0.0";
+const VERSION: &str = "1.1.0";
 
 /// Returns the command `aec`, which has no rules between its arguments. Fails only with `Memory`.
 pub fn command<'a>(alloc: Global) -> Result<Command<'a>, Usage>

@@ -313,7 +313,7 @@ fn the_version_goes_to_standard_output(rt: HostRuntime) -> Result<(), Fail> {
     for word in ["--version", "-V"] {
         let (status, out, err) = run_of(&rt, rt.alloc(), word)?;
         same(&rt, (status, err.len()), (0, 0));
-        same(&rt, out.as_slice(), b"aec 1.0.0\n".as_slice());
+        same(&rt, out.as_slice(), b"aec 1.1.0\n".as_slice());
     }
     Ok(())
 }
