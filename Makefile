@@ -67,7 +67,7 @@ sizes: ## prints how many bytes FILE takes with each block size and interval, wi
 	@PYTHONPATH=bindings/python python3 -m aecp fit $(FILE) $(OPTIONS)
 
 # Checks the contracts and the generated pages, runs the gate (`rt ci`), then tests the program that the gate has built.
-test: ## proves everything again, and runs all tests of the program (32 minutes on four processors)
+test: ## proves everything again, and runs all tests of the program (32 to 61 minutes on four processors)
 	sh tests/run.sh
 
 # Runs all tests that need no kit on an installed program, by default bin/aec: make check PROGRAM=/usr/bin/aec-proved. LIBRARY, a folder
@@ -138,11 +138,12 @@ or_plain = $(if $(filter bin/x86-64-v3/aec,$(BUILT)),$(comma) or give CPU=x86-64
 comma := ,
 share = $(DESTDIR)$(PREFIX)/share
 install: ## installs the program: PREFIX, DESTDIR, PROGRAM, CPU (seconds)
+	@case "$(PROGRAM)" in aecp | */*) echo "PROGRAM can't be $(PROGRAM)" >&2; exit 1 ;; esac
 	@test -x $(BUILT) || { echo "there is no $(BUILT): run make first, which proves the program and builds it$(or_plain)" >&2; exit 1; }
 	@echo "installing $(BUILT)$(if $(filter file,$(origin BUILT)), for $(CPU)) as $(PREFIX)/bin/$(PROGRAM)"
 	install -d $(DESTDIR)$(PREFIX)/bin $(share)/man/man1 $(share)/bash-completion/completions $(share)/zsh/site-functions
 	install -m 755 $(BUILT) $(DESTDIR)$(PREFIX)/bin/$(PROGRAM)
-	sed 's|share/doc/aec|share/doc/$(PROGRAM)|' man/aec.1 > $(share)/man/man1/$(PROGRAM).1
+	sed 's|share/doc/aec/|share/doc/$(PROGRAM)/|' man/aec.1 > $(share)/man/man1/$(PROGRAM).1
 	sed '/^complete /s/ aec$$/ $(PROGRAM)/' completions/aec.bash > $(share)/bash-completion/completions/$(PROGRAM)
 	sed '/^#compdef /s/ aec$$/ $(PROGRAM)/' completions/_aec > $(share)/zsh/site-functions/_$(PROGRAM)
 	$(PYTHON) packaging/pages.py $(share)/doc/$(PROGRAM)
@@ -200,6 +201,8 @@ install-c: ## installs the library for C: PREFIX, DESTDIR, LIBDIR (seconds)
 	for file in aecpConfig aecpConfigVersion; do \
 	    sed 's|@VERSION@|$(VERSION)|' bindings/c/$$file.cmake.in > $(DESTDIR)$(LIBDIR)/cmake/aecp/$$file.cmake || exit 1; done
 	install -m 644 bindings/c/aecp.3 $(share)/man/man3/aecp.3
+	install -d $(share)/doc/libaecp
+	install -m 644 LICENSE NOTICES $(share)/doc/libaecp
 
 # Builds the Python module's sdist and wheel in bin/wheel/, with the library for each level that is built. The wheel is for any Python 3.
 .PHONY: wheel uninstall-c uninstall-python
@@ -225,7 +228,7 @@ uninstall-c: ## removes what install-c has installed
 	rm -f $(DESTDIR)$(PREFIX)/include/aecp.h $(DESTDIR)$(LIBDIR)/pkgconfig/aecp.pc $(share)/man/man3/aecp.3
 	rm -f $(DESTDIR)$(LIBDIR)/libaecp.a $(DESTDIR)$(LIBDIR)/libaecp.so.1 $(DESTDIR)$(LIBDIR)/libaecp.so
 	rm -f $(DESTDIR)$(LIBDIR)/$(hwcaps)/libaecp.so.1
-	rm -rf $(DESTDIR)$(LIBDIR)/cmake/aecp
+	rm -rf $(DESTDIR)$(LIBDIR)/cmake/aecp $(share)/doc/libaecp
 	-rmdir $(DESTDIR)$(LIBDIR)/cmake 2> /dev/null
 	rmdir $(DESTDIR)$(LIBDIR)/$(hwcaps) $(DESTDIR)$(LIBDIR)/glibc-hwcaps 2> /dev/null || true
 

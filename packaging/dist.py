@@ -5,6 +5,10 @@ Writes a tarball, the Debian packages, the sdist and the wheel, each with the fi
 runs with the same bin/ write the same bytes, in any folder: each date is SOURCE_DATE_EPOCH or else the commit's, names are sorted, and
 no package contains a path of this machine.
 
+Until a commit has the tag of its version, such as v1.1.0, several commits have the same version. So all packages of such a commit get
+its time and name added: 1.1.0~git20261130190512.cd5bd7d4, or for Python 1.1.0.dev20261130190512+gcd5bd7d4. They sort by time, and before
+the release. If debian/changelog begins with another version than the file VERSION, the Debian packages have that.
+
 Fails unless each binary was proved and built at this commit; a checkout with changes counts as the commit 'NAME with changes'.
 With --unproved, the binaries are packed unchecked, for a try, and the file PROVED says so.
 """
@@ -44,13 +48,22 @@ def texts(is_proved):
     return text
 
 
-def debian_packages(work, head):
-    """Runs dpkg-buildpackage in a copy of the checkout without crates. Returns the paths of the packages. `head` begins PROVED."""
+def name_snapshot(changelog, named):
+    """Adds time and name of the commit to the version that debian/changelog begins with, if it is that of the file VERSION."""
+    begin, text = f"aec-proved ({proved.version()}", stage.read(changelog).decode()
+    if named and text.startswith(begin + ")"):
+        stage.write(changelog, text.replace(begin, f"{begin}~git{named}", 1).encode())
+
+
+def debian_packages(work, head, named):
+    """Runs dpkg-buildpackage in a copy of the checkout without crates. Returns the paths of the packages. `head` begins PROVED; `named` are
+    the time and the name of the commit."""
     copy, place = os.path.join(work, "debian", "checkout"), os.path.join(work, "proved")
     left_out = shutil.ignore_patterns(".git", "crates", "dist", "wheel", "__pycache__")
     shutil.copytree(proved.TOP, copy, symlinks=True, ignore=left_out)
     stage.write(place, head.encode())
-    given = {**os.environ, "AECP_PROVED_HEAD": place, "MAKEFLAGS": "", "MAKELEVEL": ""}
+    name_snapshot(os.path.join(copy, "debian", "changelog"), named)
+    given = {**os.environ, "AECP_PROVED_HEAD": place, "AECP_SNAPSHOT": named, "MAKEFLAGS": "", "MAKELEVEL": ""}
     words = ["dpkg-buildpackage", "-us", "-uc", "-b", "--no-pre-clean"]
     done = subprocess.run(words, cwd=copy, env=given, capture_output=True, text=True, check=False)
     if done.returncode:
@@ -67,18 +80,21 @@ def write_sums(made):
 
 
 def build(is_proved):
-    """Writes all packages. Returns their paths."""
+    """Writes all packages. Returns their paths. Raises Failed if files of the checkout change meanwhile."""
     os.umask(0o022)
-    when = proved.moment()
+    when, at, named = proved.moment(), proved.state(), proved.snapshot()
+    version = proved.version() + (f"~git{named}" if named else "")
     os.environ["SOURCE_DATE_EPOCH"] = str(when)
     text = texts(is_proved)
     shutil.rmtree(DIST, ignore_errors=True)
     os.makedirs(DIST)
     with tempfile.TemporaryDirectory() as work:
         os.chmod(work, 0o755)
-        made = [tarball.build(proved.TOP, work, DIST, proved.version(), when, text(tarball.PLACES))]
-        made += [shutil.copy(path, DIST) for path in debian_packages(work, text({}))]
-        made += python.build(DIST, when, text(python.PLACES))
+        made = [tarball.build(proved.TOP, work, DIST, version, when, text(tarball.PLACES), named)]
+        made += [shutil.copy(path, DIST) for path in debian_packages(work, text({}), named)]
+        made += python.build(DIST, when, text(python.PLACES), snapshot=named)
+    if proved.state() != at:
+        raise Failed("files changed meanwhile: run this again")
     made.append(write_sums(made))
     return made
 

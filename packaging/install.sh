@@ -55,7 +55,7 @@ place() {
 # The text of a file that contains the program's name.
 renamed() {
     case $1 in
-        share/man/man1/aec.1) sed "s|share/doc/aec|share/doc/$program|" "$from/$1" ;;
+        share/man/man1/aec.1 | share/man/man1/aecp.1) sed "s|share/doc/aec/|share/doc/$program/|" "$from/$1" ;;
         share/bash-completion/completions/aec) sed "/^complete /s/ aec\$/ $program/" "$from/$1" ;;
         share/zsh/site-functions/_aec) sed "/^#compdef /s/ aec\$/ $program/" "$from/$1" ;;
         *) return 1 ;;
@@ -110,7 +110,11 @@ case ${1:-} in
     /*) prefix=$1 ;;
     *) prefix=$PWD/$1 ;;
 esac
+prefix=${prefix%/}
 [ $# = 1 ] || usage
+case $program in
+    aecp | */*) usage ;;
+esac
 level=${AECP_LEVEL:-$(level_of /proc/cpuinfo)}
 case $level in
     x86-64-v2 | x86-64-v3) ;;
@@ -120,6 +124,12 @@ esac
 if [ $action = install ]; then
     files | while IFS= read -r file; do install_file "$file"; done
     echo "installed in $prefix: bin/$program for $level, lib/libaecp.a, lib/libaecp.so.1, bin/aecp. If $prefix/lib is on the loader's path, run ldconfig."
+    found=$(command -v "$program" || true)
+    if [ -z "$found" ]; then
+        echo "put $prefix/bin on PATH"
+    elif ! [ "$found" -ef "$prefix/bin/$program" ]; then
+        echo "the command $program is another program: put $prefix/bin first on PATH"
+    fi
 else
     check_installed
     files | while IFS= read -r file; do rm -f "$prefix/$(place "$file")"; done

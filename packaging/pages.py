@@ -12,7 +12,7 @@ import re
 import sys
 
 TOP = os.path.join(os.path.dirname(os.path.abspath(__file__)), "..")
-FILES = ["README.md", "CHANGELOG.md", "SECURITY.md", "LICENSE", "docs/*.md", "docs/*/*", "bench/tables.md", "examples/*"]
+FILES = ["README.md", "CHANGELOG.md", "SECURITY.md", "LICENSE", "NOTICES", "docs/*.md", "docs/*/*", "bench/tables.md", "examples/*"]
 FILES += ["examples/preload/README.md", "examples/preload/Makefile", "examples/preload/*.c"]
 # For those who change the program. They are only in the source.
 DEVELOPERS = {"docs/ARCHITECTURE.md", "docs/DECISIONS.md"}

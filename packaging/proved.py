@@ -14,6 +14,7 @@ import hashlib
 import os
 import subprocess
 import sys
+import time
 from typing import NamedTuple
 
 TOP = os.path.abspath(os.path.join(os.path.dirname(os.path.abspath(__file__)), ".."))
@@ -40,7 +41,8 @@ SHA-256 of each binary. A path with x86-64-v3 is of a binary for processors of t
 
 
 STRIPPED = """
-Debian's dh_strip has moved the symbols of these files into the packages -dbgsym. What was proved and built had these sums before:
+Debian's dh_strip has removed symbols from these files: the packages -dbgsym have those of programs and shared libraries. Before, the
+files had these sums:
 
 {}"""
 
@@ -203,6 +205,21 @@ def version():
         return file.read().strip()
 
 
+def is_release():
+    """Returns whether the commit has the tag of its version, such as v1.1.0."""
+    return f"v{version()}" in git("tag", "--points-at", "HEAD").split()
+
+
+def snapshot():
+    """Returns time and name of a commit that is no release, such as 20261130190512.cd5bd7d4: `make dist` adds them to the version of its
+    packages. Empty for a release, and where git names no commit."""
+    told = git("log", "-1", "--format=%ct %h", "--abbrev=8").split()
+    if is_release() or not told:
+        return ""
+    at = time.strftime("%Y%m%d%H%M%S", time.gmtime(int(told[0])))
+    return f"{at}.{told[1]}" + (".changed" if commit() != git("rev-parse", "HEAD") else "")
+
+
 def debian_head():
     """Returns the first lines of PROVED: those of the file that AECP_PROVED_HEAD names, else those of this checkout."""
     named = os.environ.get("AECP_PROVED_HEAD")
@@ -220,10 +237,11 @@ def write_debian():
         root = os.path.join(TOP, "debian", package)
         packed = "".join(f"{sum_of(os.path.join(root, place))}  /{place}\n" for place in files.values())
         before = "".join(f"    {sum_of(os.path.join(TOP, 'bin', name))}  bin/{name}\n" for name in files)
+        is_stripped = any(sum_of(os.path.join(root, place)) != sum_of(os.path.join(TOP, "bin", name)) for name, place in files.items())
         path = os.path.join(root, "usr/share/doc", package, "PROVED")
         os.makedirs(os.path.dirname(path), exist_ok=True)
         with open(path, "w", encoding="utf-8") as file:
-            file.write(f"{start}\n{packed}{STRIPPED.format(before)}")
+            file.write(f"{start}\n{packed}{STRIPPED.format(before) if is_stripped else ''}")
         os.chmod(path, 0o644)
 
 

@@ -3,6 +3,7 @@
 
 Copies bindings/python, with the files that its gathered.txt names, and runs `python3 -m build` there: all metadata are in its
 pyproject.toml.
+AECP_SNAPSHOT has the time and the name of a commit that is no release, for debian/rules: they are added to the version.
 FOLDER gets both files, whose dates are SOURCE_DATE_EPOCH or else the commit's. This Python must have build, setuptools and wheel, or
 else Debian's, /usr/bin/python3: the wheel is for any Python. With --wheel no sdist is written.
 """
@@ -93,6 +94,15 @@ def copy_sources(folder, text):
         stage.write(os.path.join(folder, "aecp", "PROVED"), text.encode())
 
 
+def name_snapshot(module, named):
+    """Adds time and name of a commit to the version of a copy of the module, as 1.1.0.dev20261130190512+gcd5bd7d4; nothing if there are
+    none."""
+    path, begin = os.path.join(module, "__init__.py"), f'__version__ = "{proved.version()}'
+    at, _, name = named.partition(".")
+    if named:
+        stage.write(path, stage.read(path).decode().replace(f'{begin}"', f'{begin}.dev{at}+g{name}"', 1).encode())
+
+
 def date_all(folder, moment):
     """Gives each file and folder a date."""
     for path in [folder, *stage.below(folder)]:
@@ -104,7 +114,7 @@ def repack(path, moment):
     with tarfile.open(path) as archive:
         members = [(it, archive.extractfile(it).read() if it.isreg() else None) for it in archive.getmembers()]
     with open(path, "wb") as raw, gzip.GzipFile("", "wb", 9, raw, mtime=moment) as packed:
-        with tarfile.open(fileobj=packed, mode="w", format=tarfile.GNU_FORMAT) as archive:
+        with tarfile.open(fileobj=packed, mode="w", format=tarfile.PAX_FORMAT) as archive:
             for info, data in sorted(members, key=lambda it: it[0].name):
                 info.uid = info.gid = 0
                 info.uname = info.gname = "root"
@@ -112,8 +122,9 @@ def repack(path, moment):
                 archive.addfile(info, io.BytesIO(data) if data is not None else None)
 
 
-def build(folder, moment, text=None, more=()):
-    """Writes the sdist and the wheel into a folder. Returns their paths. `more` are words for `build`. Raises Unfit."""
+def build(folder, moment, text=None, more=(), snapshot=""):
+    """Writes the sdist and the wheel into a folder. Returns their paths. `text` is that of PROVED, or None; `more` are words for `build`;
+    `snapshot` is what `proved.snapshot` returns. Raises Unfit."""
     for name in LIBRARIES:
         path = os.path.join(proved.TOP, "bin", name)
         if os.path.exists(path):
@@ -122,6 +133,7 @@ def build(folder, moment, text=None, more=()):
     with tempfile.TemporaryDirectory() as work:
         source, made = os.path.join(work, "python"), os.path.join(work, "made")
         copy_sources(source, text)
+        name_snapshot(os.path.join(source, "aecp"), snapshot)
         date_all(source, moment)
         given = {**os.environ, "SOURCE_DATE_EPOCH": str(max(moment, 315532800)), "PYTHONDONTWRITEBYTECODE": "1"}
         words = [python, "-m", "build", "--no-isolation", "--outdir", made, *more, source]
@@ -143,7 +155,7 @@ def main():
     os.umask(0o022)
     os.makedirs(sys.argv[1], exist_ok=True)
     try:
-        made = build(sys.argv[1], proved.moment(), more=sys.argv[2:])
+        made = build(sys.argv[1], proved.moment(), more=sys.argv[2:], snapshot=os.environ.get("AECP_SNAPSHOT", ""))
     except (Unfit, proved.NotProved) as fault:
         print(fault, file=sys.stderr)
         return 1

@@ -5,6 +5,7 @@ import gzip
 import os
 import tarfile
 
+import python
 import stage
 
 # The paths of the binaries in the folder.
@@ -68,18 +69,18 @@ def add_command(top, folder):
     stage.write(os.path.join(folder, "bin/aecp"), COMMAND.encode(), 0o755)
 
 
-def fill(top, folder, version, proved):
+def fill(top, folder, version, proved, named):
     """Copies everything below a folder."""
     stage.program(top, folder, "", "aec")
     stage.library(top, folder, "", "lib", "${pcfiledir}/../..")
     add_command(top, folder)
+    python.name_snapshot(os.path.join(folder, MODULE), named)
     better = f"{stage.V3}/aec"
     stage.write(os.path.join(folder, PLACES[better]), stage.read(os.path.join(top, "bin", better)), 0o755)
     script = stage.with_level_function(top, stage.read(os.path.join(top, "packaging/install.sh")))
     stage.write(os.path.join(folder, "install.sh"), script, 0o755)
     stage.write(os.path.join(folder, "LICENSE"), stage.read(os.path.join(top, "LICENSE")))
-    for place in ("NOTICES", "share/doc/aec/NOTICES"):
-        stage.write(os.path.join(folder, place), stage.notices(top))
+    stage.write(os.path.join(folder, "NOTICES"), stage.notices(top))
     readme = README.format(version=version).encode()
     stage.write(os.path.join(folder, "README"), readme)
     for place in ("PROVED", "share/doc/aec/PROVED"):
@@ -101,11 +102,11 @@ LICENSE is the licence, and NOTICES has the licence of crates whose code is in t
 """
 
 
-def build(top, work, folder, version, moment, proved):
-    """Writes the tarball into a folder. Returns the tarball's path."""
+def build(top, work, folder, version, moment, proved, named):
+    """Writes the tarball into a folder. Returns the tarball's path. `named` are the time and the name of a commit that is no release."""
     name = f"aec-{version}-x86_64-linux"
     root = os.path.join(work, name)
-    fill(top, root, version, proved)
+    fill(top, root, version, proved, named)
     path = os.path.join(folder, name + ".tar.gz")
     with open(path, "wb") as raw, gzip.GzipFile("", "wb", 9, raw, mtime=moment) as packed:
         with tarfile.open(fileobj=packed, mode="w", format=tarfile.GNU_FORMAT) as archive:

@@ -84,6 +84,9 @@ def try_install(program, name, tally):
         wanted += [f"share/doc/{name}/examples/ramp.aec", f"share/doc/{name}/LICENSE", f"share/doc/{name}/docs/pictures/speed.svg"]
         for file in wanted:
             tally.check(f"{name}: {file} is there", os.path.isfile(os.path.join(folder, "usr", file)), True)
+        with open(os.path.join(folder, "usr", "share", "man", "man1", name + ".1"), encoding="utf-8") as file:
+            named = set(re.findall(r"share/doc/([\w-]+)", file.read().replace("\\-", "-")))
+        tally.check(f"the folders that {name}(1) names", named, {name, "aec-proved"})
         ran = subprocess.run([os.path.join(folder, "usr", "bin", name), "--version"], capture_output=True, text=True)
         tally.check(f"{name} --version", (ran.returncode, ran.stdout), (0, f"aec {version()}\n"))
         bash = os.path.join(folder, "usr", "share", "bash-completion", "completions", name)
@@ -106,6 +109,8 @@ def try_refusal(tally):
         tally.check("nothing is built: status", status != 0, True)
         tally.check("nothing is built: the line", "there is no no/such/aec: run make first" in said, True)
         tally.check("nothing is built: nothing is installed", os.listdir(folder), [])
+        status, said = made("install", folder, "PROGRAM=aecp")
+        tally.check("PROGRAM=aecp", (status != 0, "PROGRAM can't be aecp" in said, os.listdir(folder)), (True, True, []))
 
 
 def try_completions(program, tally):

@@ -118,17 +118,20 @@ def try_asking(prefix, version, folder, tally):
 
 
 def try_cmake_twice(prefix, lib, version, folder, tally):
-    """Configures a project with an installation, then with a copy of it, then with the copy without its header."""
-    source, built, other = (os.path.join(folder, name) for name in ("source", "twice", "other"))
+    """Configures a project with an installation, then by a link to its libraries, then with a copy of it, then with the copy without its
+    header."""
+    source, built, other, merged = (os.path.join(folder, name) for name in ("source", "twice", "other", "merged"))
     with open(os.path.join(source, "CMakeLists.txt"), "w", encoding="utf-8") as file:
         file.write(PROJECT.format(asked=version, target=TARGETS[0]))
     shutil.copytree(prefix, other, symlinks=True)
-    for place in (prefix, other):
+    os.mkdir(merged)
+    os.symlink(os.path.join(prefix, "lib"), os.path.join(merged, "lib"))
+    for place, where in ((prefix, prefix), (merged, prefix), (other, other)):
         words = [f"-Daecp_DIR={place}/{lib}/cmake/aecp", "-DCMAKE_EXPORT_COMPILE_COMMANDS=ON"]
         status, said = ran("cmake", "-S", source, "-B", built, *words)
         tally.holds(status == 0, f"cmake with {place}: {said[-800:]}")
         with open(os.path.join(built, "compile_commands.json"), encoding="utf-8") as file:
-            tally.holds(f"{place}/include" in file.read(), f"the header of {place} isn't used")
+            tally.holds(f"{where}/include" in file.read(), f"the header of {where} isn't used, by {place}")
     os.remove(os.path.join(other, "include", "aecp.h"))
     status, said = ran("cmake", "-S", source, "-B", built)
     tally.holds(status != 0 and "The header aecp.h is neither in" in " ".join(said.split()), f"cmake without the header: {said[-800:]}")

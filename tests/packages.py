@@ -30,9 +30,12 @@ from lib.program import TOP, Tally
 sys.path.insert(0, os.path.join(TOP, "packaging"))
 
 import elf
+import installed
 from lib import package_debs
 from lib import package_modules
 from lib import package_roots
+from lib.package_debs import debian_version, field_of
+from lib.package_modules import python_version, tarball_version, version
 import proved
 import python
 import stage
@@ -44,7 +47,7 @@ BINARIES = ("aec", "libaecp.a", "libaecp.so", "x86-64-v3/aec", "x86-64-v3/libaec
 LEVELS = runpy.run_path(os.path.join(TOP, "bindings/python/aecp/levels.py"))
 PLAIN, V3 = LEVELS["PLAIN"], LEVELS["V3"]
 # Flags in /proc/cpuinfo of a processor of each level.
-FLAGS = {PLAIN: "sse4_2 popcnt", V3: " ".join(["sse4_2", "popcnt", *LEVELS["FLAGS"]])}
+FLAGS = {PLAIN: " ".join(LEVELS["NEEDED"]), V3: " ".join([*LEVELS["NEEDED"], *LEVELS["FLAGS"]])}
 # The command that a file PROVED names; --strict so that a line in another form fails.
 SUMS = "grep -E '^[0-9a-f]{{64}} ' {} | sha256sum --strict -c"
 
@@ -67,11 +70,6 @@ class Checks(Tally):
             return True
         self.skip(name, what)
         return False
-
-
-def version():
-    with open(os.path.join(TOP, "VERSION"), encoding="utf-8") as file:
-        return file.read().strip()
 
 
 def dist(top):
@@ -105,16 +103,18 @@ def copied_checkout(folder):
 
 
 def try_python_build(checkout, made, folder, tally):
-    """Checks that `python3 -m build` in a checkout makes the wheel that `make dist` makes, without the file PROVED."""
+    """Checks that `python3 -m build` in a checkout makes the wheel that `make dist` makes, with the plain version and without PROVED."""
     words = [python.builder(), "-m", "build", "--no-isolation", "--outdir", folder, os.path.join(checkout, "bindings/python")]
     done = subprocess.run(words, capture_output=True, text=True)
     tally.holds(done.returncode == 0, f"python3 -m build: {done.stdout[-1000:]}{done.stderr[-1000:]}")
     wheel = next(path for name, path in made.items() if name.endswith(".whl"))
-    built = os.path.join(folder, os.path.basename(wheel))
-    tally.holds(os.path.exists(built), f"python3 -m build makes no {os.path.basename(wheel)}")
+    name = os.path.basename(wheel).replace(python_version(), version())
+    built = os.path.join(folder, name)
+    tally.holds(os.path.exists(built), f"python3 -m build makes no {name}")
     if os.path.exists(built):
         with zipfile.ZipFile(wheel) as one, zipfile.ZipFile(built) as other:
-            tally.check("the files of python3 -m build", sorted({*one.namelist()} - {"aecp/PROVED"}), sorted(other.namelist()))
+            wanted = {it.replace(python_version(), version()) for it in one.namelist()} - {"aecp/PROVED"}
+            tally.check("the files of python3 -m build", sorted(other.namelist()), sorted(wanted))
 
 
 def try_sums(made, tally):
@@ -159,13 +159,13 @@ def try_notices(made, tally):
         in_debian = re.sub(r"(?m)^ \.?", "", file.read())
     for part in text.split("\n\n", 1):
         tally.holds(part.strip() in in_debian, f"debian/copyright lacks a part of NOTICES: {part[:60]}")
-    top = f"aec-{version()}-x86_64-linux"
+    top = f"aec-{tarball_version()}-x86_64-linux"
     with tarfile.open(made[top + ".tar.gz"]) as archive:
         for place in ("NOTICES", "share/doc/aec/NOTICES"):
             tally.check(f"{place} of the tarball", archive.extractfile(f"{top}/{place}").read().decode(), text)
     with zipfile.ZipFile(next(path for name, path in made.items() if name.endswith(".whl"))) as archive:
         tally.holds("aecp/PROVED" in archive.namelist(), "the wheel has no PROVED")
-        tally.check("NOTICES of the wheel", archive.read(f"aecp-{version()}.dist-info/NOTICES").decode(), text)
+        tally.check("NOTICES of the wheel", archive.read(f"aecp-{python_version()}.dist-info/NOTICES").decode(), text)
 
 
 def try_wheel_libraries(made, tally):
@@ -183,8 +183,8 @@ def try_symbols(made, tally):
     for path in paths.values():
         tally.holds(set(elf.libraries_needed(path)) <= {"libc.so.6"}, f"{path} needs {elf.libraries_needed(path)}")
         tally.holds(elf.is_bound_at_load(path), f"{path} isn't linked with -z relro and -z now")
-    told = subprocess.run(["dpkg-deb", "-f", made[f"aec-proved_{version()}_amd64.deb"], "Depends"], capture_output=True, text=True).stdout
-    tally.check("what the package of the program needs", told.strip(), "libc6 (>= {}.{})".format(*program))
+    told = field_of(made[f"aec-proved_{debian_version()}_amd64.deb"], "Depends")
+    tally.check("what the package of the program needs", told, "libc6 (>= {}.{})".format(*program))
     print("glibc: the program needs {}.{}, the library {}.{}".format(*program, *library))
 
 
@@ -235,7 +235,7 @@ def try_tarball_levels(root, install, program, tally):
 
 def try_tarball(made, root, folder, tally):
     """Unpacks the tarball, installs it, uses it, and removes it; then again under another name."""
-    name = f"aec-{version()}-x86_64-linux"
+    name = f"aec-{tarball_version()}-x86_64-linux"
     before = root.files()
     subprocess.run(["tar", "-C", folder, "-xzf", made[name + ".tar.gz"]], check=True)
     root.copy(os.path.join(folder, name), f"/tmp/{name}")
@@ -251,6 +251,7 @@ def try_tarball(made, root, folder, tally):
     status, said = root.run(f"sh {place}/install.sh uninstall {prefix}")
     tally.holds(status == 0, f"the tarball's uninstall: {said}")
     tally.check("what the tarball leaves", sorted(root.files() - before), [])
+    tally.check("the tarball's program as aecp", root.run(f"PROGRAM=aecp sh {place}/install.sh {prefix}")[0], 1)
     status, said = root.run(f"PROGRAM=aec-proved sh {place}/install.sh {prefix} && {prefix}/bin/aec-proved --version")
     tally.holds(status == 0 and not os.path.exists(root.inside("/opt/aec/bin/aec")), f"the tarball under another name: {said}")
     status, said = root.run(f"sh {place}/install.sh uninstall {prefix}")
@@ -310,7 +311,7 @@ def try_debs(made, root, folder, tally):
     if root.words is None:
         print("skipped, since no other root can be entered here: dpkg")
         return
-    debs = [f"{name}_{version()}_amd64.deb" for name in ("aec-proved", "libaecp1", "libaecp-dev")]
+    debs = [f"{name}_{debian_version()}_amd64.deb" for name in ("aec-proved", "libaecp1", "libaecp-dev")]
     for deb in debs:
         root.copy(made[deb], f"/tmp/{deb}")
     before = root.files()
@@ -328,8 +329,15 @@ def try_debs(made, root, folder, tally):
         tally.holds(status == 0 and said.count(": OK") >= 5, f"the sums of PROVED: {said}")
         if has_other:
             tally.check("a file of another package", data_of(other), b"libaec's client\n")
+            tally.holds(not os.path.lexists(root.inside("/usr/share/man/man1/aec.1.gz")), "aec(1) describes another program than aec")
         else:
             tally.check("aec of the alternatives", root.run("aec --version"), (0, f"aec {version()}\n"))
+            status, said = root.run("rm /usr/bin/aec && dpkg-trigger --no-await /usr/bin/aec && dpkg --triggers-only -a && aec --version")
+            tally.holds(status == 0 and f"aec {version()}\n" in said, f"aec when another package's file was removed: {said}")
+            installed.try_links(root.inside("/usr/share/doc/aec-proved"), tally)
+            scripts = "/var/lib/dpkg/info/aec-proved"
+            status, said = root.run(f"{scripts}.prerm remove && {scripts}.postinst abort-remove && aec-proved --version")
+            tally.holds(status == 0 and f"aec {version()}\n" in said, f"aec-proved after a removal that failed: {said}")
             try_commands(root, "/usr/share/doc/aec-proved/README.md", "deb", tally)
             try_c(root.inside("/usr"), LIB.removeprefix("usr/"), "deb", root, folder, tally)
         status, said = root.run("dpkg -P libaecp-dev libaecp1 aec-proved")
@@ -358,15 +366,6 @@ def try_link(root, deb, last, tally):
     try_step("update-alternatives --auto aec-proved", last)
 
 
-def try_versions(made, tally):
-    """Checks that each package has the version of the file VERSION, in its name and inside."""
-    for name in sorted({*made} - {SUMS_OF_ALL}):
-        tally.holds(version() in name, f"{name} has another version than {version()}")
-    for name in filter(lambda it: it.endswith(".deb"), made):
-        told = subprocess.run(["dpkg-deb", "-f", made[name], "Version"], capture_output=True, text=True).stdout
-        tally.check(f"the version in {name}", told.strip(), version())
-
-
 def main():
     begun, tally = time.monotonic(), Checks()
     if "--quick" in sys.argv[1:]:
@@ -375,7 +374,8 @@ def main():
     made = dist(TOP)
     print(f"make dist: {time.monotonic() - begun:.0f} s" + ("" if is_proved() else ", of binaries that nobody has proved"), flush=True)
     with tempfile.TemporaryDirectory() as folder:
-        try_versions(made, tally)
+        package_debs.try_versions({name: path for name, path in made.items() if name != SUMS_OF_ALL}, tally)
+        package_debs.try_release(tally)
         try_sums(made, tally)
         try_notices(made, tally)
         try_builds(made, folder, tally)
@@ -390,7 +390,7 @@ def main():
         package_debs.try_apt(made, root, tally)
         package_modules.try_make(os.path.join(folder, "made"), tally)
         package_modules.try_wheel(next(path for name, path in made.items() if name.endswith(".whl")), folder, tally)
-        package_modules.try_crate(os.path.join(folder, f"aec-{version()}-x86_64-linux"), folder, tally)
+        package_modules.try_crate(os.path.join(folder, f"aec-{tarball_version()}-x86_64-linux"), folder, tally)
     print(f"packages: {time.monotonic() - begun:.0f} s")
     tally.print()
     return 1 if tally.failed else 0

@@ -101,8 +101,8 @@ def try_places(folder, tally):
     module, checkout = os.path.join(folder, "bindings/python/aecp"), os.path.join(folder, "bin")
     left_out = shutil.ignore_patterns("__pycache__", "*.so")
     shutil.copytree(os.path.join(TOP, "bindings/python/aecp"), module, ignore=left_out)
-    new, old = os.path.join(folder, "new"), os.path.join(folder, "old")
-    for path, flags in ((new, ADDED), (old, ADDED[1:])):
+    new, old, too_old = (os.path.join(folder, name) for name in ("new", "old", "too_old"))
+    for path, flags in ((new, [*OLD, *ADDED]), (old, [*OLD, *ADDED[1:]]), (too_old, [it for it in OLD if it != "sse4_1"])):
         with open(path, "w", encoding="ascii") as file:
             file.write(TEXT.format(" ".join(flags), ""))
     tally.check("no file", place(module, new), "libaecp.so.1")
@@ -117,6 +117,9 @@ def try_places(folder, tally):
         tally.check(f"AECP_LEVEL={V3}, {best}", place(module, old, AECP_LEVEL=V3), best)
         tally.check(f"AECP_LEVEL={PLAIN}, {best}", place(module, new, AECP_LEVEL=PLAIN), plain)
     tally.check("AECP_LIBRARY", place(module, new, AECP_LIBRARY="/x.so", AECP_LEVEL="none"), "/x.so")
+    lacks = f"ImportError: aecp needs a processor with {PLAIN}; this one lacks sse4_1"
+    tally.check("a processor that is too old", place(module, too_old), lacks)
+    tally.check("the same, with AECP_LEVEL", place(module, too_old, AECP_LEVEL=PLAIN), os.path.join(module, "libaecp.so"))
     refused = f"ImportError: AECP_LEVEL must be {PLAIN} or {V3}, not v3"
     tally.check("AECP_LEVEL=v3", place(module, new, AECP_LEVEL="v3"), refused)
 

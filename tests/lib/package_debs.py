@@ -4,7 +4,8 @@ import os
 import re
 import subprocess
 
-from lib.package_modules import TOP, version
+import release
+from lib.package_modules import TOP, python_version, snapshot, tarball_version, version
 
 # For apt, which fetches the packages that ours and their tests need.
 APT_SECONDS = 900
@@ -23,6 +24,40 @@ AUTOPKGTEST_TMP=$(mktemp -d) debian/tests/{} 2> /tmp/errors
 status=$?
 ! grep . /tmp/errors && exit $status
 """
+
+
+def field_of(deb, name):
+    """Returns what the control file of a Debian package has in a field."""
+    return subprocess.run(["dpkg-deb", "-f", deb, name], capture_output=True, text=True).stdout.strip()
+
+
+def debian_version():
+    """Returns the version of the Debian packages in dist/. If a packager has added to that of VERSION, `make dist` adds nothing."""
+    with open(os.path.join(TOP, "debian", "changelog"), encoding="utf-8") as file:
+        named = re.match(r"aec-proved \((.*?)\)", file.readline())[1]
+    return f"{named}~git{snapshot()}" if named == version() and snapshot() else named
+
+
+def try_versions(made, tally):
+    """Checks that each package has its version, in its name and inside."""
+    for name in sorted(made):
+        wanted = tarball_version() if "x86_64-linux" in name else debian_version() if name.endswith(".deb") else python_version()
+        tally.holds(wanted in name, f"{name} has another version than {wanted}")
+    for name in filter(lambda it: it.endswith(".deb"), made):
+        tally.check(f"the version in {name}", field_of(made[name], "Version"), debian_version())
+
+
+def try_release(tally):
+    """Checks what `make release-check` says of a tag and of both changelogs."""
+    news, changelog = "# Changelog\n\n## 2.3.4 (1 May 2027)\n", "aec-proved (2.3.4) unstable; urgency=medium\n"
+    cases = [
+        ((True, news, changelog), []),
+        ((False, news, changelog), ["the commit has no tag v2.3.4"]),
+        ((True, news.replace("1 May 2027", "not released yet"), changelog), ["CHANGELOG.md has no day for 2.3.4"]),
+        ((True, news, changelog.replace("4)", "4~git1)")), ["debian/changelog doesn't begin with 2.3.4"]),
+    ]
+    for given, wanted in cases:
+        tally.check(f"what a release lacks: {given}", release.faults_of_names("2.3.4", *given), wanted)
 
 
 def tests_of_control():
@@ -55,7 +90,7 @@ def try_apt(made, root, tally):
     status, said = root.run(f"apt-get update -q && {words}", APT_SECONDS)
     tally.holds(status == 0, f"apt-get install ./dist/*.deb: {said[-2000:]}")
     status, said = root.run(USE)
-    tally.holds(status == 0 and f"aecp {version()}" in said, f"aecp of the Debian package: {said}")
+    tally.holds(status == 0 and f"aecp {python_version()}" in said, f"aecp of the Debian package: {said}")
     try_tests(tests, root, tally)
     names = " ".join(deb.partition("_")[0] for deb in debs)
     status, said = root.run(f"apt-get purge -qy {names}", APT_SECONDS)

@@ -94,6 +94,32 @@ def version():
         return file.read().strip()
 
 
+def snapshot():
+    """Returns time and name of the commit, which its packages have behind the version. Empty for a release, whose
+    commit has a tag such as v1.1.0."""
+
+    def git(*words):
+        given = {**os.environ, "TZ": "UTC"}
+        words = ["git", "-c", "safe.directory=*", *words]
+        return subprocess.run(words, cwd=TOP, capture_output=True, text=True, env=given).stdout.strip()
+
+    if f"v{version()}" in git("tag", "--points-at", "HEAD").split():
+        return ""
+    is_changed = bool(git("status", "--porcelain", "--untracked-files=no"))
+    return git("log", "-1", "--date=format-local:%Y%m%d%H%M%S", "--format=%cd.%h", "--abbrev=8") + ".changed" * is_changed
+
+
+def tarball_version():
+    """Returns the version in the name of the tarball in dist/."""
+    return f"{version()}~git{snapshot()}" if snapshot() else version()
+
+
+def python_version():
+    """Returns the version of the wheel, the sdist and each copy of the module in dist/."""
+    at, _, name = snapshot().partition(".")
+    return f"{version()}.dev{at}+g{name}" if at else version()
+
+
 def venv(python, folder, *words):
     """Makes a fresh environment. Returns the path of its interpreter, or None."""
     status, said = run([python, "-m", "venv", *words, folder])
@@ -115,7 +141,7 @@ def try_bare(python, wheel, tally):
     status, said = run([python, "-m", "pip", "install", "--no-index", "--disable-pip-version-check", wheel])
     tally.holds(status == 0, f"pip install: {said}")
     status, said = run([python, "-c", WITHOUT_NUMPY])
-    tally.check("the module without numpy", (status, said.strip()), (0, version()))
+    tally.check("the module without numpy", (status, said.strip()), (0, python_version()))
     try_library(python, tally)
     command = os.path.join(os.path.dirname(python), "aecp")
     status, said = run([command, "--help"])
@@ -266,6 +292,15 @@ def library_of_another_version(lib, folder):
     return other
 
 
+def try_shared(crate, lib, folder, tally):
+    """Runs tests of the crate with the shared library: they pass if the loader finds it, and else can't start."""
+    for paths, is_found in ((lib, True), ("", False)):
+        words = ["test", "--test", "calls"]
+        status, said = cargo(crate, folder, *words, AECP_DYNAMIC="1", AECP_LIB_DIR=lib, LD_LIBRARY_PATH=paths)
+        tally.holds((status == 0) == is_found, f"cargo test with the shared library, LD_LIBRARY_PATH={paths}: {said}")
+        tally.holds(is_found or "libaecp.so.1" in said, f"cargo test without the shared library: {said}")
+
+
 def try_another_version(crate, lib, folder, tally):
     """Checks that each call of the crate panics if the library has another major version."""
     if all(tally.has(tool, "the Rust crate with a library of another version") for tool in ("cc", "objcopy", "ar")):
@@ -275,7 +310,8 @@ def try_another_version(crate, lib, folder, tally):
 
 
 def try_crate(unpacked, folder, tally):
-    """Runs the tests of the crate, with AECP_LIB_DIR, with pkg-config and with a library of another version, and clippy."""
+    """Runs the tests of the crate, with AECP_LIB_DIR, with pkg-config, with the shared library and with a library of another version, and
+    clippy."""
     try_unsafe(tally)
     if not tally.has("cargo", "the tests of the Rust crate"):
         return
@@ -298,6 +334,7 @@ def try_crate(unpacked, folder, tally):
     if shutil.which("pkg-config"):
         status, said = cargo(crate, folder, "test", "--test", "calls", PKG_CONFIG_PATH=os.path.join(lib, "pkgconfig"))
         tally.holds(status == 0, f"cargo test by pkg-config: {said}")
+    try_shared(crate, lib, folder, tally)
     try_another_version(crate, lib, folder, tally)
     status, said = cargo(crate, folder, "build", AECP_LIB_DIR="/nonexistent")
     tally.holds(status != 0 and "/nonexistent has no libaecp.a" in said, f"cargo build without the library: {said}")

@@ -5,17 +5,40 @@ from __future__ import annotations
 
 import os
 import re
+from typing import Optional
 
 PLAIN, V3 = "x86-64-v2", "x86-64-v3"
 # What x86-64-v3 adds, by the names of /proc/cpuinfo (abm means LZCNT). Linux lists avx and avx2 only if it saves their registers.
 FLAGS = ("abm", "avx", "avx2", "bmi1", "bmi2", "f16c", "fma", "movbe")
+# What each built library uses of x86-64-v2.
+NEEDED = ("popcnt", "sse4_1", "sse4_2", "ssse3")
 CPUINFO = "/proc/cpuinfo"
+
+
+def flags_in(cpuinfo: str) -> Optional[set[str]]:
+    """Returns the features of a processor that /proc/cpuinfo describes by this text. None if it lists none."""
+    line = re.search(r"^flags\s*:(.*)$", cpuinfo, re.M)
+    return set(line[1].split()) if line else None
 
 
 def level_of(cpuinfo: str) -> str:
     """Returns the level of a processor that /proc/cpuinfo describes by this text."""
-    line = re.search(r"^flags\s*:(.*)$", cpuinfo, re.M)
-    return V3 if line and set(line[1].split()).issuperset(FLAGS) else PLAIN
+    return V3 if (flags_in(cpuinfo) or set()).issuperset(FLAGS) else PLAIN
+
+
+def lacking(cpuinfo: str) -> list[str]:
+    """Returns which features each built library needs, and a processor lacks. Empty if /proc/cpuinfo lists no features."""
+    flags = flags_in(cpuinfo)
+    return [] if flags is None else [it for it in NEEDED if it not in flags]
+
+
+def described() -> str:
+    """Returns the text of /proc/cpuinfo; an empty one if it can't be read."""
+    try:
+        with open(CPUINFO, encoding="ascii", errors="replace") as file:
+            return file.read()
+    except OSError:
+        return ""
 
 
 def level() -> str:
@@ -25,11 +48,14 @@ def level() -> str:
         if named not in (PLAIN, V3):
             raise ImportError(f"AECP_LEVEL must be {PLAIN} or {V3}, not {named}")
         return named
-    try:
-        with open(CPUINFO, encoding="ascii", errors="replace") as file:
-            return level_of(file.read())
-    except OSError:
-        return PLAIN
+    return level_of(described())
+
+
+def judge_processor() -> None:
+    """Raises ImportError if the processor lacks a feature that each built library needs, unless AECP_LEVEL names a level."""
+    lacks = [] if os.environ.get("AECP_LEVEL") else lacking(described())
+    if lacks:
+        raise ImportError(f"aecp needs a processor with {PLAIN}; this one lacks {', '.join(lacks)}")
 
 
 def names_of(file: str) -> list[str]:

@@ -8,14 +8,14 @@ import os
 import threading
 from typing import Any, Optional
 
-from aecp.levels import names_of
+from aecp.levels import judge_processor, names_of
 from aecp.options import FLAGS, NUMBERS, Options
 
 HERE = os.path.dirname(os.path.abspath(__file__))
 NAME = "libaecp.so"
 SONAME = "libaecp.so.1"  # what a program is linked to; a distribution has NAME in its package for developers
 TEXT_BYTES = 200
-VERSION = 10000  # 1.0.0, as AECP_VERSION of aecp.h
+VERSION = 10100  # 1.1.0, as AECP_VERSION of aecp.h
 
 
 class COptions(ctypes.Structure):
@@ -114,8 +114,9 @@ def call_types() -> dict[str, tuple[Any, list[Any]]]:
 
 
 def load() -> ctypes.CDLL:
-    """Returns the library. Raises ImportError, with a text of one line, if there is none, if it lacks a call, or if judge_version
-    refuses it."""
+    """Returns the library. Raises ImportError, with a text of one line, if the processor is too old, if there is no library, if it lacks a
+    call, or if judge_version refuses it."""
+    judge_processor()
     path = place_of_library()
     try:
         library = ctypes.CDLL(path)

@@ -44,6 +44,7 @@ def test_the_configuration():
     config = codec.get_config()
     numbers = {"id": "aecp", "bits": 12, "block_size": 8, "interval": 3}
     assert config == {**numbers, "signed": True, "msb_first": True, "pad": True}
+    assert Aecp(16).get_config() == {"id": "aecp", "bits": 16, "block_size": 16, "interval": 128}
     numcodecs.register_codec(Aecp)
     again = numcodecs.get_codec(config)
     assert type(again) is Aecp and again.usual == codec.usual and again == codec

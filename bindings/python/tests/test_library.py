@@ -66,9 +66,10 @@ def test_objects_that_were_not_made(tmp_path):
         (None, True),
     ],
 )
-def test_the_version_of_a_library(number, is_right):
+def test_the_version_of_a_library(monkeypatch, number, is_right):
     """A library of another major or an older minor version is refused, one without a version
     isn't."""
+    monkeypatch.setattr(library, "VERSION", 10000)
     call = type("Call", (), {"__call__": lambda _: number})
     given = type("Library", (), {} if number is None else {"aecp_version": call()})
     if is_right:
@@ -137,12 +138,28 @@ def test_the_level_of_a_processor(monkeypatch):
         rest = " ".join(it for it in levels.FLAGS if it != flag)
         assert levels.level_of(f"flags\t: fpu {rest} {flag}x\n") == levels.PLAIN
     assert levels.level_of("") == levels.PLAIN
+    assert levels.lacking(f"flags\t: fpu {flags}\n") == list(levels.NEEDED)
+    assert levels.lacking(f"flags\t: {' '.join(levels.NEEDED)}\n") == levels.lacking("") == []
     monkeypatch.setattr(levels, "CPUINFO", "/nonexistent")
     monkeypatch.delenv("AECP_LEVEL", raising=False)
     assert levels.level() == levels.PLAIN
     monkeypatch.setenv("AECP_LEVEL", "v3")
     with pytest.raises(ImportError, match="^AECP_LEVEL must be x86-64-v2 or x86-64-v3, not v3$"):
         levels.level()
+
+
+def test_an_old_processor(monkeypatch, tmp_path):
+    """On a processor that lacks what every built library uses, no library is loaded, unless
+    AECP_LEVEL names a level."""
+    place = tmp_path / "cpuinfo"
+    monkeypatch.setattr(levels, "CPUINFO", str(place))
+    monkeypatch.delenv("AECP_LEVEL", raising=False)
+    place.write_text("flags\t: fpu popcnt sse4_1 ssse3\n", encoding="ascii")
+    text = "^aecp needs a processor with x86-64-v2; this one lacks sse4_2$"
+    with pytest.raises(ImportError, match=text):
+        library.load()
+    monkeypatch.setenv("AECP_LEVEL", "x86-64-v2")
+    assert library.load().aecp_version() >= library.VERSION
 
 
 def test_the_structs_of_the_header(checkout):

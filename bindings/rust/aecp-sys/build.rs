@@ -1,43 +1,47 @@
-//! Finds libaecp.a: in the folder that `AECP_LIB_DIR` names, else in the folder that pkg-config
-//! names.
+//! Finds libaecp.a, or libaecp.so if `AECP_DYNAMIC` is set: in the folder that `AECP_LIB_DIR` names,
+//! else in the folder that pkg-config names.
 
 use std::path::PathBuf;
 use std::process::Command;
 use std::{env, process};
 
-const NAME: &str = "libaecp.a";
-
 fn main() {
     println!("cargo:rerun-if-changed=build.rs");
-    for name in ["AECP_LIB_DIR", "PKG_CONFIG", "PKG_CONFIG_PATH", "DOCS_RS"] {
+    let names = ["AECP_DYNAMIC", "AECP_LIB_DIR", "DOCS_RS"];
+    let of_pkg_config = ["", "_PATH", "_LIBDIR", "_SYSROOT_DIR"].map(|end| format!("PKG_CONFIG{end}"));
+    for name in names.into_iter().chain(of_pkg_config.iter().map(String::as_str)) {
         println!("cargo:rerun-if-env-changed={name}");
     }
     if env::var_os("DOCS_RS").is_some() {
         return; // documentation links nothing
     }
-    match folder() {
+    let (kind, name) = match env::var_os("AECP_DYNAMIC") {
+        Some(_) => ("dylib", "libaecp.so"),
+        None => ("static", "libaecp.a"),
+    };
+    match folder_of(name) {
         Ok(folder) => {
-            println!("cargo:rerun-if-changed={}", folder.join(NAME).display());
+            println!("cargo:rerun-if-changed={}", folder.join(name).display());
             println!("cargo:rustc-link-search=native={}", folder.display());
-            println!("cargo:rustc-link-lib=static=aecp");
+            println!("cargo:rustc-link-lib={kind}=aecp");
         }
         Err(why) => {
-            eprintln!("aecp-sys: {why}. Set AECP_LIB_DIR to the folder of {NAME}, or install aecp.pc.");
+            eprintln!("aecp-sys: {why}. Set AECP_LIB_DIR to the folder of {name}, or install aecp.pc.");
             process::exit(1);
         }
     }
 }
 
-/// The folder that contains the library.
-fn folder() -> Result<PathBuf, String> {
+/// The folder that contains a file of the library.
+fn folder_of(name: &str) -> Result<PathBuf, String> {
     let folder = match env::var_os("AECP_LIB_DIR") {
         Some(named) => PathBuf::from(named),
         None => folder_of_pkg_config()?,
     };
-    if folder.join(NAME).is_file() {
+    if folder.join(name).is_file() {
         Ok(folder)
     } else {
-        Err(format!("{} has no {NAME}", folder.display()))
+        Err(format!("{} has no {name}", folder.display()))
     }
 }
 

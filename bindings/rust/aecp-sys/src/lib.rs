@@ -6,7 +6,7 @@
 use core::ffi::c_void;
 
 /// The version of the header that this file restates: 10,000, 100 and 1 times its three numbers.
-pub const AECP_VERSION: u32 = 10000;
+pub const AECP_VERSION: u32 = 10100;
 
 // The faults.
 pub const AECP_OK: u32 = 0;
