@@ -1,13 +1,19 @@
 """The code that the scripts of this folder share: runs of aec, files that are written whole, and
 refusals of one line."""
 
+import contextlib
+import errno
 import functools
 import inspect
+import io
 import os
 import re
 import subprocess
 import sys
 import tempfile
+
+MOST_DIGITS = 20  # of a whole number
+STANDARD_OUTPUT = "standard output"  # what an error calls it
 
 
 class Refused(Exception):
@@ -30,27 +36,72 @@ def read_file(path):
         return file.read()
 
 
-def write_file(path, data):
-    """Writes the bytes of a file. A failure may leave a part of it."""
-    with open(path, "wb") as file:
-        file.write(data)
+def opened(path):
+    """Opens a file to read parts of it. A pipe is read whole first."""
+    file = open(path, "rb")
+    if file.seekable():
+        return file
+    with file:
+        return io.BytesIO(file.read())
+
+
+def write_file(path, parts):
+    """Writes the parts of a file, each of them bytes. A failure may leave some of them."""
+    with open(path, "wb") as file, naming(path):
+        file.writelines(parts)
+        file.flush()
+
+
+@contextlib.contextmanager
+def naming(name):
+    """Gives a failure of a file that has no name this one."""
+    try:
+        yield
+    except OSError as fault:
+        fault.filename = fault.filename or name
+        raise
+
+
+def say(text):
+    """Prints a text on standard output."""
+    with naming(STANDARD_OUTPUT):
+        if sys.stdout is None:  # the file is closed
+            raise OSError(errno.EBADF, os.strerror(errno.EBADF))
+        print(text)
+
+
+def say_written(path, text):
+    """Prints a text about the file at `path`, which is written. That nobody reads the text, or that
+    standard output is closed, is no failure then."""
+    if sys.stdout is None:
+        return
+    try:
+        print(text)
+        sys.stdout.flush()
+    except BrokenPipeError:
+        os._exit(0)  # sys.exit would try once more to write
+    except OSError as fault:
+        raise Refused(f"{path} is written, but {STANDARD_OUTPUT}: {fault.strerror}") from fault
 
 
 def write_whole(path, data, *inputs):
     """Writes a file under another name beside it, and then renames it. So after a failure an
     existing file is unchanged. A pipe or a device is written directly. Refuses to write over one of
-    the inputs."""
+    the inputs, and to standard output. DATA is bytes, or an iterable of them."""
+    if path == "-":
+        raise WrongWords("- is no name of a file to write: standard output can't be used")
+    parts = [data] if isinstance(data, (bytes, memoryview)) else data
     asked, path = path, os.path.realpath(path)
     for name in inputs:
         if os.path.exists(path) and os.path.exists(name) and os.path.samefile(path, name):
             raise Refused(f"{name} is read, so it can't be written too")
-    if os.path.exists(path) and not os.path.isfile(path):  # a pipe or a device
-        write_file(path, data)
-        return
     new = f"{path}.new-{os.getpid()}"
     try:
+        if os.path.exists(path) and not os.path.isfile(path):  # a pipe or a device
+            write_file(path, parts)
+            return
         with open(new, "xb") as file:
-            file.write(data)
+            file.writelines(parts)
             file.flush()
             os.fsync(file.fileno())
         os.replace(new, path)
@@ -85,9 +136,9 @@ def run_aec(aec, words, source, script=None):
     require_aec(aec)
     with tempfile.TemporaryDirectory() as folder:
         given, made, lines = (os.path.join(folder, name) for name in ("source", "dest", "script"))
-        write_file(given, source)
+        write_file(given, [source])
         if script is not None:
-            write_file(lines, script)
+            write_file(lines, [script])
             words = ["--edit", lines, *words]
         status, text = said_by([aec, *words, given, made])
         if status != 0:
@@ -142,13 +193,19 @@ def parameters_of(action):
     return [it.name.upper() + ".." * (it.kind is it.VAR_POSITIONAL) for it in places], named
 
 
-def usage_of(doc, action, name):
-    """Returns what a function takes: the words that `doc` shows after the script's name and
-    `name`, or else the names of the parameters."""
+def forms_of(doc, action, name):
+    """Returns the words that a function takes: those that `doc` shows after the script's name and
+    `name`, or else the names of the parameters. Also returns its options as one text."""
     words, names = parameters_of(action)
     shown = re.findall(rf"^ +\S+\.py {re.escape(name)} (\S+(?: \S+)*)", doc, re.M)
     more = "".join(f" [--{it} {found_value(doc, it)}]" for it in names)
-    return f"{name} takes the words {', or '.join(shown or [' '.join(words)])}{more}"
+    return shown or [" ".join(words)], more
+
+
+def usage_of(doc, action, name):
+    """Returns a line about what a function takes."""
+    forms, more = forms_of(doc, action, name)
+    return f"{name} takes the words {', or '.join(forms)}{more}"
 
 
 def found_value(doc, name):
@@ -158,16 +215,18 @@ def found_value(doc, name):
 
 
 def help_of(doc, action, name):
-    """Returns the part of a script's text about one of its functions: the lines about its words,
-    and the paragraphs that begin with one of these words."""
+    """Returns the part of a script's text about one of its functions: its words with all options,
+    the lines about them, and the paragraphs that begin with one of the words."""
     heads = r"^ +\S+\.py (\S+) .*\n(?:^(?! +\S+\.py ) +.*\n)*"
     lines = [it[0] for it in re.finditer(heads, doc, re.M) if it[1] == name]
     if not lines:
         return doc.strip()
-    taken = set(re.findall(r"[\w-]+", usage_of(doc, action, name))) - {name}
+    forms, more = forms_of(doc, action, name)
+    usage = "\n".join(f"usage: {script_name()} {name} {it}{more}" for it in forms)
+    taken = set(re.findall(r"[\w-]+", usage)) - {name}
     paragraphs = [it for it in doc.split("\n\n")[1:] if not it.startswith(" ")]
     parts = [it.strip() for it in paragraphs if re.findall(r"[\w-]+", it)[0] in taken]
-    return "\n\n".join(["".join(lines).rstrip("\n"), *parts])
+    return "\n\n".join([usage, "".join(lines).rstrip("\n"), *parts])
 
 
 def parted(words, names):
@@ -188,23 +247,40 @@ def parted(words, names):
 
 
 def call(doc, action, name, words):
-    """Does for one function what `perform` describes."""
-    if name in ("-h", "--help"):
-        print(doc.strip())
-        sys.exit(0)
-    if words[:1] in (["-h"], ["--help"]):
-        print(help_of(doc, action, name))
-        sys.exit(0)
+    """Does for one function what `perform` describes. If nobody reads standard output to its end,
+    as with `head`, the script ends with status 1 and without a message."""
+    status = 0
     try:
-        sys.exit(called_with(action, words))
-    except WrongUse:
-        sys.exit(complain(f"{usage_of(doc, action, name)}; see --help", 2))
-    except WrongWords as wrong:
-        sys.exit(complain(f"{wrong}; see --help", 2))
-    except Refused as refusal:
-        sys.exit(complain(refusal, 1))
+        status = status_of(doc, action, name, words)
+        if sys.stdout is not None:
+            sys.stdout.flush()
+    except BrokenPipeError:
+        os._exit(1)  # sys.exit would try once more to write
     except OSError as fault:
-        sys.exit(complain(f"{fault.filename}: {fault.strerror}" if fault.filename else fault, 1))
+        os._exit(status or complain(f"{STANDARD_OUTPUT}: {fault.strerror}", 1))
+    sys.exit(status)
+
+
+def status_of(doc, action, name, words):
+    """Calls a function, or prints help. Returns the script's status."""
+    try:
+        if name in ("-h", "--help"):
+            return say(doc.strip()) or 0
+        if words[:1] in (["-h"], ["--help"]):
+            return say(help_of(doc, action, name)) or 0
+        return called_with(action, words) or 0
+    except WrongUse:
+        return complain(f"{usage_of(doc, action, name)}; see --help", 2)
+    except WrongWords as wrong:
+        return complain(f"{wrong}; see --help", 2)
+    except Refused as refusal:
+        return complain(refusal, 1)
+    except MemoryError:
+        return complain("the memory isn't enough", 1)
+    except BrokenPipeError:
+        raise
+    except OSError as fault:
+        return complain(f"{fault.filename}: {fault.strerror}" if fault.filename else fault, 1)
 
 
 def called_with(action, words):
@@ -220,12 +296,18 @@ def called_with(action, words):
 def whole_number(text, what, least=0):
     """Returns the number in a text of digits. Raises WrongWords for another text, or if the number
     is below `least`."""
-    if not (text.isascii() and text.isdecimal() and int(text) >= least):
+    is_short = len(text) <= MOST_DIGITS
+    if not (is_short and text.isascii() and text.isdecimal() and int(text) >= least):
         raise WrongWords(f"{text} is no {what}")
     return int(text)
 
 
 def complain(text, status):
     """Prints a line of a script on standard error. Returns the status."""
-    print(f"{os.path.basename(sys.argv[0])}: {text}", file=sys.stderr)
+    print(f"{script_name()}: {text}", file=sys.stderr)
     return status
+
+
+def script_name():
+    """Returns the name of the script that runs."""
+    return os.path.basename(sys.argv[0])

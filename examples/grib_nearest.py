@@ -1,6 +1,8 @@
 """Points of the earth in the order in which a GRIB2 message stores them, and the search for the
 nearest one. Needs only the standard library."""
 
+from __future__ import annotations
+
 import math
 from bisect import bisect_left, bisect_right
 from collections.abc import Sequence
@@ -9,6 +11,7 @@ from itertools import accumulate
 from typing import NamedTuple
 
 ROUNDING = 4e-15  # more than the error of a product of two directions
+NEAR_POLE = 90 - 1e-6  # degrees
 
 
 class Point(NamedTuple):
@@ -36,6 +39,11 @@ def degrees_between(one, other):
     return math.degrees(2 * math.asin(min(chord / 2, 1.0)))
 
 
+def turn(longitude, other):
+    """Returns the least degrees between two longitudes."""
+    return abs((longitude - other + 180) % 360 - 180)
+
+
 def outward(latitudes, wanted):
     """Yields the indexes of sorted latitudes, the nearest to the wanted latitude first."""
     above = bisect_left(latitudes, wanted)
@@ -49,13 +57,27 @@ def outward(latitudes, wanted):
             above += 1
 
 
+class Chosen(Sequence):
+    """The items of a sequence that have these numbers. Each is read when it is needed."""
+
+    def __init__(self, items, numbers):
+        self.items, self.numbers = items, numbers
+
+    def __len__(self):
+        return len(self.numbers)
+
+    def __getitem__(self, index):
+        return self.items[self.numbers[index]]
+
+
 class Points(Sequence):
     """Points by their numbers. A subclass has sorted `latitudes_upward`, `candidates`, which yields
     the products and numbers of points at one of these latitudes, and `steps`."""
 
     def nearest(self, wanted, besides=-1):
-        """Returns the number of the nearest point; of several, the first. Skips the number
-        `besides`. Returns None if there are no others."""
+        """Returns the number of the nearest point; of several, the first, but in a row at a pole
+        the one with the nearest longitude. Skips the number `besides`. Returns None if there are no
+        others."""
         vector, best = direction(wanted), (-2.0, 0)
         for index in outward(self.latitudes_upward, wanted.latitude):
             apart = math.radians(self.latitudes_upward[index] - wanted.latitude)
@@ -72,7 +94,8 @@ class Points(Sequence):
 
 
 class Rows(Points):
-    """Points in rows: each row has one latitude. Rows may share a list of longitudes."""
+    """Points in rows: each row has one latitude. The latitudes rise or fall. Rows may share a list
+    of longitudes."""
 
     def __init__(self, latitudes, longitudes):
         self.latitudes, self.longitudes = latitudes, longitudes
@@ -100,12 +123,13 @@ class Rows(Points):
     def rows_upward(self):
         """Returns the numbers of the rows that have points, from south to north."""
         filled = [row for row, longitudes in enumerate(self.longitudes) if longitudes]
-        return sorted(filled, key=self.latitudes.__getitem__)
+        is_falling = len(filled) > 1 and self.latitudes[filled[0]] > self.latitudes[filled[-1]]
+        return filled[::-1] if is_falling else filled
 
     @cached_property
     def latitudes_upward(self):
         """Returns the latitudes of these rows."""
-        return [self.latitudes[row] for row in self.rows_upward]
+        return Chosen(self.latitudes, self.rows_upward)
 
     def columns_upward(self, row):
         """Returns the longitudes of a row from 0 to 360, sorted, and their columns."""
@@ -117,10 +141,16 @@ class Rows(Points):
 
     def candidates(self, index, wanted, vector):
         """Yields the products and numbers of a row's nearest points. The product falls with the
-        distance in longitude, so each of the two directions ends where it has fallen."""
+        distance in longitude, so each of the two directions ends where it has fallen. At a pole all
+        points of a row are one place: there the one with the nearest longitude counts."""
         row = self.rows_upward[index]
         turned, columns = self.columns_upward(row)
         begin, count, best = bisect_left(turned, wanted.longitude % 360), len(columns), -2.0
+        if abs(self.latitudes[row]) > NEAR_POLE:
+            away = [(turn(it, wanted.longitude), at) for it, at in zip(turned, columns)]
+            pole = Point(self.latitudes[row], 0.0)
+            yield dot(vector, direction(pole)), self.starts[row] + min(away)[1]
+            return
         for steps in (range(begin, begin + count), range(begin - 1, begin - 1 - count, -1)):
             for step in steps:
                 column = columns[step % count]

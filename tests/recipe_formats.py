@@ -17,6 +17,8 @@ from lib.program import Program, Tally, asked_of
 from lib.recipe_calls import EXAMPLES, called, hiding
 from lib.recipe_messages import try_bad_messages, try_message
 from lib.recipe_nearest import try_halfway, try_limits, try_nearest
+from lib.recipe_starts import try_annotations, try_oldest
+from lib.recipe_tables import try_tables
 from lib.settings import Settings
 
 import szip_chunks
@@ -282,6 +284,9 @@ def main():
             try_chunk(number, random.Random(f"{asked.seed} {number}"), aec, tally)
             try_nearest(number, random.Random(f"{asked.seed} {number}"), tally)
         try_bad_messages(aec, script, tally)
+        try_tables(aec, script, tally)
+        try_annotations(tally)
+        try_oldest(aec, tally)
         try_limits(tally)
         try_halfway(tally)
         try_layouts(aec, tally)

@@ -17,6 +17,7 @@ import tempfile
 import eccodes
 from lib.program import Program, Tally, asked_of
 from lib.recipe_calls import called
+from lib.recipe_grids import message_of, try_grids
 from lib.recipe_nearest import first_of_all
 
 import grib_ccsds
@@ -172,7 +173,10 @@ def try_values(what, read, data, chance, aec, tally):
     is_so = status == 0 and [int(it[0]) for it in lines] == [*range(first, first + length)]
     tally.holds(is_so and all(near), f"{what}: values: {said}")
     there = [(float(it[1]), float(it[2])) for it in lines if len(it) == 4]
-    is_so = there == [read.where[i] for i in places[first : first + length]]
+    wanted = [read.where[i] for i in places[first : first + length]]
+    # eccodes adds up an increment, which is rounded to a microdegree, for each of at most 40 rows.
+    near = [max(abs(a - b) for a, b in zip(*pair)) < 3e-5 for pair in zip(there, wanted)]
+    is_so = len(there) == len(wanted) and all(near)
     tally.holds(is_so, f"{what}: latitudes and longitudes: {there[:3]}")
     try_at(what, read, first, (aec.path, source), more, tally)
 
@@ -232,7 +236,7 @@ def try_table(what, read, data, chance, aec, tally):
                 "row,column,value": divmod(i, columns),
                 "latitude longitude value": read.where[i],
             }
-            lines.append(" ".join(map(repr, (*ways[names], value))))
+            lines.append(("," if "," in names else " ").join(map(repr, (*ways[names], value))))
         aec.write("table", "\n".join(lines).encode())
         paths = (aec.path, aec.file("message"), aec.file("table"), aec.file("out"))
         status, said = called(grib_ccsds.put_values, *paths)
@@ -248,22 +252,7 @@ def try_table(what, read, data, chance, aec, tally):
         tally.holds(all(near), f"{what}: table by {names}: the values")
 
 
-def try_grids(aec, tally):
-    """Compares the points that the script finds without eccodes with those of eccodes."""
-    regular = ("regular_ll_sfc_grib2", "regular_ll_pl_grib2", "regular_gg_sfc_grib2")
-    reduced = ("reduced_gg_sfc_grib2", "reduced_gg_pl_80_grib2", "reduced_gg_pl_160_grib2")
-    for name in regular + reduced:
-        handle = eccodes.codes_grib_new_from_samples(name)
-        aec.write("message", eccodes.codes_get_message(handle))
-        section = grib_ccsds.message_of(aec.file("message"), "1").section(3)
-        wanted = points_of(handle)
-        found = list(grib_grid.own_points(section, grib_grid.rows_of(section)) or [])
-        near = [max(abs(a - b) for a, b in zip(*pair)) < 2e-5 for pair in zip(found, wanted)]
-        is_so = len(found) == len(wanted) and all(near)
-        tally.holds(is_so, f"points of {name}: {found[:2]}, {wanted[:2]}")
-
-
-def try_nearest_points(seed, aec, tally):
+def try_nearest_points(seed, tally):
     """Compares the nearest points that the script finds in eccodes' points with those of a search
     over all: in rows, and in a projected grid. Each point of the grid and of the middle between it
     and the next in its row is within a step."""
@@ -273,14 +262,12 @@ def try_nearest_points(seed, aec, tally):
         handle = eccodes.codes_grib_new_from_samples(name)
         if name == grids[-1]:
             eccodes.codes_set(handle, "jScansPositively", 1)  # in which order eccodes lists points
-        aec.write("message", eccodes.codes_get_message(handle))
-        count = eccodes.codes_get(handle, "numberOfValues")
-        grid = grib_grid.grid_of(grib_ccsds.message_of(aec.file("message"), "1"), count)
+        grid = grib_grid.grid_of(message_of(handle), eccodes.codes_get(handle, "numberOfValues"))
         listed = list(grid.points)
         near = [(round(it.latitude, 6), round(it.longitude, 6)) for it in listed] == points_of(handle)
         tally.holds(near and isinstance(grid.points, Rows) == (name != grids[-1]), f"grid {name}")
         for _ in range(20):
-            one = chance.randrange(count - 1)
+            one = chance.randrange(len(listed) - 1)
             middle = Point(*(sum(it) / 2 for it in zip(listed[one], listed[one + 1])))
             for wanted in (listed[one], middle, Point(chance.uniform(-90, 90), chance.uniform(-180, 360))):
                 number = first_of_all(listed, wanted)
@@ -299,8 +286,8 @@ def main():
         aec = Program(asked.program, folder)
         for number in asked.numbers:
             try_case(number, asked.seed, aec, tally)
-        try_grids(aec, tally)
-        try_nearest_points(asked.seed, aec, tally)
+        try_grids(tally)
+        try_nearest_points(asked.seed, tally)
     tally.print()
     return 1 if tally.failed else 0
 

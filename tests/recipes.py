@@ -84,8 +84,10 @@ def missing_for(block):
         "python3-h5py": ("h5_szip.py", interpreter_with("h5py") == "/usr/bin/python3"),
         "hdf5-tools": ("h5diff", shutil.which("h5diff")),
         "parallel": ("parallel", shutil.which("parallel")),
+        "cdo": (" cdo ", shutil.which("cdo")),
         "libaecp.so": ("aecp ", os.path.exists(LIBRARY)),
         "python3-numpy": (NUMPY, interpreter_with("numpy")),
+        "python3-eccodes": ("import eccodes", interpreter_with("eccodes") == "/usr/bin/python3"),
         "libaecp.so to preload": ("examples/preload", os.path.exists(LIBRARY)),
         "libaec-dev": ("examples/preload", os.path.exists("/usr/include/libaec.h")),
     }
@@ -150,7 +152,7 @@ def try_page(aec, tally):
         missing = missing_for(block) or [it for it in failed_before if it in block]
         if missing:
             skipped.append(f"a block of the page: no {', '.join(missing)}")
-            failed_before |= {"message.grib"} if "message.grib" in block else set()
+            failed_before |= {it for it in ("message.grib", "field.grib") if it in block}
         else:
             try_block(block, aec, environment, tally)
     return skipped

@@ -15,10 +15,10 @@ from aec_runs import Refused, WrongWords  # noqa: E402 - in the folder that was 
 
 def called(action, *words, **named):
     """Calls a function of a script. Returns 0 and what it prints, 1 and the text of its refusal, or
-    2 and a text if it doesn't take the words."""
-    printed = io.StringIO()
+    2 and a text if it doesn't take the words. Its notes on standard error are dropped."""
+    printed, notes = io.StringIO(), io.StringIO()
     try:
-        with contextlib.redirect_stdout(printed):
+        with contextlib.redirect_stdout(printed), contextlib.redirect_stderr(notes):
             action(*words, **named)
     except Refused as refusal:
         return 1, str(refusal)

@@ -9,8 +9,13 @@ from lib.settings import Settings
 
 import grib_ccsds
 
-PACK_ANEW = "`grib_set -r -s packingType=grid_ccsds FILE message.grib` packs it by CCSDS"
+PACKS = "packs it by CCSDS; then compare all values"
+PACK_ANEW = f"`grib_set -r -s packingType=grid_ccsds FILE message.grib` {PACKS}"
+WITHOUT_D = f"`grib_set -r -s packingType=grid_ccsds,decimalScaleFactor=0 FILE message.grib` {PACKS}"
+CONVERT = "the message has edition 1, not 2: `grib_set -s edition=2 FILE two.grib` converts it, and"
+SPECTRAL = "spectral coefficients: transform them to a grid first (cdo sp2gp)"
 SIGN = 1 << 15  # of the two bytes of a scale factor
+SCALE = 250.0, SIGN | 9, 0  # R, E = -9 and D
 HEAD = 16  # bytes of section 0
 GRIB = os.path.join(EXAMPLES, "grib_ccsds.py")
 
@@ -19,10 +24,10 @@ def section(number, body):
     return struct.pack(">IB", len(body) + 5, number) + body
 
 
-def message(stream, count, settings, flags, template=42, bits=None, edition=2, more=b""):
-    """Returns a message with this stream. `more` follows section 7."""
+def message(stream, count, settings, flags, template=42, bits=None, edition=2, more=b"", scale=SCALE):
+    """Returns a message with this stream. `more` follows section 7. The scale is R, E and D."""
     bits = settings.bits if bits is None else bits
-    packing = struct.pack(">fHHBBB", 250.0, SIGN | 9, 0, bits, 0, flags)
+    packing = struct.pack(">fHHBBB", *scale, bits, 0, flags)
     packing += struct.pack(">BH", settings.block_size, settings.interval)
     body = section(1, bytes(16)) + section(3, bytes(67)) + section(4, bytes(29))
     body += section(5, struct.pack(">IH", count, template) + packing)
@@ -98,22 +103,49 @@ def try_fit(what, stream, paths, aec, tally):
         tally.holds(is_so and aec.read("o") == b"old", f"{what}: put {name}: {said}")
 
 
+def made_1(decimal, grid=0):
+    """Returns a message of edition 1 with this decimal scale factor and representation of data."""
+    first = (28).to_bytes(3, "big") + bytes(4) + b"\x80" + bytes(18) + struct.pack(">H", decimal)
+    second = (32).to_bytes(3, "big") + bytes([0, 255, grid]) + bytes(26)
+    body = first + second + (12).to_bytes(3, "big") + bytes(9) + b"7777"
+    return b"GRIB" + (len(body) + 8).to_bytes(3, "big") + b"\1" + body
+
+
+def spectral(data):
+    """Returns the message with grid template 3.50."""
+    return data.replace(section(3, bytes(67)), section(3, bytes(7) + b"\0\x32" + bytes(58)))
+
+
 def bad_messages(good, settings):
     def made(stream=b"", flags=8, **more):
         return message(stream, 8, settings, flags, **more)
 
     size = len(good)
+    other = "the field has data representation template 5.{}, not 5.42"
     repeated = "the message repeats sections: split it into one message a field"
     return [
-        (b"BUFR" + good[4:], "{m} doesn't begin with GRIB"),
-        (b"", "{m} doesn't begin with GRIB"),
+        (b"BUFR" + good[4:], "{m} contains no GRIB message"),
+        (b"", "{m} contains no GRIB message"),
         (good[:10], "the message is cut: only 10 bytes are there"),
         (good[:-1], f"the message is cut: {size - 1} of its {size} bytes are there"),
         (good[:-4] + b"7778", f"the message is cut or damaged: at byte {size - 4} no section fits"),
         (good[:8] + bytes(8), "the message is cut or damaged: at byte 16 no section fits"),
-        (made(edition=1), "the message has edition 1, not 2"),
-        (made(template=40), f"the field has data representation template 5.40, not 5.42: {PACK_ANEW}"),
-        (made(bits=0), "the field is constant: it has no stream"),
+        (made(edition=3), "the message has edition 3, not 2"),
+        (made_1(0), f"{CONVERT} {PACK_ANEW.replace('FILE', 'two.grib')}"),
+        (made_1(2), f"{CONVERT} {WITHOUT_D.replace('FILE', 'two.grib')}"),
+        (made_1(SIGN | 1), f"{CONVERT} {WITHOUT_D.replace('FILE', 'two.grib')}"),
+        (made_1(0, 50), f"the message has edition 1, not 2: {SPECTRAL}"),
+        (made(template=40), f"{other.format(40)}: {PACK_ANEW}"),
+        (made(template=0, scale=(250.0, 9, 2)), f"{other.format(0)}: {WITHOUT_D}"),
+        (made(template=3, scale=(250.0, 2, SIGN | 1)), f"{other.format(3)}: {WITHOUT_D}"),
+        (made(template=3, scale=(250.0, 0, SIGN | 1)), f"{other.format(3)}: {PACK_ANEW}"),
+        (made(template=0, scale=(250.0, 9, 0)), f"{other.format(0)}: {PACK_ANEW}"),
+        (made(template=4), f"{other.format(4)}: {WITHOUT_D}"),  # IEEE: no D at these octets
+        (made(template=50), f"{other.format(50)}: {SPECTRAL}"),
+        (made(template=51), f"{other.format(51)}: {SPECTRAL}"),
+        (spectral(made(template=4)), f"{other.format(4)}: {SPECTRAL}"),
+        (spectral(good), f"the field has {SPECTRAL}"),
+        (made(bits=0), "the field is constant: it has no stream. eccodes' Python can pack it anew with other values"),
         (made(bits=33), "a value has 33 bits, more than 32"),
         (made(b"\0\x78", 40), "intervals are padded (flag 32): -p of aec has another rule"),
         (made(more=section(7, b"")), repeated),
@@ -157,39 +189,57 @@ def try_bad_messages(aec, script, tally):
     aec.write("script", b"overwrite 0 1")
     try_words(aec, script, tally)
     tally.check("FILE stays", aec.read("m"), good)
-    try_tables(aec, tally)
+    try_scales(settings, aec, tally)
     try_several(aec, script, tally)
 
 
 def try_words(aec, script, tally):
     """Tries words that the script refuses, missing files, and an OUT that is also read."""
+    no_program = "is no program: the words begin with AEC, the program's name or path; see --help"
+    aec.write("notes", b"no program")
+    aec.write("program", aec.read("m"))
+    os.chmod(aec.file("program"), 0o755)
     for words, wanted, text in (
         (["edit", aec.path, "script", "m", "m"], 1, "m is read, so it can't be written too"),
         (["edit", aec.path, "m", "m"], 2, "edit takes the words AEC SCRIPT FILE OUT [--message N]; see --help"),
         (["options"], 2, "options takes the words FILE [--message N]; see --help"),
-        (["values"], 2, "values takes the words AEC FILE [FIRST:LEN] [--message N] [--at LAT,LON] [--within DEGREES]; see --help"),
+        (["values"], 2, "values takes the words AEC FILE [FIRST:LEN], or AEC FILE TABLE [--message N] [--at LAT,LON] [--within D"),
         ([], 2, "the first word must be one of options, values, set, take, put, edit"),
         (["change", "m"], 2, "the first word must be one of options, values, set, take, put, edit"),
         (["options", "none"], 1, "none: No such file or directory"),
         (["take", "m", "none/out"], 1, "No such file or directory"),
-        (["options", "m", "--message", "2"], 1, "m has 1 messages, none with the number 2"),
+        (["options", "m", "--message", "2"], 1, "m has 1 message, none with the number 2"),
         (["options", "m", "--message", "0"], 2, "0 is no number of a message"),
         (["options", "m", "--message"], 2, " is no number of a message"),
         (["options", "m", "--message=1", "--message=1"], 2, "--message is given twice"),
-        (["values", aec.path, "m", "3"], 2, "3 is no FIRST:LEN"),
+        (["values", aec.path, "m", "3"], 2, "3 is no FIRST:LEN, and no file"),
         (["values", aec.path, "m", "3:-1"], 2, "-1 is no number of values"),
-        (["values", aec.path, "m", "7:2"], 1, "aec: position outside the 8 samples"),
-        (["values", aec.path, "m", "0:1", "--at", "48.2,16.4"], 2, "FIRST:LEN and --at exclude each other"),
+        (["values", aec.path, "m", "7:2"], 1, ".py: there is no place 8: the last one is 7\n"),
+        (["values", aec.path, "m", "9:0"], 1, ".py: there is no place 9: the last one is 7\n"),
+        (["values", aec.path, "m", "16.4", "--at", "48.2"], 2, "48.2 is no LAT,LON"),
+        (["values", "m", "0:3"], 2, f"m {no_program}"),
+        (["values", "notes", "m"], 2, f"notes {no_program}"),
+        (["set", "m", "0", "250", "o"], 2, f"m {no_program}"),
+        (["set", "m", "t", "o"], 2, f"m {no_program}"),
+        (["put", "m", "m", "m", "o"], 2, f"m {no_program}"),
+        (["edit", "m", "script", "m", "o"], 2, f"m {no_program}"),
+        (["values", "./program", "0:3"], 2, f"./program {no_program}"),
+        (["set", aec.path, "m", "100", "280"], 2, "100 is no file. As a PLACE it needs a VALUE and OUT after it; see"),
+        (["values", aec.path, "m", "0:1", "--at", "48.2,16.4"], 2, "FIRST:LEN or a TABLE, and --at, exclude each other"),
         (["values", aec.path, "m", "--at", "48.2"], 2, "48.2 is no LAT,LON"),
         (["values", aec.path, "none", "--at=48.2,x"], 2, "x is no value"),
         (["values", aec.path, "none", "--at=x,16.4"], 2, "x is no value"),
-        (["values", aec.path, "none", "--at=48.2,361"], 2, "48.2 361 is no place of the earth"),
-        (["values", aec.path, "none", "--at=-91,16.4"], 2, "-91 16.4 is no place of the earth"),
-        (["values", aec.path, "none", "--at=48.2,1e400"], 2, "48.2 1e400 is no place of the earth"),
+        (["values", aec.path, "none", "--at=48.2,361"], 2, "48.2 361 is no place of the earth: latitudes are -90"),
+        (["values", aec.path, "none", "--at=-91,16.4"], 2, "the earth: latitudes are -90 to 90, longitudes -360 to 360"),
+        (["values", aec.path, "none", "--at=48.2,1e400"], 2, "1e400 is too large"),
+        (["values", aec.path, "none", "--at=nan,1"], 2, "nan is no value"),
+        (["values", aec.path, "none", "--at=48.2,16.4", "--within", "1e400"], 2, "1e400 is too large"),
+        (["values", aec.path, "none", "--at=48.2,16.4", "--within", "nan"], 2, "nan is no value"),
         (["values", aec.path, "none", "--within", "1"], 2, "--within needs --at"),
-        (["values", aec.path, "none", "0:1", "--within=1"], 2, "--within needs --at"),
-        (["values", aec.path, "none", "3"], 2, "3 is no FIRST:LEN"),
-        (["values", aec.path, "m", "--at", "-48.2,16.4"], 1, "where the points lie isn't known for this grid"),
+        (["values", aec.path, "none", "0:1", "--within=1"], 2, "--within needs --at, or a TABLE"),
+        (["values", aec.path, "none", "none"], 2, "none is no FIRST:LEN, and no file"),
+        (["values", aec.path, "m", "--message", "1" * 5000], 2, "111 is no number of a message"),
+        (["values", aec.path, "m", "--at", "-48.2,16.4"], 1, "where the points lie isn't known: the grid has 0 points"),
         (["set", aec.path, "m", "o"], 2, "set takes the words AEC FILE TABLE OUT, or AEC FILE PLACE VALUE OUT [--"),
         (["set", aec.path, "m", "o"], 2, "OUT [--message N] [--within DEGREES]; see --help"),
         (["set", aec.path, "m", "t", "o", "--within", "x"], 2, "x is no value"),
@@ -198,7 +248,12 @@ def try_words(aec, script, tally):
         (["set", aec.path, "m", "none", "o"], 1, "none: No such file or directory"),
         (["set", aec.path, "m", "-1", "1", "o"], 2, "-1 is no place"),
         (["set", aec.path, "m", "0", "x", "o"], 2, "x is no value"),
-        (["set", aec.path, "m", "8", "250", "o"], 1, "aec: position outside the 8 samples"),
+        (["set", aec.path, "m", "0", "1e400", "o"], 2, "1e400 is too large"),
+        (["set", aec.path, "m", "0", "280,5", "o"], 2, "280,5 has a comma: write decimals with a point"),
+        (["set", aec.path, "m", "0", "250", "o", "--message="], 2, " is no number of a message"),
+        (["set", aec.path, "m", "0", "250", "-"], 2, "- is no name of a file to write"),
+        (["take", "m", "-"], 2, "- is no name of a file to write"),
+        (["set", aec.path, "m", "8", "250", "o"], 1, "there is no place 8: the last one is 7"),
         (["set", aec.path, "m", "0", "249.99", "o"], 1, "249.99 doesn't fit the packing: 250.0 to"),
         (["set", aec.path, "m", "0", "250.5", "o"], 1, "250.5 doesn't fit the packing: 250.0 to"),
     ):
@@ -207,136 +262,65 @@ def try_words(aec, script, tally):
         tally.holds(is_so, f"grib_ccsds.py {words}: {status}, {said}")
     for words, begin, parts, others in (
         (["--help"], "The coded stream", ["set AEC FILE TABLE OUT", "AEC is this project's", "--within DEGREES"], []),
-        (["edit", "--help"], "    grib_ccsds.py edit AEC SCRIPT", ["the count", "AEC is this", "SCRIPT has"], ["TABLE", "--within"]),
-        (["set", "-h"], "    grib_ccsds.py set AEC FILE", ["PLACE VALUE", "TABLE names", "`--within", "`--message"], ["SCRIPT", " put "]),
-        (["options", "--help"], "    grib_ccsds.py options FILE", ["`--message"], ["AEC", "values"]),
+        (["edit", "--help"], "usage: grib_ccsds.py edit AEC SCRIPT", ["the count", "AEC is this", "SCRIPT has"], ["TABLE", "--within"]),
+        (["set", "-h"], "usage: grib_ccsds.py set AEC", ["PLACE VALUE", "TABLE names", "`--within", "OUT is the"], ["SCRIPT", " put "]),
+        (["options", "--help"], "usage: grib_ccsds.py options FILE [--message N]\n", ["`--message"], ["AEC", "--within"]),
+        (
+            ["values", "--help"],
+            "usage: grib_ccsds.py values AEC FILE [FIRST:LEN] [--message N] [--at LAT,LON] [--within DEGREES]\n"
+            "usage: grib_ccsds.py values AEC FILE TABLE [--message N] [--at LAT,LON] [--within DEGREES]\n",
+            ["    grib_ccsds.py values AEC FILE TABLE", "`--at", "TABLE names", "`--within"],
+            ["SCRIPT", " put "],
+        ),
     ):
         status, said = script.run(GRIB, *words)
         is_so = status == 0 and said.startswith(begin) and all(it in said for it in parts)
         tally.holds(is_so and not any(it in said for it in others), f"help {words}: {said}")
 
 
-# Octets 15 to 72 of section 3, template 3.0: 4 columns from 10 degrees east to 25, 2 rows from 50
-# degrees north to 40, row by row from the north.
-SMALL_GRID = bytes(16) + struct.pack(">IIII", 4, 2, 0, 0xFFFFFFFF)
-CORNERS = 50000000, 10000000, 48, 40000000, 25000000
-SMALL_GRID += struct.pack(">IIBIIII", *CORNERS, 5000000, 10000000) + b"\0"
-
-
-def with_grid(data, grid, points, bitmap=b"\xff"):
-    """Returns a message with another section 3, of so many points, and another section 6."""
-    head = struct.pack(">BIBBH", 0, points, 0, 0, 0)
-    other = data.replace(section(3, bytes(67)), section(3, head + grid))
-    other = other.replace(section(6, b"\xff"), section(6, bitmap))
-    return other[:8] + struct.pack(">Q", len(other)) + other[HEAD:]
-
-
-def try_tables(aec, tally):
-    """Sets the values of tables in a message of 2 rows and 4 columns, with a bitmap and without,
-    and tries tables that are refused. Needs no eccodes."""
-    settings, out, table = Settings(bits=8, block_size=8, interval=2), aec.file("o"), aec.file("t")
-    stream = aec.answer(settings.options(), bytes(range(8)))
-    good = with_grid(message(stream, 8, settings, 8), SMALL_GRID, 8)
-    few = aec.answer(settings.options(), bytes(range(6)))
-    without_1_and_7 = b"\0\xbe"
-    masked = with_grid(message(few, 6, settings, 8), SMALL_GRID, 8, without_1_and_7)
-    plain = message(stream, 8, settings, 8)  # of no known grid
-    step = 2.0**-9
-
-    def changed(place, point=""):
-        return f"place {place}{point}: {250 + place * step} becomes 250.0\n"
-
-    for data, text, wanted in (
-        (good, b"place value\n3 250\n0 250\n", f"{changed(0)}{changed(3)}"),
-        (good, b"# spikes\n\nrow,column,value\n1,2,250\n", changed(6)),
-        (good, b"Latitude;Longitude;Value\n41;-346;250\n", changed(5, ", latitude 40.000000, longitude 15.000000")),
-        (good, b"place latitude longitude value\n5 0 0 250\n", changed(5)),
-        (good, b"row latitude longitude value\n9 41 -346 250\n", changed(5, ", latitude 40.000000, longitude 15.000000")),
-        (masked, b"row\tcolumn\tvalue\r\n1\t2\t250\r\n", changed(5)),
-        (masked, b"latitude longitude value\n59 24 250\n", changed(2, ", latitude 50.000000, longitude 25.000000")),
-        (plain, b"value place\n250 7\n", changed(7)),
+def try_scales(settings, aec, tally):
+    """Tests reference values that are no numbers, and scale factors that make the values too large.
+    A message without section 3 has values, but no points."""
+    stream, infinite = bytes.fromhex("20 09 24 92"), float("inf")
+    damaged = "the reference value is {}: the message is damaged"
+    for scale, text in (
+        ((float("nan"), SIGN | 9, 0), damaged.format("nan")),
+        ((infinite, SIGN | 9, 0), damaged.format("inf")),
+        ((-infinite, SIGN | 9, 0), damaged.format("-inf")),
+        ((250.0, 1100, 0), "the values are too large for floats: binary scale factor 1100, decimal scale factor 0"),
+        ((250.0, 0, SIGN | 400), "the values are too large for floats: binary scale factor 0, decimal scale factor -400"),
     ):
-        aec.write("m", data)
-        aec.write("t", text)
-        status, said = called(grib_ccsds.put_values, aec.path, aec.file("m"), table, out)
-        tally.holds(status == 0 and said.startswith(wanted), f"table {text}: {said}")
-    second = "line 2 of {t}: "
-    far = "the nearest point, 50.000000 10.000000, is 10.1 degrees away, but a step of the grid is 10"
-    for data, text, wanted in (
-        (good, b"place value\n3 250\n8 250\n", "line 3 of {t}: position outside the 8 samples"),
-        (good, b"place value\n3 250\n\n3 250.1\n", "line 4 of {t}: place 3 is also that of line 2"),
-        (good, b"place value\n3 249.9\n", "line 2 of {t}: 249.9 doesn't fit the packing"),
-        (good, b"place value\n3 x\n", "line 2 of {t}: x is no value"),
-        (good, b"place value\n-3 250\n", "line 2 of {t}: -3 is no place"),
-        (good, b"place value\n3\n", "line 2 of {t} has 1 entries, not 2"),
-        (good, b"3 250\n", "the first line of {t} must name the columns"),
-        (good, b"row value\n3 250\n", "the first line of {t} must name the columns"),
-        (good, b"place value\n", "{t} has no values"),
-        (good, b"", "{t} has no values"),
-        (good, b"row column value\n0 4 250\n", "line 2 of {t}: there is no row 0 with a column 4"),
-        (good, b"row column value\n2 0 250\n", "line 2 of {t}: there is no row 2 with a column 0"),
-        (good, b"latitude longitude value\n91 0 250\n", f"{second}91 0 is no place"),
-        (good, b"latitude longitude value\n50 10 250\n60.1 10 250\n", f"line 3 of {{t}}: {far}"),
-        (masked, b"row column value\n0 1 250\n", f"{second}the bitmap says that this point"),
-        (masked, b"place value\n6 250\n", "line 2 of {t}: position outside the 6 samples"),
-        (plain, b"row column value\n0 0 250\n", f"{second}the points of this grid"),
-        (plain, b"latitude longitude value\n0 0 250\n", f"{second}where the points lie"),
-    ):
-        aec.write("m", data)
-        aec.write("t", text)
-        aec.write("o", b"old")
-        status, said = called(grib_ccsds.put_values, aec.path, aec.file("m"), table, out)
-        is_so = status == 1 and said.startswith(wanted.format(t=table)) and aec.read("o") == b"old"
-        tally.holds(is_so, f"table {text}: {said}")
-    aec.write("m", good)
-    aec.write("t", b"latitude longitude value\n60.1 10 250\n")
-    for within, wanted in (("10.2", 0), ("10", 1)):
-        aec.write("o", b"old")
-        status, said = called(grib_ccsds.put_values, aec.path, aec.file("m"), table, out, within=within)
-        is_so = status == wanted and (aec.read("o") == b"old") == (status == 1)
-        tally.holds(is_so, f"within {within}: {status} {said}")
-    for text, given in ((b"place latitude longitude value\n5 0 0 250\n", "places"), (b"row column value\n1 2 250\n", "rows and columns")):
-        aec.write("t", text)
-        answer = called(grib_ccsds.put_values, aec.path, aec.file("m"), table, out, within="1")
-        tally.check(f"within, for {given}", answer, (1, f"--within is for latitudes and longitudes, but {table} gives {given}"))
-    answer = called(grib_ccsds.put_values, aec.path, aec.file("m"), table, table)
-    tally.check("a table as OUT: status", answer[0], 1)
-    aec.write("m", masked)
-    wanted = "".join(f"{it} {where} {250 + it * step}\n" for it, where in enumerate((
-        "50.000000 10.000000", "50.000000 20.000000", "50.000000 25.000000",
-        "40.000000 10.000000", "40.000000 15.000000", "40.000000 20.000000",
-    )))
-    answer = called(grib_ccsds.values, aec.path, aec.file("m"))
-    tally.check("values with a bitmap", answer, (0, f"place latitude longitude value\n{wanted}"))
-    for first in range(6):
-        answer = called(grib_ccsds.values, aec.path, aec.file("m"), f"{first}:2")
-        lines = "".join(f"{line}\n" for line in wanted.splitlines()[first : first + 2])
-        is_so = answer[0] == 1 if first == 5 else answer == (0, f"place latitude longitude value\n{lines}")
-        tally.holds(is_so, f"2 values with a bitmap, from place {first}: {answer}")
-    for at, within, place, text in (
-        ("49,-336", None, 2, ""),
-        ("39.9,19.9", "0.2", 5, ""),
-        ("50,15", None, None, "the bitmap says that this point has no value"),
-        ("60.1,10", None, None, far),
-        ("60.1,10", "10.2", 0, ""),
-    ):
-        answer = called(grib_ccsds.values, aec.path, aec.file("m"), at=at, within=within)
-        line = "" if place is None else f"{wanted.splitlines()[place]}\n"
-        is_so = answer == (0, f"place latitude longitude value\n{line}") if line else answer[0] == 1 and text in answer[1]
-        tally.holds(is_so, f"values --at {at} --within {within}: {answer}")
+        aec.write("m", message(stream, 8, settings, 8, scale=scale))
+        aec.write("t", b"place value\n0 250\n")
+        tally.check(f"values: {text}", called(grib_ccsds.values, aec.path, aec.file("m")), (1, text))
+        answer = called(grib_ccsds.put_values, aec.path, *map(aec.file, "mto"))
+        tally.check(f"set: {text}", answer, (1, text))
+    aec.write("m", message(stream, 8, settings, 8))
+    # A value halfway between two numbers becomes the even one. The first number that is stored is 0.
+    for half, wanted in ((0.5, 0), (1.5, 2), (2.5, 2), (254.5, 254)):
+        value = repr(250 + half * 2.0**-9)
+        answer = called(grib_ccsds.put_values, aec.path, aec.file("m"), "0", value, aec.file("o"))
+        tally.check(f"halfway: {half}", answer, (0, f"place 0: 250.0 becomes {250 + wanted * 2.0**-9}\n"))
+    good, third = message(stream, 8, settings, 8), section(3, bytes(67))
+    short = good.replace(third, b"")
+    aec.write("m", short[:8] + struct.pack(">Q", len(good) - len(third)) + short[HEAD:])
+    said = called(grib_ccsds.values, aec.path, aec.file("m"), "0:1")
+    tally.check("no section 3: values", said, (0, "place value\n0 250.0\n"))
+    said = called(grib_ccsds.values, aec.path, aec.file("m"), at="48,16")
+    tally.check("no section 3: --at", said, (1, "where the points lie isn't known: the message has no section 3. Give places"))
 
 
 def try_several(aec, script, tally):
-    """Tests a file of three messages, one of them of edition 1, with bytes between them: each is
-    found, and the others stay."""
+    """Tests a file of three messages, one of them of edition 1, with bytes before and between them:
+    each is found, and the others stay."""
     settings, stream = Settings(bits=8, block_size=8, interval=2), bytes.fromhex("20 09 24 92")
     one, two = message(stream, 8, settings, 8), message(b"\0\x78", 5, settings, 8)
     old = b"GRIB\0\0\x20\1" + b"GRIB" * 6
-    parts = [one, b"between", old, b"\r\n", two, b"after"]
+    parts = [b"\1\r\r\n001\r\r\nHHXA01 KWBC 300000\r\r\n", one, b"between", old, b"\r\n", two, b"after\3"]
     aec.write("m", b"".join(parts))
     for number, wanted in (
         ("1", (0, "--count 8 -n 8 -j 8 -r 2\n")),
-        ("2", (1, "grib_ccsds.py: the message has edition 1, not 2\n")),
+        ("2", (1, f"grib_ccsds.py: {CONVERT} {WITHOUT_D.replace('FILE', 'two.grib')}\n")),
         ("3", (0, "--count 5 -n 8 -j 8 -r 2\n")),
         ("4", (1, "grib_ccsds.py: m has 3 messages, none with the number 4\n")),
     ):
@@ -346,5 +330,11 @@ def try_several(aec, script, tally):
     said = "place 4: 250.013671875 becomes 250.015625\n"
     tally.check("message 3: set", answer, (0, said))
     samples = bytes([7, 7, 7, 7, 8])
-    parts[4] = message(aec.answer(settings.options(), samples), 5, settings, 8)
+    parts[5] = message(aec.answer(settings.options(), samples), 5, settings, 8)
     tally.check("message 3: the file", aec.read("out"), b"".join(parts))
+    answer = script.run(GRIB, "values", aec.path, "/dev/stdin", "4:1", "--message", "3", input=b"".join(parts))
+    tally.holds(answer[0] == 0 and "4 250.015625" in answer[1], f"a file that is a pipe: {answer}")
+    for gap in (1 << 16, (1 << 16) - 2, (1 << 16) + 3):  # around the pieces that are read at a time
+        aec.write("m", one + bytes(gap) + two)
+        answer = script.run(GRIB, "options", "m", "--message", "2")
+        tally.check(f"message 2 after {gap} bytes", answer, (0, "--count 5 -n 8 -j 8 -r 2\n"))

@@ -61,9 +61,17 @@ def drawn_wanted(chance, points):
 
 
 def first_of_all(points, wanted):
-    """Returns the number that a search over all points finds: of several, the first."""
-    vector = direction(wanted)
-    return max(range(len(points)), key=lambda it: dot(vector, direction(points[it])))
+    """Returns the number that a search over all points finds: of several, the first, but in a row at
+    a pole the one with the nearest longitude."""
+    vector, listed = direction(wanted), list(points)
+    if isinstance(points, Rows):  # at a pole, the longitude changes no distance
+        listed = [Point(it.latitude, it.longitude * (abs(it.latitude) < 90)) for it in listed]
+    found = max(range(len(listed)), key=lambda it: dot(vector, direction(listed[it])))
+    if isinstance(points, Scattered) or abs(listed[found].latitude) < 90:
+        return found
+    row = next(it for it, at in enumerate(points.latitudes) if at == listed[found].latitude)
+    east = [abs((it % 360 - wanted.longitude + 180) % 360 - 180) for it in points.longitudes[row]]
+    return points.starts[row] + east.index(min(east))
 
 
 def try_nearest(number, chance, tally):
@@ -74,7 +82,8 @@ def try_nearest(number, chance, tally):
     tally.holds(is_so, f"grid {number}: the points by their numbers")
     for _ in range(20):
         wanted = drawn_wanted(chance, points)
-        tally.check(f"grid {number}: {wanted} in {listed[:50]}", points.nearest(wanted), first_of_all(listed, wanted))
+        found = points.nearest(wanted), first_of_all(points, wanted)
+        tally.check(f"grid {number}: {wanted} in {listed[:50]}", *found)
 
 
 def try_halfway(tally):
