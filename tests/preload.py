@@ -4,7 +4,11 @@
 Builds the library that programs preload, and runs with and without it:
 - tests/lib/preload_calls.c: each call beside libaec's own, with random parameters, samples and damaged
   streams; in eight threads; and with so little memory that libaecp must refuse
+- tests/lib/preload_ends.c: streams of any number of samples; sound, cut, damaged, with bytes after
+  them
 - eccodes' grib_get_data and grib_set, on all samples of Debian's libeccodes-data with CCSDS packing
+- grib_get_data, on grids whose number of values isn't whole blocks, with a bitmap, with a last row
+  or areas of equal values
 - h5py and netCDF4 with szip, each written by one and read by the other; h5diff
 - CDO, which reads and writes GRIB2 messages
 The values must be equal, and the library must have taken calls. Skips what needs a program or a
@@ -26,7 +30,7 @@ from typing import NamedTuple
 from lib.program import TOP, Tally, add_case_options
 
 SOURCE = os.path.join(TOP, "examples", "preload")
-DRIVER = os.path.join(TOP, "tests", "lib", "preload_calls.c")
+DRIVERS = os.path.join(TOP, "tests", "lib")
 HEADER = "/usr/include/libaec.h"
 SAMPLES = "/usr/share/eccodes/ifs_samples/*/*.tmpl"
 MESSAGE = "/usr/share/eccodes/ifs_samples/grib1_mlgrib2_ccsds/gg_sfc_grib2.tmpl"
@@ -72,6 +76,40 @@ with netCDF4.Dataset(sys.argv[1]) as file:
 """
 
 
+# Writes messages grid_1.grib, grid_2.grib .. of random values, packed by CCSDS.
+WRITE_GRIDS = """
+import eccodes, numpy
+chance = numpy.random.default_rng(9)
+missing = 9999
+for number, (columns, rows, bits, kind) in enumerate((
+    (720, 361, 16, "whole"), (720, 361, 16, "pole"), (720, 361, 12, "gaps"), (720, 361, 12, "areas"),
+    (101, 101, 8, "whole"), (101, 101, 12, "gaps"), (101, 101, 24, "whole"),
+    (1440, 181, 16, "pole"), (1440, 180, 16, "areas"),
+), 1):
+    values = 280 + chance.normal(size=(rows, columns)).cumsum(1)
+    if kind == "pole":
+        values[-1] = 250
+    if kind == "gaps":
+        values[chance.random(values.shape) < 0.3] = missing
+    if kind == "areas":
+        values = values.clip(270, 290)
+    message = eccodes.codes_grib_new_from_samples("regular_ll_sfc_grib2")
+    for key, value in {
+        "Ni": columns, "iDirectionIncrementInDegrees": 360 / columns,
+        "longitudeOfFirstGridPointInDegrees": 0,
+        "longitudeOfLastGridPointInDegrees": 360 - 360 / columns,
+        "Nj": rows, "jDirectionIncrementInDegrees": 180 / (rows - 1),
+        "latitudeOfFirstGridPointInDegrees": 90, "latitudeOfLastGridPointInDegrees": -90,
+        "missingValue": missing, "bitmapPresent": int(kind == "gaps"),
+        "packingType": "grid_ccsds", "bitsPerValue": bits,
+    }.items():
+        eccodes.codes_set(message, key, value)
+    eccodes.codes_set_values(message, values.ravel())
+    with open(f"grid_{number}.grib", "wb") as file:
+        eccodes.codes_write(message, file)
+"""
+
+
 class Ended(NamedTuple):
     """How a program ended, and how many calls the library took or passed on: coding, decoding."""
 
@@ -107,39 +145,63 @@ class Preloaded:
         return Ended(ended.returncode, ended.stdout, ended.stderr, taken, passed_on)
 
 
+def compile_to(folder, name):
+    """Returns the start of the command that builds a program of tests/lib/ in a folder."""
+    return ["cc", *FLAGS.split(), "-o", f"{folder}/{name}", f"{DRIVERS}/preload_{name}.c"]
+
+
 def build(asked, folder, tally):
-    """Builds the library and the program of the calls in a folder. Returns the library's path."""
+    """Builds the library and the programs of the calls in a folder. Returns the library's path."""
     found = os.path.join(os.path.abspath(asked.folder), "libaecp.so")
     for name in ("libaecp.so", "libaecp.so.1"):
         os.symlink(found, os.path.join(folder, name))
     library = os.path.join(folder, "aecp_preload.so")
     for words in (
         ["make", "-s", "-C", SOURCE, f"AECP={folder}", f"TO={library}", f"CFLAGS={FLAGS}"],
-        ["cc", *FLAGS.split(), "-o", f"{folder}/calls", DRIVER, "-laec", "-ldl", "-pthread"],
+        *([*compile_to(folder, name), "-laec", "-ldl", "-pthread"] for name in ("calls", "ends")),
     ):
         ended = subprocess.run(words, capture_output=True, check=False, text=True)
         tally.holds(ended.returncode == 0, f"{words[0]}: {ended.stderr}")
     return library
 
 
+def run_calls(preloaded, tally, program, mode, asked, cases):
+    """Runs a program of calls, and counts its checks. Returns how it ended, and how many streams
+    the library was asked to decode."""
+    ended = preloaded.run(True, f"./{program}", mode, str(asked.seed), str(cases))
+    counts = re.findall(r"^(\d+) passed, (\d+) failed, (\d+) decoded", ended.out, re.M)
+    is_so = ended.status == 0 and len(counts) == 1 and counts[0][1] == "0"
+    tally.holds(is_so, f"{program} {mode}: {ended.said()}")
+    passed, failed, decoded = (int(it) for it in counts[0]) if counts else (0, 0, 0)
+    tally.passed, tally.failed = tally.passed + passed, tally.failed + failed
+    return ended, decoded
+
+
 def try_calls(preloaded, asked, tally):
     """Compares call by call. The library must take about as many calls as it does now."""
-    shares = asked.cases // 3, asked.cases // 20
+    shares = asked.cases // 3, asked.cases // 4
     for mode, cases, coded, decoded in (
         ("cases", asked.cases, *shares),
         ("threads", asked.cases // 8, *shares),
         ("memory", 1, 1, 1),
     ):
-        ended = preloaded.run(True, "./calls", mode, str(asked.seed), str(cases))
-        counts = re.findall(r"^(\d+) passed, (\d+) failed", ended.out, re.M)
-        is_so = ended.status == 0 and len(counts) == 1 and counts[0][1] == "0"
-        tally.holds(is_so, f"calls {mode}: {ended.said()}")
-        for passed, failed in counts:
-            tally.passed, tally.failed = tally.passed + int(passed), tally.failed + int(failed)
+        ended, _ = run_calls(preloaded, tally, "calls", mode, asked, cases)
         is_so = ended.taken[0] >= coded and ended.taken[1] >= decoded
         tally.holds(is_so, f"calls {mode}: only {ended.taken} taken")
         if mode == "memory":
             tally.check("calls memory: refused and passed on", ended.passed_on, (1, 1))
+
+
+def try_ends(preloaded, asked, tally):
+    """Compares the decoding of streams of any number of samples. The library must take each sound
+    stream, and pass on each that is cut or that bytes follow."""
+    ended, decoded = run_calls(preloaded, tally, "ends", "whole", asked, asked.cases)
+    tally.check("ends whole: taken, passed on", (ended.taken[1], ended.passed_on[1]), (decoded, 0))
+    ended, decoded = run_calls(preloaded, tally, "ends", "cut", asked, asked.cases // 10)
+    tally.check("ends cut: taken, passed on", (ended.taken[1], ended.passed_on[1]), (0, decoded))
+    ended, _ = run_calls(preloaded, tally, "ends", "damaged", asked, asked.cases // 20)
+    is_so = min(ended.taken[1], ended.passed_on[1]) > asked.cases
+    tally.holds(is_so, f"ends damaged: {ended.taken} taken, {ended.passed_on} passed on")
 
 
 def same(preloaded, tally, *words):
@@ -181,6 +243,16 @@ def try_eccodes(preloaded, tally):
             decoded += same(preloaded, tally, "grib_get_data", "theirs.grib")
     tally.holds(decoded > 0, "eccodes: no decoding call was taken")
     tally.holds(coded > 0, "eccodes: no coding call was taken")
+
+
+def try_grids(preloaded, tally):
+    """Reads messages of grids. The library must decode each."""
+    ended = preloaded.run(False, PYTHON, "-c", WRITE_GRIDS)
+    paths = sorted(glob.glob(os.path.join(preloaded.folder, "grid_*.grib")))
+    tally.holds(ended.status == 0 and len(paths) == 9, f"grids, written: {ended.said()}")
+    for path in paths:
+        taken = same(preloaded, tally, "grib_get_data", path)
+        tally.check(f"{path}: decoding calls that were taken", taken, 1)
 
 
 def try_files(preloaded, tally, name, write, read):
@@ -234,6 +306,7 @@ def try_programs(preloaded, tally):
     has_eccodes = shutil.which("grib_set") and os.path.exists(MESSAGE)
     tests = (
         ("libeccodes-tools or libeccodes-data", has_eccodes, try_eccodes, ()),
+        ("python3-eccodes", has_eccodes and has("eccodes"), try_grids, ()),
         ("python3-h5py", has("h5py"), try_files, ("h5", WRITE_H5, READ_H5)),
         ("python3-netcdf4", has("netCDF4"), try_files, ("nc", WRITE_NETCDF, READ_NETCDF)),
         ("cdo", shutil.which("cdo") and has_eccodes, try_cdo, ()),
@@ -258,6 +331,7 @@ def main():
             preloaded = Preloaded(build(asked, folder, tally), folder)
             if not tally.failed:
                 try_calls(preloaded, asked, tally)
+                try_ends(preloaded, asked, tally)
                 skipped = try_programs(preloaded, tally)
     tally.print(len(skipped), "; ".join(skipped))
     return 1 if tally.failed else 0

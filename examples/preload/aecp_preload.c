@@ -3,8 +3,8 @@
  *     LD_PRELOAD=.../aecp_preload.so grib_get_data message.grib
  *
  * A call is taken only if libaecp does the whole of it, and if libaec is known to return the same: status, samples and members of
- * `struct aec_stream`. Every other call is passed on to libaec, with its stream unchanged. A coded stream may have other bytes than
- * libaec's; it is never longer. README.md says what isn't promised.
+ * `struct aec_stream`, but for how much of the stream was read if its last block isn't full. Every other call is passed on to libaec,
+ * with its stream unchanged. A coded stream may have other bytes than libaec's; it is never longer. README.md says what isn't promised.
  *
  * At the end of a process, the library appends a line with the numbers of calls to the file that the environment variable
  * AECP_PRELOAD_REPORT names.
@@ -12,6 +12,7 @@
 #define _GNU_SOURCE
 #include <aecp.h>
 #include <dlfcn.h>
+#include <endian.h>
 #include <libaec.h>
 #include <stdatomic.h>
 #include <stdio.h>
@@ -26,10 +27,6 @@ static atomic_ulong taken[2], passed_on[2];
 
 /* The flags that libaecp knows, without AEC_PAD_RSI. */
 static const unsigned known_flags = AEC_DATA_SIGNED | AEC_DATA_3BYTE | AEC_DATA_MSB | AEC_DATA_PREPROCESS | AEC_RESTRICTED | AEC_NOT_ENFORCE;
-
-/* Two equal samples of a pair whose sum is above 12 need at least 91 zero bits, and so ten zero bytes. libaecp decodes such a pair, and
- * libaec rejects it. */
-static const unsigned char long_zeros[10];
 
 /* Passes a call on to the library that follows this one, which is libaec, since this one is linked with it. */
 static int pass_on(int which, struct aec_stream *s) {
@@ -114,36 +111,133 @@ int aec_buffer_encode(struct aec_stream *s) {
     return done(ENCODE, s, reply.len);
 }
 
-/* Decodes a stream. Returns whether its samples fill the output buffer and no coded data set follows them, only zero bits. */
-static bool decode_all(const struct aec_stream *s, const aecp_options *o) {
-    aecp_reader reader = AECP_READER;
-    aecp_reply reply;
-    size_t written = 0;
-    if (aecp_reader_open(o, AECP_ALL, s->next_in, s->avail_in, &reader, &reply)) return false;
-    while (!aecp_reader_next(&reader, s->next_out + written, s->avail_out - written, &reply) && reply.len) written += reply.len;
-    aecp_reader_close(&reader);
-    return !reply.fault && written == s->avail_out;
+/* A place in a stream, in bits. */
+struct place {
+    const unsigned char *bytes;
+    size_t len, bit;
+};
+
+/* Returns at least 57 bits, the first as the most significant one; after the stream zeros. */
+static uint64_t peek(const struct place *at) {
+    size_t byte = at->bit / 8;
+    uint64_t word = 0;
+    if (byte + sizeof word <= at->len)
+        memcpy(&word, at->bytes + byte, sizeof word);
+    else if (byte < at->len)
+        memcpy(&word, at->bytes + byte, at->len - byte);
+    return be64toh(word) << at->bit % 8;
 }
 
-/* Returns whether libaec reads the last byte of a stream that has nothing but zeros after its last coded data set. It does unless there
- * are zero bytes: these it reads as the identifier and the reference sample of another one, and then stops. */
-static bool is_read_to_its_end(const struct aec_stream *s) {
+/* Skips `left` fundamental sequences: zeros and a 1 each. Without them, goes past the end. */
+static void skip_sequences(struct place *at, unsigned left) {
+    while (at->bit < 8 * at->len) {
+        unsigned bits = left < 19 ? 3 * left : 57;
+        uint64_t word = peek(at) >> (64 - bits);
+        unsigned ones = __builtin_popcountll(word);
+        if (ones >= left) {
+            for (; ones > left; ones--) word &= word - 1;
+            at->bit += bits - __builtin_ctzll(word);
+            return;
+        }
+        left -= ones;
+        at->bit += bits;
+    }
+    at->bit = 8 * at->len + 1;
+}
+
+/* Returns whether each of so many fundamental sequences has at most 90 zeros. */
+static bool are_short(struct place at, unsigned sequences) {
+    for (size_t first = at.bit; sequences; sequences--, first = at.bit) {
+        skip_sequences(&at, 1);
+        if (at.bit - first > 91) return false;
+    }
+    return true;
+}
+
+/* Skips the number of a run of zero blocks. Returns how many blocks it has; `left` are left in the
+ * segment. */
+static unsigned skip_run(struct place *at, unsigned left) {
+    size_t first = at->bit;
+    skip_sequences(at, 1);
+    size_t number = at->bit - first - 1;
+    return number == 4 ? left : number < 4 ? number + 1 : number;
+}
+
+/* Skips a coded data set. `block` is the number of its first block in its interval. Returns how
+ * many blocks it has. Returns 0 if libaec may reject it: a pair whose number is above 90, or near
+ * the end of the stream a block that is longer than without compression. */
+static unsigned skip_set(struct place *at, const aecp_options *o, unsigned block) {
+    unsigned id_len = o->bits > 16 ? 5 : o->bits > 8 ? 4 : o->restricted ? (o->bits + 1) / 2 : 3;
+    uint64_t word = peek(at);
+    unsigned id = word >> (64 - id_len);
+    size_t longest = at->bit + id_len + (size_t)o->bits * o->block_size;
+    if (id == (1u << id_len) - 1) {
+        at->bit = longest;
+        return 1;
+    }
+    bool has_reference = o->preprocess && block == 0, is_pairs = !id && word << id_len >> 63;
+    at->bit += id_len + !id + (has_reference ? o->bits : 0);
+    if (!id && !is_pairs) {
+        unsigned in_segment = 64 - block % 64, in_interval = o->interval - block;
+        return skip_run(at, in_segment < in_interval ? in_segment : in_interval);
+    }
+    unsigned sequences = is_pairs ? o->block_size / 2 : o->block_size - has_reference;
+    struct place first = *at;
+    skip_sequences(at, sequences);
+    bool may_be_long = is_pairs && at->bit - first.bit > 90 + sequences;
+    if (may_be_long && !are_short(first, sequences)) return 0;
+    if (!is_pairs) at->bit += (size_t)(id - 1) * sequences;
+    return at->bit <= longest;
+}
+
+/* Returns whether the stream ends with the coded data set of the last wanted sample: whether this
+ * set ends in the last byte, and only zero bits follow it. */
+static bool is_whole(const struct aec_stream *s, const aecp_options *o, size_t samples) {
+    struct place at = {s->next_in, s->avail_in, 0};
+    size_t end = 8 * s->avail_in, left = (samples - 1) / o->block_size + 1;
+    for (unsigned block = 0; left;) {
+        unsigned blocks = skip_set(&at, o, block);
+        if (!blocks || at.bit > end) return false;
+        left -= left < blocks ? left : blocks;
+        block = (block + blocks) % o->interval;
+    }
+    return end - at.bit < 8 && !peek(&at);
+}
+
+/* Returns whether `is_whole` isn't needed for a stream of whole blocks: decoding all of it shows the
+ * same if its last byte isn't zero. It has no pair whose number is above 90 if no ten bytes in a row
+ * are zeros. It doesn't end with a run that goes on beyond the wanted samples, unless its last bits
+ * are 00001. A stream that is longer than any coder's would only cost memory. */
+static bool is_plain(const struct aec_stream *s, const aecp_options *o, size_t samples) {
+    static const unsigned char zeros[10];
     const unsigned char *last = s->next_in + s->avail_in - 1;
-    return *last || (s->avail_in > 1 && last[-1] && s->bits_per_sample > 4);
+    unsigned bits = (s->avail_in > 1 ? last[-1] : 0) << 8 | *last;
+    if (samples % o->block_size || s->avail_in > aecp_bound(o, samples)) return false;
+    if (*last == 0 || (bits >> __builtin_ctz(bits) & 0x1f) == 1) return false;
+    return !memmem(s->next_in, s->avail_in, zeros, sizeof zeros);
+}
+
+/* Decodes the first `count` samples, or all. Returns whether they fill the output buffer. */
+static bool decode(const struct aec_stream *s, const aecp_options *o, uint64_t count) {
+    aecp_reader reader = AECP_READER;
+    aecp_reply reply;
+    unsigned char *out = s->next_out, *end = out + s->avail_out;
+    if (aecp_reader_open(o, count, s->next_in, s->avail_in, &reader, &reply)) return false;
+    while (!aecp_reader_next(&reader, out, end - out, &reply) && reply.len) out += reply.len;
+    aecp_reader_close(&reader);
+    return !reply.fault && out == end;
 }
 
 int aec_buffer_decode(struct aec_stream *s) {
     aecp_options o;
     if (!read_options(s, &o) || !are_buffers_apart(s)) return pass_on(DECODE, s);
-    size_t width = stored_width(&o);
-    /* libaec stops reading inside a block that is needed in part, so its place in the stream isn't known. */
-    if (s->avail_out % (width * o.block_size)) return pass_on(DECODE, s);
+    size_t width = stored_width(&o), samples = s->avail_out / width;
+    if (s->avail_out % width) return pass_on(DECODE, s);
     /* Without preprocessing, libaec fills the unused bits of signed samples with zeros. */
     if (o.is_signed && !o.preprocess && o.bits < 8 * width) return pass_on(DECODE, s);
-    /* A stream that is longer than any coder's would only cost memory; libaec's has a byte more if its last byte is full. */
-    if (s->avail_in > aecp_bound(&o, s->avail_out / width) + 1 || !is_read_to_its_end(s)) return pass_on(DECODE, s);
-    if (memmem(s->next_in, s->avail_in, long_zeros, sizeof long_zeros)) return pass_on(DECODE, s);
-    if (!decode_all(s, &o)) return pass_on(DECODE, s);
+    bool is_all = is_plain(s, &o, samples);
+    if (!is_all && !is_whole(s, &o, samples)) return pass_on(DECODE, s);
+    if (!decode(s, &o, is_all ? AECP_ALL : samples)) return pass_on(DECODE, s);
     return done(DECODE, s, s->avail_out);
 }
 
