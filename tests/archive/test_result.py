@@ -83,7 +83,8 @@ def seconds(name: str, edits: int) -> float:
 
 
 def test_edits_out_of_order_take_no_square_of_their_number() -> None:
-    """A list that is passed over from place to place takes 16 times as long for 4 times as many edits."""
+    """For 16 times as many edits, one list that is passed over from place to place takes 256 times as long or more, the cut ones some 30
+    times. The bound is far from both, so that other work on the machine doesn't decide."""
     for name in ("insert", "overwrite"):
-        few, many = min(seconds(name, 5000) for _ in range(3)), min(seconds(name, 20_000) for _ in range(2))
-        assert many < 9 * few, (name, few, many)
+        few, many = min(seconds(name, 1250) for _ in range(3)), seconds(name, 20_000)
+        assert many < 130 * few, (name, few, many)

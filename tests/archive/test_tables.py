@@ -25,6 +25,14 @@ def test_a_table_by_the_shape_of_the_file(place: str) -> None:
     for rows in (b"20,0,1\n", b"0,30,1\n", b"-1,0,1\n", b"0,-1,1\n", b"0,0,70000\n", b"0,0,x\n"):
         write(place, "wrong.csv", b"row,column,value\n" + rows)
         refused(place, "edit", "flat.aec", "wrong.csv")
+    write(place, "wrong.csv", b"row,column,value\n9,4,-3\n2,2,7\n1,1,5\n1,1,70000\n30,0,1\n")
+    said = refused(place, "edit", "flat.aec", "wrong.csv").err
+    assert "line 2: row 9, column 4: the value -3 is out of range: 0 to 65535" in said, said
+    assert "line 5: row 1, column 1: the value 70000 is out of range: 0 to 65535" in said, said
+    assert "line 6: row 30, column 0 is outside 20x30" in said and said.count("line ") == 3, said
+    write(place, "wrong.csv", b"place,value\n600,1\n599,65535\n599,65536\n")
+    said = refused(place, "edit", "flat.aec", "wrong.csv").err
+    assert "line 2: place 600 is outside the 600 samples" in said and "line 4: place 599: the value 65536 is" in said, said
     assert read(place, "flat.aec") == before
 
 
@@ -36,13 +44,17 @@ def test_a_table_without_frames_for_several(place: str) -> None:
     for name, table in (("named.csv", b"row,column,value\n1,2,7\n"), ("bare.tsv", b"1\t2\t7\n"), ("bad.csv", b"x,y,new\n2,99,7\n")):
         write(place, name, table)
         ran = refused(place, "edit", "f.aec", name)
-        wanted = "f.aec: the shape has 6 frames, and the table doesn't say which one is meant: add a column frame, or give --frame K"
+        wanted = "f.aec: there are 6 frames, and the table doesn't say which one is meant: add a column frame, or give --frame K"
         assert wanted in ran.err and read(path) == before, ran
-        assert "has 6 frames" in refused(place, "pixels", name, "--shape", "6x20x30").err
-    for number, words in enumerate((["--frame", "5"], ["--frame", "0"], ["--shape", "120x30"], ["--shape", "1x120x30"])):
+        assert "are 6 frames" in refused(place, "pixels", name, "--shape", "6x20x30").err
+        assert "are 6 frames" in refused(place, "edit", "f.aec", name, "--shape", "20x30").err and read(path) == before
+        assert "are 4 frames" in refused(place, "edit", "f.aec", name, "--shape", "33x30").err and read(path) == before
+    refused(place, "edit", "f.aec", "named.csv", "--shape", "20x30", "--frame", "6")
+    one = (["--frame", "0"], ["--shape", "120x30"], ["--shape", "1x120x30"], ["--shape", "20x30", "--frame", "0"])
+    for words in (*one, ["--frame", "5"], ["--shape", "20x30", "--frame", "5"]):
         done(place, "edit", "f.aec", "named.csv", *words)
         wanted_samples = samples.copy()
-        wanted_samples[(5 * 20 * 30 if number == 0 else 0) + 32] = 7
+        wanted_samples[(0 if words in one else 5 * 20 * 30) + 32] = 7
         assert samples_at(path) == wanted_samples, words
         done(place, "undo", "f.aec")
     write(place, "places.csv", b"place,value\n32,7\n")

@@ -79,5 +79,7 @@ class Aecp(Codec):  # type: ignore[misc]
         return chunk[HEAD:], count, self.ordered(bool(is_other))
 
     def get_config(self) -> dict[str, Any]:
-        """Returns the configuration from which numcodecs.get_codec makes this codec."""
-        return {"id": self.codec_id, "bits": self.bits, **self.options}
+        """Returns the configuration from which numcodecs.get_codec makes this codec. It has the block size and the interval even if
+        they are the defaults, since an array's metadata must last."""
+        numbers = {"block_size": self.usual.block_size, "interval": self.usual.interval}
+        return {"id": self.codec_id, "bits": self.bits, **numbers, **self.options}

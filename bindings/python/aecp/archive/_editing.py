@@ -122,8 +122,9 @@ def script_for(how: Editing, facts: Facts) -> bytes:
     """Returns the script for a file. A table becomes one by the file's shape."""
     if not how.is_table:
         return how.script
-    grid = grid_of(how.shape or facts.shape, has_frames=how.shape is None)
-    return script_of(how.script.decode("utf-8-sig", "replace"), grid, how.frame).encode("ascii")
+    grid = grid_of(how.shape or facts.shape, facts.count)
+    table = how.script.decode("utf-8-sig", "replace")
+    return script_of(table, grid, how.frame, facts).encode("ascii")
 
 
 class Undoing(NamedTuple):

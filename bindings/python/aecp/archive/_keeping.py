@@ -136,7 +136,8 @@ def coded(
     if how.limit is not None and length // options.storage > how.limit:
         raise Refused(f"it has {length // options.storage} samples, more than the limit")
     if layout.shape is not None and math.prod(layout.shape) != length // options.storage:
-        raise Refused(f"it has {length // options.storage} samples, and its shape another number")
+        named = "x".join(map(str, layout.shape))
+        raise Refused(f"it has {length // options.storage} samples, and the shape {named} another number")
     reading = Reading(file, before.st_size, layout.head, length)
     with _saving.new_file(target, before.st_mode & 0o666) as out:
         writer = Writer(out, options)

@@ -75,7 +75,7 @@ def do_pixels(asked: argparse.Namespace, console: Console) -> int:
 
     def work() -> int:
         text = input_of(asked.table).decode("utf-8-sig", "replace")
-        console.write(script_of(text, grid_of(shape, has_frames=False), asked.frame).encode())
+        console.write(script_of(text, grid_of(shape), asked.frame).encode())
         return 0
 
     return guarded(console, asked.table, work)

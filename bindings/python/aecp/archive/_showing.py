@@ -157,13 +157,11 @@ def compared(first: ArchiveFile, second: ArchiveFile, shape: Optional[tuple[int,
     a, b = first.facts.options, second.facts.options
     if (a.bits, a.signed, a.storage, a.msb_first) != (b.bits, b.signed, b.storage, b.msb_first):
         raise Refused("its samples are stored in another way than those of the first file")
-    grid = grid_of(shape, has_frames=False) if shape else None
-    if grid is not None and grid.rows * grid.columns == first.facts.count:
-        grid = grid._replace(frames=1)
-    if grid is None and first.facts.shape == second.facts.shape:
-        grid = grid_of(first.facts.shape)
-    if first.facts.count != second.facts.count:
-        grid = None
+    count, grid = first.facts.count, None
+    if count == second.facts.count:
+        grid = grid_of(shape, count)
+        if grid is None and first.facts.shape == second.facts.shape:
+            grid = grid_of(first.facts.shape, count)
     return Compared(all_samples(first), all_samples(second), a, grid)
 
 
@@ -262,7 +260,7 @@ def part_to_view(
 ) -> tuple[int, int, int]:
     """Returns first sample, number of samples, and width of a picture. Raises Refused if the file
     has no shape and no width is given."""
-    grid = grid_of(facts.shape)
+    grid = grid_of(facts.shape, facts.count)
     columns = width or (grid.columns if grid else None)
     if columns is None:
         raise Refused("it has no shape: give --width W, the samples of a row")

@@ -20,7 +20,7 @@ MOST_SCRIPT = 64 << 20  # bytes of a script that is unpacked
 A_PIXEL = len(b"overwrite 0 0\n")  # the least bytes of a line of pixels
 MOST_PIXELS = MOST_SCRIPT // A_PIXEL
 PACKED_TO_TRY = 1 << 20  # bytes; of more, the start shows how well they can be packed
-GAPS = Options(32, preprocess=False)  # how the gaps of pixels are coded
+GAPS = Options(32, block_size=16, interval=128, preprocess=False)  # how the gaps of pixels are coded
 MOST_GAP = 1 << 32
 SCRIPT = frozenset(["script"])
 PIXELS, PIXELS_FIELDS = frozenset(["pixels"]), frozenset(["count", "gaps", "values"])

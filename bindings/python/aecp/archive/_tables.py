@@ -9,7 +9,7 @@ import math
 import re
 from typing import NamedTuple, Optional
 
-from aecp.archive._form import Refused
+from aecp.archive._form import Facts, Refused
 from aecp.archive._scripts import MOST_SHOWN, BadLine, cut
 
 NAMES = {"col": "column", "x": "column", "y": "row", "index": "place", "new": "value"}
@@ -47,13 +47,16 @@ def shape_in(text: str) -> tuple[int, ...]:
     return tuple(map(int, re.split("[xX,]", text)))
 
 
-def grid_of(shape: Optional[tuple[int, ...]], has_frames: bool = True) -> Optional[Grid]:
+def grid_of(shape: Optional[tuple[int, ...]], count: Optional[int] = None) -> Optional[Grid]:
     """Returns the grid of a shape, or None if it isn't one of rows and columns. Indices before the
-    last two count frames. Without `has_frames`, a shape of two sizes may have more frames."""
+    last two count frames. With two sizes, there are as many frames as `count` samples begin; any
+    number if `count` is None."""
     if shape is None or len(shape) < 2 or not all(shape):
         return None
-    frames = math.prod(shape[:-2]) if has_frames or len(shape) > 2 else None
-    return Grid(frames, shape[-2], shape[-1])
+    *frames, rows, columns = shape
+    if frames:
+        return Grid(math.prod(frames), rows, columns)
+    return Grid(None if count is None else max(1, -(-count // (rows * columns))), rows, columns)
 
 
 def cells_of(text: str) -> list[list[str]]:
@@ -85,8 +88,8 @@ def named_columns(words: list[str]) -> Optional[list[str]]:
 class Table:
     """A table that is being read."""
 
-    def __init__(self, grid: Optional[Grid], frame: Optional[int]) -> None:
-        self.grid, self.frame = grid, frame
+    def __init__(self, grid: Optional[Grid], frame: Optional[int], facts: Optional[Facts]) -> None:
+        self.grid, self.frame, self.facts = grid, frame, facts
         self.columns: Optional[list[str]] = None
         self.values: dict[int, int] = {}
         self.complaints: list[str] = []
@@ -122,8 +125,19 @@ class Table:
                     raise BadLine(f"{cut(word)!r} is no {name}")
                 found[name] = int(word)
         value, place = found["value"], self.place(found)
+        self.judge(found, place, value)
         if self.values.setdefault(place, value) != value:
             raise BadLine(f"{where(found)} has two values, {self.values[place]} and {value}")
+
+    def judge(self, found: dict[str, int], place: int, value: int) -> None:
+        """Raises BadLine if the file has no such place, or its samples can't have the value."""
+        if self.facts is None:
+            return
+        least, most = self.facts.options.least, self.facts.options.most
+        if place >= self.facts.count:
+            raise BadLine(f"{where(found)} is outside the {self.facts.count} samples")
+        if not least <= value <= most:
+            raise BadLine(f"{where(found)}: the value {value} is out of range: {least} to {most}")
 
     def place(self, found: dict[str, int]) -> int:
         """Returns the place that a line names. Raises BadLine if there is none; Refused if the
@@ -138,7 +152,7 @@ class Table:
             raise Refused("rows and columns need a shape: give --shape ROWSxCOLS")
         frames, rows, columns = self.grid
         if "frame" not in found and self.frame is None and frames not in (None, 1):
-            text = f"the shape has {frames} frames, and the table doesn't say which one is meant"
+            text = f"there are {frames} frames, and the table doesn't say which one is meant"
             raise Refused(f"{text}: add a column frame, or give --frame K")
         frame, row, column = found.get("frame", self.frame or 0), found["row"], found["column"]
         is_frame = 0 <= frame and (frames is None or frame < frames)
@@ -162,9 +176,12 @@ def refuse(text: str, complaints: list[str]) -> None:
         raise Refused(f"{text}:\n  " + "\n  ".join(lines))
 
 
-def script_of(text: str, grid: Optional[Grid], frame: Optional[int]) -> str:
-    """Returns the script that a table means: a line for each place, in order."""
-    table = Table(grid, frame)
+def script_of(
+    text: str, grid: Optional[Grid], frame: Optional[int], facts: Optional[Facts] = None
+) -> str:
+    """Returns the script that a table means: a line for each place, in order. With the facts of a
+    file, refuses places and values that its samples don't have."""
+    table = Table(grid, frame, facts)
     table.read(text)
     return "".join(f"overwrite {place} {it}\n" for place, it in sorted(table.values.items()))
 
