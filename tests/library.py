@@ -9,7 +9,6 @@ FOLDER contains libaecp.a and libaecp.so. Tests in turn, by C programs (library_
   - the least stack of a thread for each call, which aecp.h names (library_memory.py);
   - how many bytes a call allocates at once, of which aecp.h names the most (library_room.py);
   - eight threads at once; NULL for a buffer of no bytes; a run under valgrind, if it is installed, which must lose no memory;
-  - samples and coded bytes in each kind of buffer that Python has (library_buffers.py);
   - streams edited by random scripts, against a model (library_edits.py);
   - where intervals begin, and what is decoded from there on, against the plain reader (library_offsets.py);
   - the C of docs/LIBRARY.md and README.md, and a program that is C and C++ (library_types.py);
@@ -30,7 +29,6 @@ import tempfile
 
 from lib import plain_coder
 from lib.damaged_cases import some_samples, some_settings
-from lib.library_buffers import try_buffers
 from lib.library_edits import try_scripts
 from lib.library_memory import try_freed, try_refusals, try_stacks
 from lib.library_offsets import try_offset_arguments, try_offsets
@@ -312,7 +310,6 @@ def main():
     aecp = module(asked.library)
     with tempfile.TemporaryDirectory() as folder:
         try_names(asked.library, tally)
-        try_buffers(aecp, tally)
         try_scripts(aecp, asked.seed, tally)
         try_offset_arguments(aecp, tally)
         if has_compiler():
