@@ -258,6 +258,14 @@ def command(folder: Word, *words: Word, how: How = How(), given: Optional[bytes]
     return ran
 
 
+def until(holds: Callable[[], object], seconds: float = 30) -> bool:
+    """Waits until something holds. Returns whether it does before the time is over."""
+    end = time.monotonic() + seconds
+    while not holds() and time.monotonic() < end:
+        time.sleep(0.01)
+    return bool(holds())
+
+
 def in_child(folder: Word, work: Callable[[], object], how: How = How()) -> Ran:
     """Runs work() in a child process."""
     return Started(folder, work, how).ended()

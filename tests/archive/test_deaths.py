@@ -1,15 +1,16 @@
-"""A process of a run dies after it has written a file, and the file is processed again."""
+"""A process of a run dies after it has written a file, or while it writes its result: the file is processed again, and the run ends."""
 
 from __future__ import annotations
 
 import os
 import re
 import signal
+import time
 from typing import Any
 
 import pytest
 from making import keep, walk, write
-from running import How, command, done
+from running import How, command, done, start, until
 
 
 @pytest.mark.parametrize("verb", ["keep", "back", "remove"])
@@ -73,3 +74,57 @@ def test_another_file_that_appears_meanwhile(place: str) -> None:
             with pytest.raises(Exists):
                 back(how, found)
             assert open(path, "rb").read() == other
+
+
+@pytest.mark.parametrize("dies", [True, False])
+def test_a_result_that_is_half_written(place: str, dies: bool) -> None:
+    """A process dies while it writes its result, or is killed then because the run is stopped."""
+    for i in range(5):
+        keep(place, f"f{i}", walk(i, 300))
+    mark = os.path.join(place, "mark")
+
+    def before() -> None:
+        import multiprocessing.connection as connection
+
+        first, real = os.getpid(), connection.Connection._send  # type: ignore[attr-defined]
+
+        def half(self: Any, data: Any, *more: Any) -> None:
+            if os.getpid() == first or os.path.exists(mark):
+                real(self, data, *more)
+                return
+            os.write(self.fileno(), bytes(data)[: len(data) // 2])
+            os.close(os.open(mark, os.O_CREAT | os.O_WRONLY))
+            if dies:
+                os.kill(os.getpid(), signal.SIGKILL)
+            time.sleep(100)
+
+        connection.Connection._send = half  # type: ignore[attr-defined]
+
+    running = start(place, "check", ".", "--jobs", "3", how=How(before=before, seconds=60))
+    if not dies:
+        until(lambda: os.path.exists(mark))
+        running.kill(signal.SIGTERM)
+    ran = running.ended()
+    assert "Traceback" not in ran.said, ran
+    assert ran.status == (0 if dies else 128 + signal.SIGTERM), ran
+    assert not dies or "5 checked, 5 sound" in ran.out, ran
+
+
+def test_no_pipe_is_closed_twice(place: str) -> None:
+    """Where closing takes long, another thread may close the same number meanwhile, and fail, or close another file."""
+    for i in range(3):
+        keep(place, f"f{i}", walk(i, 300))
+
+    def before() -> None:
+        import multiprocessing.connection as connection
+
+        real: Any = connection.Connection._close  # type: ignore[attr-defined]
+
+        def slow(self: Any) -> None:
+            real(self)
+            time.sleep(0.05)
+
+        connection.Connection._close = slow  # type: ignore[attr-defined]
+
+    ran = command(place, "check", ".", "--jobs", "3", how=How(before=before, seconds=60))
+    assert ran.status == 0 and "3 sound" in ran.out and not ran.err, ran

@@ -17,7 +17,7 @@ from typing import Any
 
 import pytest
 from making import FAST, USUAL, flip, keep, noise, walk, write
-from running import How, command, done, start
+from running import How, command, done, start, until
 
 
 def many(place: str, count: int) -> None:
@@ -147,13 +147,6 @@ def test_a_file_that_kills_each_process(place: str, verb: str) -> None:
 
 # The command, with three processes on every machine.
 THREE = "import aecp.archive._pool as it; it.cores = lambda: 3; from aecp.cli import main; main()"
-
-
-def until(holds: Any, seconds: float = 30) -> bool:
-    end = time.monotonic() + seconds
-    while not holds() and time.monotonic() < end:
-        time.sleep(0.01)
-    return bool(holds())
 
 
 def has_open(process: int, name: str) -> bool:

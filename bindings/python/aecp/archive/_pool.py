@@ -10,11 +10,12 @@ import logging
 import multiprocessing
 import os
 import signal
-import sys
 import threading
 from collections.abc import Iterator, Sequence
-from concurrent.futures import Future, ProcessPoolExecutor
+from concurrent.futures import Future, ProcessPoolExecutor, wait
 from concurrent.futures.process import BrokenProcessPool
+from multiprocessing.connection import wait as ready
+from multiprocessing.process import BaseProcess
 from typing import Any, Callable, Generic, Optional, Protocol, TypeVar
 
 from aecp._console import reason, shown
@@ -99,6 +100,7 @@ def executor(workers: int) -> Iterator[ProcessPoolExecutor]:
     parent = os.getpid() if is_direct else 0
     with no_processes():
         pool = ProcessPoolExecutor(workers, initializer=begin, initargs=(parent,))
+    release_feeder(pool)
     try:
         yield pool
     finally:
@@ -107,16 +109,39 @@ def executor(workers: int) -> Iterator[ProcessPoolExecutor]:
             pool.shutdown(wait=True, cancel_futures=True)
 
 
+def release_feeder(pool: ProcessPoolExecutor) -> None:
+    """Lets an executor end without the thread that feeds its queue. Before Python 3.11.5 that thread
+    may wait for ever to write for processes that are dead, and the executor for that thread. It is
+    a daemon, so the interpreter ends without it too."""
+    queue: Any = getattr(pool, "_call_queue", None)
+    with contextlib.suppress(AttributeError):
+        queue.cancel_join_thread()
+
+
+def processes_of(pool: ProcessPoolExecutor) -> list[BaseProcess]:
+    """Returns the processes of an executor, dead ones too."""
+    return list((pool._processes or {}).values())
+
+
 def kill(pool: ProcessPoolExecutor) -> None:
     """Kills the processes of an executor. They ignore SIGTERM, which the executor sends, and may be
-    blocked: by a lock of a file, or by a lock of the queue that a dead process holds."""
-    for process in list((pool._processes or {}).values()):
+    blocked: by a lock of a file, or by a lock of the queue that a dead process holds. Closes this
+    end of their pipe: else the executor would wait for the rest of a result that one was writing."""
+    for process in processes_of(pool):
         process.kill()
-    if sys.version_info < (3, 11, 5):
-        # These versions leave the pipe of the queue open, and a thread that writes to it for ever.
-        queue: Any = getattr(pool, "_call_queue", None)
-        with contextlib.suppress(AttributeError, OSError):
-            queue._reader.close()
+    results: Any = getattr(pool, "_result_queue", None)
+    with contextlib.suppress(AttributeError, OSError):
+        results._writer.close()
+
+
+def result_of(pool: ProcessPoolExecutor, future: Future[T]) -> T:
+    """Returns the result of a future. If a process has died while it wrote a result, the executor
+    waits for the rest, and doesn't see the death: then all are killed. Raises
+    BrokenProcessPool."""
+    while not wait([future], timeout=1).done:
+        if ready([it.sentinel for it in processes_of(pool)], timeout=0):
+            kill(pool)
+    return future.result()
 
 
 def submitted(pool: ProcessPoolExecutor, work: Callable[[Any], Any], lot: Any) -> Future[Any]:
@@ -180,7 +205,7 @@ class Processes:
             with executor(self.workers) as pool:
                 futures.extend(submitted(pool, work, lots[i]) for i in rest)
                 for i, future in zip(rest, futures):
-                    done[i] = future.result()
+                    done[i] = result_of(pool, future)
                     yield
         except BaseException as error:
             for i, future in zip(rest, futures):
@@ -197,7 +222,7 @@ class Processes:
         """Returns the result for a lot in a process of its own, or None if that process dies."""
         try:
             with executor(1) as pool:
-                return submitted(pool, work, lot).result()
+                return result_of(pool, submitted(pool, work, lot))
         except BaseException as error:
             self.clean(lot)
             if isinstance(error, BrokenProcessPool):
