@@ -105,13 +105,14 @@ def test_numbers_out_of_range(place: str) -> None:
         assert tree(place) == before, words
 
 
-def test_a_full_output(place: str) -> None:
+@pytest.mark.parametrize("unbuffered", ["", "1"])
+def test_a_full_output(place: str, unbuffered: str) -> None:
     if not os.path.exists("/dev/full"):
         pytest.skip("no /dev/full")
     keep(place, "f", walk(1, 500))
     for line in ("aecp check . >/dev/full", "aecp --version >/dev/full", "aecp back f.aec - >/dev/full", "aecp log f.aec >/dev/full",
                  "aecp info f.aec > /dev/full", "aecp check . --json >/dev/full", "aecp --help >/dev/full"):  # fmt: skip
-        ended = shell(place, line)
+        ended = shell(place, line, PYTHONUNBUFFERED=unbuffered)
         assert ended.returncode == 1 and "Traceback" not in ended.stderr and ended.stderr.strip(), (line, ended)
         assert "Exception ignored" not in ended.stderr, (line, ended)
 

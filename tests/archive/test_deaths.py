@@ -122,7 +122,7 @@ def test_no_pipe_is_closed_twice(place: str) -> None:
 
         def slow(self: Any) -> None:
             real(self)
-            time.sleep(0.05)
+            time.sleep(0.3)
 
         connection.Connection._close = slow  # type: ignore[attr-defined]
 

@@ -3,7 +3,8 @@
 from __future__ import annotations
 
 import argparse
-from typing import Any, Callable
+import sys
+from typing import IO, Any, Callable, Optional
 
 from aecp import __version__
 
@@ -12,7 +13,19 @@ and restored to every earlier state bit for bit. FILE.aec begins with a coded st
 121.0-B-3)."""
 END = """`aecp help VERB` has a page for each verb. The status is 0 if all is done, 1 if something
 is refused or damaged, 2 if the arguments are wrong."""
-Parser = argparse.ArgumentParser
+
+
+class Parser(argparse.ArgumentParser):
+    """A parser that raises OSError if it can't print help or version. Newer versions of argparse
+    ignore that where standard output has no buffer."""
+
+    def _print_message(self, message: str, file: Optional[IO[str]] = None) -> None:
+        if message and file is not None and file is sys.stdout:
+            file.write(message)
+        else:
+            super()._print_message(message, file)
+
+
 Group = Any  # a parser, or a group of its options
 # For each verb: what it does, and examples.
 VERBS = {
