@@ -4,7 +4,7 @@ from __future__ import annotations
 
 import argparse
 import sys
-from typing import IO, Any, Callable, Optional
+from typing import Any, Callable
 
 from aecp import __version__
 
@@ -19,7 +19,7 @@ class Parser(argparse.ArgumentParser):
     """A parser that raises OSError if it can't print help or version. Newer versions of argparse
     ignore that where standard output has no buffer."""
 
-    def _print_message(self, message: str, file: Optional[IO[str]] = None) -> None:
+    def _print_message(self, message: str, file: Any = None) -> None:
         if message and file is not None and file is sys.stdout:
             file.write(message)
         else:

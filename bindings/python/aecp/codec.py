@@ -14,8 +14,8 @@ from typing import Any
 from aecp.calls import decode_bytes, decode_range_bytes, encode, refuse_mask
 from aecp.faults import OUT_OF_RANGE, fault_of
 from aecp.options import Options
-from numcodecs.abc import Codec  # type: ignore[import]
-from numcodecs.compat import ensure_contiguous_ndarray, ensure_ndarray, ndarray_copy  # type: ignore[import]
+from numcodecs.abc import Codec
+from numcodecs.compat import ensure_contiguous_ndarray, ensure_ndarray, ndarray_copy
 
 HEAD = 4
 OTHER_ORDER = 1 << 31

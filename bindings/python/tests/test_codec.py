@@ -208,12 +208,16 @@ def test_the_entry_point(tmp_path):
     assert (ended.returncode, ended.stdout, ended.stderr) == (0, "bytearray(b'')\n", "")
 
 
-def test_arrays_of_zarr():
-    """zarr 2 keeps an array by the codec, and reads it and its parts back."""
+def test_arrays_of_zarr(tmp_path):
+    """zarr keeps an array of its format 2 by the codec, and reads it and its parts back."""
     zarr = pytest.importorskip("zarr")
-    if not zarr.__version__.startswith("2."):
-        pytest.skip("no zarr 2: the codec isn't for zarr 3")
-    data = SAMPLES[:2048].reshape(32, 64)
-    stored = zarr.array(data, chunks=(10, 64), compressor=Aecp(16))
-    assert (stored[:] == data).all() and stored.nbytes_stored < data.nbytes
+    data, path = SAMPLES[:2048].reshape(32, 64), str(tmp_path / "array")
+    if zarr.__version__.startswith("2."):
+        zarr.save_array(path, data, chunks=(10, 64), compressor=Aecp(16))
+    else:
+        zarr.create_array(path, data=data, chunks=(10, 64), compressors=Aecp(16), zarr_format=2)
+    stored = zarr.open_array(path, mode="r")
+    sizes = {name: os.path.getsize(os.path.join(path, name)) for name in os.listdir(path)}
+    assert (stored[:] == data).all()
+    assert len([name for name in sizes if name[0] != "."]) == 4 and sum(sizes.values()) < data.nbytes, sizes
     assert (stored[3:25, 7] == data[3:25, 7]).all()

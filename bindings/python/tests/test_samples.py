@@ -28,7 +28,7 @@ WRONG = {
     "None in a tuple": lambda: (1, None),
     "bool in an iterator": lambda: iter([1, True]),
     "array of floats": lambda: array.array("d", [1.0]),
-    "array of text": lambda: array.array("u", "1"),
+    "array of text": lambda: array.array("w" if "w" in array.typecodes else "u", "1"),
 }
 
 WRONG_ARRAYS = {

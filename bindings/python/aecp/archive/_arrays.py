@@ -87,7 +87,7 @@ def given_view(view: memoryview) -> tuple[Any, str, tuple[int, ...]]:
     text = DTYPES[code] or f"{'i' if code == 'l' else 'u'}{view.itemsize}"
     order = "|" if view.itemsize == 1 else NATIVE
     shape = tuple(view.shape or ())
-    flat = view.cast("B") if view.nbytes else memoryview(b"")
+    flat: Any = view.cast("B") if view.nbytes else memoryview(b"")
     return flat.cast(code), order + text, shape
 
 
