@@ -3,29 +3,16 @@
 from __future__ import annotations
 
 import argparse
-import sys
 from typing import Any, Callable
 
 from aecp import __version__
+from aecp._console import Parser
 
 ABOUT = """Keeps files of samples: each becomes one file, FILE.aec, that can be checked, edited,
 and restored to every earlier state bit for bit. FILE.aec begins with a coded stream (CCSDS
 121.0-B-3)."""
 END = """`aecp help VERB` has a page for each verb. The status is 0 if all is done, 1 if something
 is refused or damaged, 2 if the arguments are wrong."""
-
-
-class Parser(argparse.ArgumentParser):
-    """A parser that raises OSError if it can't print help or version. Newer versions of argparse
-    ignore that where standard output has no buffer."""
-
-    def _print_message(self, message: str, file: Any = None) -> None:
-        if message and file is not None and file is sys.stdout:
-            file.write(message)
-        else:
-            super()._print_message(message, file)
-
-
 Group = Any  # a parser, or a group of its options
 # For each verb: what it does, and examples.
 VERBS = {
